@@ -96,7 +96,7 @@ def test_a_name_that_no_function_has_is_refused(listing):
 
 
 def test_all_blocks_of_this_program_have_support(listing):
-    assert len(with_support(blocks_of(listing), action_of("count"))) == len(COUNTS)
+    assert len(with_support(blocks_of(listing), listing, action_of("count"))) == len(COUNTS)
 
 
 def test_the_best_site_holds_its_jump_and_is_no_branch(listing, labels):

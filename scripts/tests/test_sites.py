@@ -7,7 +7,7 @@ from vaknuhol.program.blocks import Block
 from vaknuhol.program.listing_file import BESIDE, BRANCH, CALL, FALLS, FAULTS, FIXED, JUMP, SHARED, UNSURE
 from vaknuhol.recording.action_places import BITS, changed, front
 from vaknuhol.recording.actions import REGISTERS, action_of
-from vaknuhol.recording.site_choice import can_have_site, candidates, sites_of
+from vaknuhol.recording.site_choice import candidates, with_sites
 
 COUNT = action_of("count")
 RDI = BITS["rdi"]
@@ -54,16 +54,19 @@ def test_what_is_left_in_any_case_is_a_site_only_where_there_is_no_other(mark):
 
 @pytest.mark.parametrize("mark", [UNSURE, BESIDE], ids=["unsure", "beside"])
 def test_no_site_stands_where_the_evidence_is_weak(mark):
-    assert candidates(block_of((FALLS, 5, mark), (FALLS, 2)), COUNT) == [0x1005] and can_have_site(
-        block_of((FALLS, 5, mark), (FALLS, 2)), COUNT
-    )
-    assert candidates(block_of((FALLS, 5, mark)), COUNT) == [] and not can_have_site(block_of((FALLS, 5, mark)), COUNT)
+    block, weak = block_of((FALLS, 5, mark), (FALLS, 2)), block_of((FALLS, 5, mark))
+    assert candidates(block, COUNT) == [0x1005] and with_sites([block], block.listing, COUNT) == [block]
+    assert candidates(weak, COUNT) == [] and with_sites([weak], weak.listing, COUNT) == []
 
 
-def test_sites_are_told_in_their_order():
-    later = block_of((FALLS, 5))
-    later.listing.addr[0] = 0x2000
-    assert sites_of([later, block_of((FALLS, 3), (FALLS, 5))], COUNT) == [0x1003, 0x2000]
+@pytest.mark.parametrize("action", ["count", "ring:4", "count when rdi == 3"])
+def test_each_block_gets_its_best_candidate(action):
+    rows = [(FALLS, 3), (FALLS, 2, FAULTS, RDI), (FALLS, 5, SHARED), (CALL, 5), (JUMP, 5), (FALLS, 5, UNSURE), (FALLS, 5)]
+    listing = block_of(*rows).listing
+    blocks = [Block(listing, first, end - first) for end in range(1, len(rows) + 1) for first in range(end)]
+    with_one = [block for block in blocks if candidates(block, action_of(action))]
+    assert with_sites(blocks, listing, action_of(action)) == with_one != blocks
+    assert [block.site for block in with_one] == [candidates(block, action_of(action))[0] for block in with_one]
 
 
 def test_a_condition_is_asked_before_its_registers_change():

@@ -21,7 +21,6 @@ from vaknuhol.recording.block_choice import add_choices, read_program
 from vaknuhol.recording.patching import RESERVES, find_tool, list_text
 from vaknuhol.recording.replay import MOST_STEPS, Steps, agreement, likeness, premises
 from vaknuhol.recording.run_recorder import record, reserves
-from vaknuhol.recording.site_choice import sites_of
 
 
 def parse() -> argparse.Namespace:
@@ -49,7 +48,7 @@ def parse() -> argparse.Namespace:
 def list_starts(words: argparse.Namespace, folder: str) -> frozenset[int]:
     """Writes the starts and the chosen sites; the starts."""
     _, listing, blocks = read_program(words, words.action)
-    write_whole({f"{folder}/sites": list_text(sites_of(blocks, words.action))})
+    write_whole({f"{folder}/sites": list_text(sorted(block.site for block in blocks))})
     listing.write_starts(f"{folder}/starts")
     return listing.starts
 

@@ -11,7 +11,6 @@ from vaknuhol.outputs import write_whole
 from vaknuhol.recording.action_options import action_of_words, add_action
 from vaknuhol.recording.block_choice import add_choices, read_program
 from vaknuhol.recording.patching import list_text
-from vaknuhol.recording.site_choice import sites_of
 
 
 def main() -> None:
@@ -24,7 +23,7 @@ def main() -> None:
     words = parser.parse_args()
     action = action_of_words(parser, words)
     _, listing, blocks = read_program(words, action)
-    sites = sites_of(blocks, action)
+    sites = sorted(block.site for block in blocks)
     write_whole({words.sites: list_text(sites)})
     listing.write_starts(words.starts)
     print(f"{listing.summary()}; {len(sites)} sites")

@@ -2,7 +2,7 @@
 (native/vaknuhol-list/blocks.h says where a block begins and ends)."""
 import array
 import struct
-from collections.abc import Iterator, Sequence
+from collections.abc import Iterator
 from typing import Protocol
 
 from vaknuhol.program.listing import Instructions, Listing
@@ -22,13 +22,12 @@ class Span(Protocol):
 
 
 class Block:
-    """A block: the number of its first instruction in the listing, how many it has, and the addresses of those that may
-    be its site, from the best on."""
-    __slots__ = ("listing", "number", "count", "candidates")
+    """A block: the number of its first instruction in the listing, how many it has, and the address of the one that is
+    its site, where one is chosen."""
+    __slots__ = ("listing", "number", "count", "site")
 
     def __init__(self, listing: Listing, number: int, count: int) -> None:
-        self.listing, self.number, self.count = listing, number, count
-        self.candidates: Sequence[int] = ()
+        self.listing, self.number, self.count, self.site = listing, number, count, 0
 
     @property
     def instructions(self) -> Instructions:

@@ -18,7 +18,7 @@ from typing import NamedTuple
 
 from vaknuhol.arguments import Refusal
 from vaknuhol.native import program as native_program
-from vaknuhol.program.program_file import input_hash
+from vaknuhol.program.program_file import file_hash
 
 MAGIC, VERSION, HEAD = b"VAKLIST\0", 1, struct.Struct("<8s10I")
 HEAD_SIZE, ALIGNED = 64, 8
@@ -26,6 +26,7 @@ LONGEST = 15  # bytes of an instruction
 # Kinds of instructions, marks, levels of evidence and kinds of ranges, as native/vaknuhol-list numbers them
 FALLS, BRANCH, JUMP, CALL, RETURN, JUMP_INDIRECT, CALL_INDIRECT, END, KERNEL, TRAP = range(10)
 SHARED, FAULTS, READS, WRITES, FIXED, NO_LENGTH, NOTHING, UNSURE, BESIDE = (1 << number for number in range(9))
+MARKS = 1 << 9  # sets of marks
 ENTRY, DIRECT, AFTER_CALL, EXTENT, WORD, NUMBER, TABLE, SWEEP = range(1, 9)
 DOUBTFUL, DATA, BREAK, CLONE, WITHOUT_SUPPORT = range(1, 6)
 HAS_NAME, IS_CALLED = 1, 2
@@ -110,7 +111,7 @@ def forget_lists(folder: str) -> None:
 
 def key_of(program: str) -> str:
     """What a kept list is known by."""
-    both = input_hash(program) + input_hash(native_program(LISTER))
+    both = file_hash(program) + file_hash(native_program(LISTER))
     return hashlib.sha256(bytes.fromhex(both)).hexdigest()[:16]
 
 

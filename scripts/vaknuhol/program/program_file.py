@@ -25,22 +25,18 @@ def read_text(path: str) -> str:
     return read_bytes(path).decode("utf-8", errors="replace")
 
 
-def file_hash(path: str) -> str:
+@functools.cache
+def hash_as_it_stands(path: str, inode: int, size: int, changed: int) -> str:
     return hashlib.sha256(read_bytes(path)).hexdigest()
 
 
-@functools.cache
-def hash_as_it_stands(path: str, size: int, changed: int) -> str:
-    return file_hash(path)
-
-
-def input_hash(path: str) -> str:
-    """The hash of a file that is not written here: it is read once as long as it stays the same."""
+def file_hash(path: str) -> str:
+    """The hash of a file, which is read once as long as it stays the same."""
     try:
         state = os.stat(path)
     except OSError as error:
         raise Refusal(f"{path}: {error.strerror}") from None
-    return hash_as_it_stands(os.path.realpath(path), state.st_size, state.st_mtime_ns)
+    return hash_as_it_stands(os.path.realpath(path), state.st_ino, state.st_size, state.st_mtime_ns)
 
 
 class Program:

@@ -23,9 +23,14 @@ def may_fault(listing: Listing, number: int) -> bool:
     return bool(listing.marks[number] & FAULTS)
 
 
+def stands_everywhere(action: Action) -> bool:
+    """Whether an action may stand at each instruction of a block."""
+    return not (action.registers or action.is_ring)
+
+
 def front(listing: Listing, first: int, count: int, action: Action) -> range:
     """The numbers of the instructions of a block up to the first behind which an action may no more stand."""
-    if action.registers or action.is_ring:
+    if not stands_everywhere(action):
         asked = sum(BITS[register] for register in action.registers)
         for number in range(first, first + count):
             if listing.writes[number] & asked or action.is_ring and listing.marks[number] & FAULTS:

@@ -10,7 +10,7 @@ from vaknuhol.program.listing import Listing
 from vaknuhol.program.listing_file import BRANCH, JUMP
 from vaknuhol.program.program_file import Program
 from vaknuhol.recording.actions import Action
-from vaknuhol.recording.site_choice import can_have_site
+from vaknuhol.recording.site_choice import with_sites
 
 MOST, WRITTEN = 65536, 0x20000
 
@@ -63,9 +63,9 @@ def read_original(path: str, folder: Optional[str] = None) -> tuple[Program, Lis
     return program, Listing(path, folder)
 
 
-def with_support(blocks: list[Block], action: Action) -> list[Block]:
-    """The blocks in which a site may stand; how many others there are is told."""
-    kept = [block for block in blocks if can_have_site(block, action)]
+def with_support(blocks: list[Block], listing: Listing, action: Action) -> list[Block]:
+    """The blocks in which a site may stand, with the best; how many others there are is told."""
+    kept = with_sites(blocks, listing, action)
     if not kept:
         raise Refusal("each of these blocks stands beside bytes that may be no code, so none is patched: choose others "
                       "(--help)")
@@ -90,7 +90,7 @@ def wanted_blocks(program: Program, listing: Listing, words: argparse.Namespace)
 def read_program(words: argparse.Namespace, action: Action) -> tuple[Program, Listing, list[Block]]:
     """The program that the words name, its listing, and the blocks that they choose: as many as one file can have."""
     program, listing = read_original(words.program)
-    blocks = with_support(wanted_blocks(program, listing, words), action)
+    blocks = with_support(wanted_blocks(program, listing, words), listing, action)
     if len(blocks) > MOST:
         last = blocks[MOST].first
         raise Refusal(f"{len(blocks)} blocks; at most {MOST} can be patched: --within 0-{last:x} keeps the first of "

@@ -64,7 +64,7 @@ def read_chosen(words: argparse.Namespace, action: Action, folder: str) -> tuple
     blocks = wanted_blocks(program, listing, words)
     if words.own:
         blocks = own_blocks(words.program, blocks)
-    blocks = with_support(blocks, action)
+    blocks = with_support(blocks, listing, action)
     progress("")
     parts = -(-len(blocks) // MOST)
     each = -(-len(blocks) // parts)

@@ -5,6 +5,8 @@ Each run of pages with new code has an entry, but in the loader form. Instructio
 code at the least free place, so these runs grow together below the program; shorter ones need places that their bytes
 allow, and are what makes entries.
 """
+import itertools
+
 from vaknuhol.arguments import Refusal
 from vaknuhol.program.blocks import Block
 from vaknuhol.program.kernel import MOST, entries_of
@@ -39,11 +41,10 @@ class Fitting(Patching):
     def never_fits(self, sites: list[int]) -> bool:
         """Whether so many instructions are short that `patch` would be in vain: the new code of nearly each of them is
         in a run of pages of its own."""
-        if len(sites) < TIMES * self.most:
-            return False
-        listing = self.blocks[0].listing
-        numbers = [number for site in sites if (number := listing.at(site)) is not None]
-        return sum(listing.size[number] < SHORT for number in numbers) >= TIMES * self.most
+        listing, many = self.blocks[0].listing, TIMES * self.most
+        numbers = (number for site in sites if (number := listing.at(site)) is not None)
+        short = (number for number in numbers if listing.size[number] < SHORT)
+        return sum(1 for _ in itertools.islice(short, many)) == many
 
     def patch_once(self, starts: str, sites: list[int], files: RunFiles) -> str | None:
         if self.loader and self.command == self.first_command and self.never_fits(sites):

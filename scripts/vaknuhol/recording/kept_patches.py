@@ -19,7 +19,7 @@ from vaknuhol.program.fitness import warning
 from vaknuhol.program.kernel import entries_of, most_entries
 from vaknuhol.program.listing import Listing
 from vaknuhol.program.listing_file import LISTER
-from vaknuhol.program.program_file import Program, input_hash, read_bytes
+from vaknuhol.program.program_file import Program, file_hash, read_bytes
 from vaknuhol.recording.actions import Action, action_of
 from vaknuhol.recording.default_choice import choice_text, read_chosen
 from vaknuhol.recording.entry_limit import Fitting, ThreadFitting
@@ -76,9 +76,9 @@ class Kept:
                      "threads": words.threads}
         mark = hashlib.sha256(json.dumps([self.action.name, self.what]).encode()).hexdigest()[:8]
         self.folder = os.path.join(top, f"{THREADS if words.threads else action.file_part}-{mark}")
-        self.made_of = {**self.what, "action": self.action.name, "program": input_hash(words.program),
-                        "tool": input_hash(find_tool()),
-                        "scripts": scripts_hash(), "lister": input_hash(native_program(LISTER))}
+        self.made_of = {**self.what, "action": self.action.name, "program": file_hash(words.program),
+                        "tool": file_hash(find_tool()),
+                        "scripts": scripts_hash(), "lister": file_hash(native_program(LISTER))}
         self.form = ""  # the command of e9tool that the last file needed
         self.parts = self.found() or self.made()
         self.refuse_several([[first for first, _, _ in part.run.blocks] for part in self.parts])
@@ -135,8 +135,8 @@ class Kept:
                            self.form)
             patching.run(listing)
             self.form = patching.form
-            left = {block.first for block, site in zip(sites, patching.sites) if site in patching.left}
-            if not fast or not fast.leave(left):
+            left = (block.first for block, site in zip(sites, patching.sites) if site in patching.left)
+            if not fast or not fast.leave(set(left)):
                 break
         of_block = {block.first: site for block, site in zip(sites, patching.sites)}
         write_whole({files.blocks: blocks_text(program, self.action, files, blocks,

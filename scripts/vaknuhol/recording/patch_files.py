@@ -6,6 +6,7 @@ they are `prog.vak/prog.ring.`, whatever its length, and with a condition `prog.
 `prog.vak/prog.count-when.` Of a patch for threads they are `prog.vak/prog.threads.`, with `summary` in place of
 `report`.
 """
+import itertools
 import os
 import re
 
@@ -20,6 +21,7 @@ HEAD = "vakblocks 1"
 REPORT, SUMMARY, THREADS = "report", "summary", "threads"
 ENDINGS = ("starts", "sites", "patched", REPORT, SUMMARY, "blocks")
 LINE = re.compile(r"^([0-9a-f]{8}) ([0-9a-f]{8}) ([0-9a-f]{8})$", re.M)
+ROW = "%08x %08x %08x\n"
 
 
 class RunFiles:
@@ -63,8 +65,8 @@ def blocks_text(program: Program, action: Action, files: RunFiles, blocks: list[
     """The text of the file `blocks`; `files` has what is hashed."""
     lines = [HEAD, f"action {action.name}", f"program {program.code_hash}"]
     lines += [f"{ending} {file_hash(getattr(files, ending))}" for ending in files.hashed]
-    lines += [f"{b.first:08x} {b.end:08x} {site:08x}" for b, site in zip(blocks, sites)]
-    return "".join(f"{line}\n" for line in (*lines, "end"))
+    rows = itertools.chain.from_iterable((block.first, block.end, site) for block, site in zip(blocks, sites))
+    return "\n".join(lines) + "\n" + ROW * len(blocks) % tuple(rows) + "end\n"
 
 
 class Run:
@@ -73,11 +75,13 @@ class Run:
     def __init__(self, report: Patch) -> None:
         self.program_hash: str | None = None
         self.patched_hash: str | None = None
-        self.blocks = [(a, a + 1, a) for a in sorted((*report.patched, *report.left))]
         stem, ending = os.path.splitext(report.path)
         self.files = RunFiles(stem, report.ending)
+        self.blocks: list[tuple[int, int, int]] = []
         if ending == f".{report.ending}" and os.path.isfile(self.files.blocks):
             self.read(report)
+        else:
+            self.blocks = [(a, a + 1, a) for a in sorted((*report.patched, *report.left))]
 
     def read(self, report: Patch) -> None:
         path = self.files.blocks
@@ -89,7 +93,7 @@ class Run:
         found = LINE.findall("\n".join(rows))
         if len(found) != len(rows) or not {"action", "program", *self.files.hashed} <= heads.keys():
             raise Refusal(f"{path} is no file of blocks: patch again")
-        if heads[report.ending] != file_hash(report.path) or heads["action"] != report.action.name:
+        if heads[report.ending] != report.text_hash or heads["action"] != report.action.name:
             raise Refusal(f"{report.path} is of another run than {path}: patch again")
         for ending in ("starts", "sites"):
             other = getattr(self.files, ending)

@@ -19,6 +19,10 @@ SCRATCH = 64
 LEFT = ("NotRelocatable", "NoPlan", "Shared")
 
 
+def text_hash(text: str) -> str:
+    return hashlib.sha256(text.encode()).hexdigest()
+
+
 def outcome_counts(outcomes: Iterable[str | None]) -> str:
     """How many of these outcomes of left sites are of which name, as the summary of `patch` has them, but for those
     that don't occur."""
@@ -57,12 +61,14 @@ SHORT_JUMP, SHORT_LENGTH = 0xEB, 2
 
 
 class Patch(abc.ABC):
-    """What is known of a patch: the file that says it, the action, the private range, the patched sites with their
-    numbers, and the sites that were left, with their outcomes."""
+    """What is known of a patch: the file that says it and the hash of its text, the action, the private range, the
+    patched sites with their numbers, and the sites that were left, with their outcomes; `hash` is what its records know
+    it by."""
     ending: str
     for_threads: bool
     path: str
     hash: str
+    text_hash: str
     action: Action
     private: int
     patched: dict[int, int]
@@ -88,7 +94,8 @@ class Report(Patch):
         text = read_text(path)
         if not text.startswith(("e9report 1\n", "e9report 2\n")) or not text.endswith("\nend\n"):
             raise Refusal(f"{path} is no report of e9tool patch")
-        self.path, self.text, self.hash = path, text, hashlib.sha256(text.encode()).hexdigest()
+        self.path, self.text = path, text
+        self.hash = self.text_hash = text_hash(text)
         actions, privates = ACTION.found(path, text), PRIVATE.found(path, text)
         for line in actions:
             try:
@@ -97,9 +104,12 @@ class Report(Patch):
                 raise Refusal(f"{path}: these scripts can't read a record of the action {line}") from None
         for line in privates:
             self.private = int(line, 16)
-        sites = SITES.found(path, text)
-        self.left = {int(site, 16): outcome for site, _, outcome in sites if outcome in LEFT}
-        self.patched = {int(site, 16): int(number) for site, number, outcome in sites if outcome not in LEFT}
+        self.left, self.patched = {}, {}
+        for site, number, outcome in SITES.found(path, text):
+            if outcome in LEFT:
+                self.left[int(site, 16)] = outcome
+            else:
+                self.patched[int(site, 16)] = int(number)
         if not privates or not actions:
             raise Refusal(f"{path} is no report: it has no private range or no action")
         if not self.patched:

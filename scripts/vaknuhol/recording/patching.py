@@ -7,7 +7,7 @@ import re
 import shutil
 import subprocess
 import tempfile
-from collections.abc import Container, Iterable
+from collections.abc import Container
 
 from vaknuhol.arguments import Refusal
 from vaknuhol.messages import progress
@@ -46,8 +46,8 @@ def find_tool() -> str:
                   "and E9TOOL names another")
 
 
-def list_text(addresses: Iterable[int]) -> str:
-    return "".join(f"{a:x}\n" for a in addresses)
+def list_text(addresses: list[int]) -> str:
+    return "%x\n" * len(addresses) % tuple(addresses)
 
 
 class Patching:
@@ -60,7 +60,9 @@ class Patching:
         self.tool, self.program, self.action, self.blocks, self.files = find_tool(), program, action, blocks, files
         self.reserve, self.near = [f"{low:x}-{high:x}" for low, high in reserve], 0
         self.command, self.loader = command or self.first_command, loader and self.has_loader_form
-        self.choices, self.form, self.printed = [0] * len(blocks), "", ""
+        self.tried = [block.site for block in blocks]  # of a block without candidates its first address
+        self.candidates: dict[int, list[int]] = {}  # of blocks, by their numbers here, whose best site will not do
+        self.form, self.printed = "", ""
         self.sites: list[int] = []
         self.left: dict[int, str] = {}
         self.nearness: list[str] = []
@@ -109,23 +111,27 @@ class Patching:
             raise Refusal(f"e9tool answers: {(done.stdout or done.stderr).strip() or done.returncode}")
         return done.stdout
 
-    def move_on(self, sites: list[int], left: Container[int]) -> bool:
+    def candidates_of(self, number: int) -> list[int]:
+        if number not in self.candidates:
+            self.candidates[number] = candidates(self.blocks[number], self.action)
+        return self.candidates[number]
+
+    def move_on(self, left: Container[int]) -> bool:
         """Gives each block whose site was left its next best instruction, or its best again; whether any has a new
         one."""
         moved = False
-        for number, (block, site) in enumerate(zip(self.blocks, sites)):
-            if site in left and block.candidates:
-                further = self.choices[number] + 1 < len(block.candidates)
-                self.choices[number] = self.choices[number] + 1 if further else 0
-                moved |= further
+        for number in [number for number, site in enumerate(self.tried) if site in left]:
+            found = self.candidates_of(number)
+            if found:
+                following = found.index(self.tried[number]) + 1
+                self.tried[number] = found[following % len(found)]
+                moved |= following < len(found)
         return moved
 
     def run(self, listing: Listing) -> None:
         """Writes the files but `blocks`; `sites`, `left` (sites with their outcomes), `printed`, `nearness` (the
         reserve), `reserved` (all RESERVE words) and `form` (the command) then tell of the kept round."""
         self.support = Support(listing)
-        for block in self.blocks:
-            block.candidates = candidates(block, self.action)
         folder, is_done = os.path.dirname(self.files.stem), False
         is_new = not os.path.isdir(folder)
         os.makedirs(folder, exist_ok=True)
@@ -148,38 +154,43 @@ class Patching:
         """Patches once, and keeps the files if fewer sites are left; whether there is another round to go."""
         left_words = f", {len(self.left)} left so far" if self.left else ""
         progress(f"patching {len(self.blocks)} blocks, round {number}{left_words}")
-        sites, printed = self.patch_supported(kept.starts, files)
+        printed = self.patch_supported(kept.starts, files)
         if printed is None:
             return False
         left = {**self.outcomes(files, printed),
-                **{block.first: NOWHERE for block in self.blocks if not block.candidates}}
+                **{self.tried[number]: NOWHERE for number in self.without_candidates()}}
         if not self.sites or len(left) < len(self.left):
-            self.sites, self.left, self.printed = sites, left, printed
+            self.sites, self.left, self.printed = list(self.tried), left, printed
             self.nearness, self.form = RESERVES[self.near], self.command
             self.reserved = [*self.reserve, *self.nearness]
             for ending in files.written:
                 os.replace(getattr(files, ending), getattr(kept, ending))
-        return self.move_on(sites, left)
+        return self.move_on(left)
 
-    def patch_supported(self, starts: str, files: RunFiles) -> tuple[list[int], str | None]:
+    def without_candidates(self) -> set[int]:
+        """The numbers of the blocks that have none any more."""
+        return {number for number, found in self.candidates.items() if not found}
+
+    def patch_supported(self, starts: str, files: RunFiles) -> str | None:
         """Patches, and again as long as e9tool displaces a neighbour that may be no code, without the sites that it
-        does so for. The sites of the blocks, or the first address of one that has none, and what is printed."""
+        does so for; what is printed."""
         for turn in itertools.count(1):
-            sites = [b.candidates[choice] if b.candidates else b.first for b, choice in zip(self.blocks, self.choices)]
-            printed = self.patch_once(starts, [site for b, site in zip(self.blocks, sites) if b.candidates], files)
+            without = self.without_candidates()
+            sites = [site for number, site in enumerate(self.tried) if number not in without]
+            printed = self.patch_once(starts, sites, files)
             wrong = self.without_support(files) if printed is not None else set()
             if not wrong:
                 break
-            self.give_up(sites, wrong, turn >= ROUNDS)
-        return sites, printed
+            self.give_up(wrong, turn >= ROUNDS)
+        return printed
 
-    def give_up(self, sites: list[int], wrong: set[int], whole: bool) -> None:
+    def give_up(self, wrong: set[int], whole: bool) -> None:
         """Takes sites from the candidates of their blocks or, to come to an end, all candidates."""
-        for number, (block, site) in enumerate(zip(self.blocks, sites)):
-            if site in wrong:
-                block.candidates = [] if whole else [candidate for candidate in block.candidates if candidate != site]
-                self.choices[number] = 0
-        if not any(block.candidates for block in self.blocks):
+        for number in [number for number, site in enumerate(self.tried) if site in wrong]:
+            found = [] if whole else [site for site in self.candidates_of(number) if site != self.tried[number]]
+            self.candidates[number] = found
+            self.tried[number] = found[0] if found else self.blocks[number].first
+        if len(self.without_candidates()) == len(self.blocks):
             raise Refusal(f"no site could be patched: each of them stands {NOWHERE}, so nothing is written: choose "
                           "other blocks (--help)")
 

@@ -39,6 +39,7 @@ HEAD = "vakrecord 1"
 FOR_THREADS, NOT_KNOWN = "for threads", "-"
 LINE = re.compile(rf"^([0-9a-f]{{8}}) ([0-9a-f]{{8}}) ([0-9a-f]{{8}}) (?:([0-9]+)|{NOT_KNOWN}|({'|'.join(LEFT)}))$",
                   re.M)
+ROW = "%08x %08x %08x %s"
 LEFT_OF_RING = re.compile(r"left ([0-9]+) ?(.*)")
 EVENT = re.compile(r"([0-9a-f]{8}) ([0-9a-f]{8}) ([0-9a-f]{8})")
 PROCESS = re.compile(r"process ([0-9]+) (exit [0-9]+|signal [0-9]+|exec|running)")
@@ -96,7 +97,7 @@ class History:
 
 def line_of(first: int, end: int, site: int, value: object) -> str:
     """The line of a block: its count, or why it was left."""
-    return f"{first:08x} {end:08x} {site:08x} {value}"
+    return ROW % (first, end, site, value)
 
 
 def counted(report: Patch, run: Run, numbers: "array.array[int]") -> Iterator[str]:

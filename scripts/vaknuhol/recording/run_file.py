@@ -14,7 +14,7 @@ from vaknuhol.recording.actions import MOST_COMPARISONS, REGISTERS, SIGNS, Actio
 from vaknuhol.recording.event_undo import undo_of
 from vaknuhol.recording.patch_files import Run
 from vaknuhol.recording.patch_report import SCRATCH, Patch, Report, outcome_counts
-from vaknuhol.recording.record_file import FOR_THREADS, NOT_KNOWN
+from vaknuhol.recording.record_file import FOR_THREADS, NOT_KNOWN, line_of
 from vaknuhol.recording.thread_patch import ThreadPatch
 from vaknuhol.recording.thread_use import SHARING, meant
 
@@ -70,12 +70,12 @@ def rows_of(report: Patch, run: Run) -> tuple[bytes, str]:
         number = report.patched.get(site, LEFT)
         count = report.left.get(site, NOT_KNOWN) if number == LEFT else 0
         rows.extend((number, at))
-        lines.append(f"{first:08x} {end:08x} {site:08x} {count}\n")
+        lines.append(f"{line_of(first, end, site, count)}\n")
         at += len(lines[-1])
     if report.action.is_ring:
-        line_of = dict(zip(rows[::2], rows[1::2]))
+        places = dict(zip(rows[::2], rows[1::2]))
         rows = array.array("I", itertools.chain.from_iterable(
-            (number, line_of[number]) if number in line_of else (LEFT, 0) for number in range(report.sites())))
+            (number, places[number]) if number in places else (LEFT, 0) for number in range(report.sites())))
     return rows.tobytes(), "".join(lines)
 
 

@@ -12,7 +12,7 @@ from collections.abc import Iterable
 from vaknuhol.arguments import Refusal
 from vaknuhol.program.program_file import Program, file_hash, read_text
 from vaknuhol.recording.actions import action_of
-from vaknuhol.recording.patch_report import LEFT, SCRATCH, Patch
+from vaknuhol.recording.patch_report import LEFT, SCRATCH, Patch, text_hash
 
 SUMMARY = re.compile(r"sites ([0-9]+) patched ([0-9]+) left ([0-9]+)\nB1 [0-9]+ B2 [0-9]+ T1 [0-9]+ T2 0 T3 0\n"
                      r"NotRelocatable ([0-9]+) NoPlan ([0-9]+) Shared ([0-9]+)\n")
@@ -73,7 +73,8 @@ class ThreadPatch(Patch):
             raise Refusal(f"{path} is a report, and e9tool threads writes none: {ONLY_COUNTERS}")
         if not found:
             raise Refusal(f"{path} is no summary that e9tool threads printed")
-        self.path, self.action, self.hash = path, action_of("count"), file_hash(patched)
+        self.path, self.action = path, action_of("count")
+        self.hash, self.text_hash = file_hash(patched), text_hash(text)
         self.patched, self.left, self.private = {}, {}, 0
         self.events: list[tuple[int, int, int]] = []
         self.find(sites_in(sites), Program(patched), outcome_of_all(found.groups()[3:]))

@@ -11,7 +11,7 @@ from vaknuhol.outputs import write_whole
 from vaknuhol.program.binutils import run
 from vaknuhol.program.listing import Listing
 from vaknuhol.program.listing_file import CLONE
-from vaknuhol.program.program_file import Program, input_hash
+from vaknuhol.program.program_file import Program, file_hash
 from vaknuhol.recording.actions import Action
 from vaknuhol.recording.block_choice import read_original
 from vaknuhol.recording.record_file import Record
@@ -48,7 +48,7 @@ def threads_of(program: Program, listing: Listing) -> str:
 def started_by(path: str, folder: str) -> str:
     """What of the program starts threads, in words, or nothing: found once, and kept in the folder while the program is
     the same."""
-    kept, program = os.path.join(folder, KEPT), input_hash(path)
+    kept, program = os.path.join(folder, KEPT), file_hash(path)
     try:
         with open(kept, encoding="utf-8") as file:
             known = json.load(file)

@@ -18,11 +18,16 @@ static unsigned sorted(void) {
   qsort(numbers, NUMBERS, sizeof *numbers, order);
   return numbers[NUMBERS / 2];
 }
+__attribute__((noinline)) static unsigned divisors_of(int n) {
+  unsigned count = 0;
+  for (int d = 1; d * d <= n; d++)
+    count += n % d == 0;
+  return count;
+}
 static unsigned divisors(void) {
   unsigned count = 0;
   for (int n = 1; n < DIVIDED; n++)
-    for (int d = 1; d * d <= n; d++)
-      count += n % d == 0;
+    count += divisors_of(n);
   return count;
 }
 static unsigned primes(void) {

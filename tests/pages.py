@@ -1,15 +1,17 @@
 #!/usr/bin/env python3
-"""Whether each link and path that the repository names leads somewhere, and whether pages keep to their sizes.
+"""Whether each link and path that the repository names leads somewhere, whether each fact stands in one page alone,
+and whether pages keep to their sizes.
 
 Links of pages, with their anchors; paths of pages (docs/..) in every tracked file; in pages also files of other
-folders, and sources of crates, with their folder or without. A page has at most 400 lines of at most 160 columns,
-README 120, all together 2,400."""
+folders, and sources of crates, with their folder or without. The facts are those of facts.txt. A page has at most 400
+lines of at most 160 columns, README 120, all together 2,400."""
 import os
 import re
 import subprocess
 import sys
 
 TOP = os.path.dirname(os.path.dirname(os.path.realpath(__file__)))
+FACTS = "tests/facts.txt"
 LINES, COLUMNS, README_LINES, ALL_LINES = 400, 160, 120, 2400
 LINK = re.compile(r"\[[^\]]*\]\(([^)\s]+)\)")
 PAGE_PATH = re.compile(r"\bdocs/[\w./-]*\w")
@@ -67,15 +69,23 @@ def is_source(crate: str, rest: str) -> bool:
 
 def faults_of_page(page: str) -> list[str]:
     """What a page names that isn't there."""
-    found = []
-    for number, line in enumerate(without_code(read(page)).split("\n"), 1):
+    text = without_code(read(page))
+    found = [f"{page}: {target} {fault}" for target in LINK.findall(text) if (fault := fault_of_link(page, target))]
+    for number, line in enumerate(text.split("\n"), 1):
         place = f"{page}:{number}"
-        found += [f"{place}: {target} {fault}"
-                  for target in LINK.findall(line) if (fault := fault_of_link(page, target))]
         found += [f"{place}: {path} isn't there" for path in FILE_PATH.findall(line) if not stands(path)]
         found += [f"{place}: no crate has {crate}/{rest}" for crate, rest in SOURCE.findall(line)
                   if exists(f"crates/{crate}") and not is_source(crate, rest)]
     return found
+
+
+def faults_of_facts(pages: list[str]) -> list[str]:
+    """The facts that stand elsewhere than in their page, or not there."""
+    texts = {page: " ".join(read(page).split()) for page in pages}
+    rows = [line.split(" | ", 2) for line in read(FACTS).splitlines() if not line.startswith("#")]
+    places = {fact: [page for page, text in texts.items() if re.search(form, text)] for _, fact, form in rows}
+    return [f"{FACTS}: {fact}: stands in {', '.join(places[fact]) or 'no page'}, and not in {page} alone"
+            for page, fact, _ in rows if places[fact] != [page]]
 
 
 def faults_of_sizes(pages: list[str]) -> list[str]:
@@ -98,8 +108,9 @@ def main() -> None:
     for name in names:
         paths = sorted(set(PAGE_PATH.findall(read(name))))
         found += [f"{name}: {path} isn't there" for path in paths if not stands(path)]
-    found += faults_of_sizes(pages)
-    print("\n".join(found) or f"{len(pages)} pages: each link and path leads somewhere, and none is too long")
+    found += faults_of_facts(pages) + faults_of_sizes(pages)
+    print("\n".join(found) or f"{len(pages)} pages: each link and path leads somewhere, each fact stands in one page "
+          "alone, and none is too long")
     sys.exit(bool(found))
 
 

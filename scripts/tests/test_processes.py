@@ -99,7 +99,7 @@ def test_the_work_of_a_daemon_is_counted(counted):
 def test_the_work_of_subshells_and_of_programs_after_exec_is_counted(counted):
     record("processes", "count", "shell")
     assert works() == 159, f"the shell-like program and what it starts worked 159 times, not {works()}"
-    assert "sum of 4 processes; 0 threads and 3 starts" in script("show_coverage", "processes", "record")
+    assert "sum of 4 processes, with 3 execs" in script("show_coverage", "processes", "record")
 
 
 def test_cover_of_several_processes_is_one(processes):

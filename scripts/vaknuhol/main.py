@@ -24,7 +24,7 @@ STATUSES = """exit status:
   cover, count, ring   the program's own, or 128 and the number of the signal that ended it; 125 where it is refused
   diff                 0 where both records have the same blocks executed, 1 where they differ, 2 where it is refused
   check                0 where each kept patched file is sound, 1 where one is not, 2 where something is refused
-  fit                  0 where nothing stands against patching, 1 where something does, 2 where something is refused
+  fit                  0 where there is no obstacle to patching, 1 where there is one, 2 where something is refused
   gen                  that of `e9tool gen`
   the others           0 where it is done, 2 where something is refused
 

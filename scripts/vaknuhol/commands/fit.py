@@ -1,7 +1,7 @@
-"""What stands against patching PROGRAM is reported, before it is patched: how it is linked, threads and signal
-handlers, what of its text is no code or read as data, instructions without a known length. With `--` the program
-itself is run with ARGUMENTS under single steps, and each executed instruction that is no listed start is reported, and
-each listed byte that is read as data."""
+"""What may go wrong with a patched PROGRAM is reported before it is patched: how it is linked, threads, signal
+handlers, text that is no code or is read as data, instructions without a known length. With `--` the program itself
+also runs with ARGUMENTS under single steps; each executed instruction that isn't listed as code is reported, and each
+byte of listed code that is read as data."""
 import argparse
 import os
 import subprocess
@@ -18,8 +18,8 @@ from vaknuhol.program.program_file import Program, read_text
 from vaknuhol.recording.kept_patches import folder_of
 from vaknuhol.recording.thread_use import threads_of
 
-NAMES = {"fit": "report what stands against patching a program"}
-STATUS = "exit status: 0 where nothing stands against patching, 1 where something does, 2 where something is refused"
+NAMES = {"fit": "report obstacles to patching a program"}
+STATUS = "exit status: 0 where there is no obstacle to patching, 1 where there is one, 2 where something is refused"
 STEPS, STEPPER, SHOWN = 300_000, "vaknuhol-step", 10
 
 
@@ -49,19 +49,19 @@ def stepped(program: str, words: list[str], steps: int) -> list[list[str]]:
 
 
 def print_steps(lines: list[list[str]]) -> bool:
-    """Prints what the steps tell; whether it stands against patching."""
+    """Prints what the steps show; whether that is an obstacle to patching."""
     steps = int(lines[0][1])
     print(f"run: {count_of(steps, 'step')}, "
           + (f"ended with {lines[1][1]}" if lines[1][0] == "ended" else "then stopped (--steps 0 runs it whole)"))
     unlisted, read = [line[1] for line in lines if line[0] == "unlisted"], [line[1:] for line in lines
                                                                             if line[0] == "read"]
     if unlisted:
-        print(f"against: {count_of(len(unlisted), 'executed instruction')} {'is' if len(unlisted) == 1 else 'are'} no "
-              "listed start: "
+        print(f"obstacle: {count_of(len(unlisted), 'executed instruction')} "
+              f"{'is' if len(unlisted) == 1 else 'are'} not listed as code: "
               f"{' '.join(unlisted[:SHOWN])}{' ..' if len(unlisted) > SHOWN else ''}")
     if read:
         shown = " ".join(f"{low}-{high}" for low, high in read[:SHOWN])
-        print(f"against: listed code is read as data: {shown}{' ..' if len(read) > SHOWN else ''}; a patched program "
+        print(f"obstacle: listed code is read as data: {shown}{' ..' if len(read) > SHOWN else ''}; a patched program "
               "reads other bytes there")
     if not unlisted and not read:
         print("run: each executed instruction is listed, and no listed byte was read as data")
@@ -73,7 +73,7 @@ def do(words: argparse.Namespace) -> int:
     try:
         program = Program(path)
     except Refusal as refusal:
-        print(f"against: {refusal}")
+        print(f"obstacle: {refusal}")
         return 1
     listing = Listing(path)
     file = listing.file
@@ -86,12 +86,12 @@ def do(words: argparse.Namespace) -> int:
               "go wrong")
     found = findings(listing)
     for finding in found:
-        print(f"{'against' if finding.is_against else 'note'}: {finding.text}")
+        print(f"{'obstacle' if finding.is_against else 'note'}: {finding.text}")
     print(f"note: this kernel takes {most_entries(os.curdir)} program headers; a file that needs more gets the loader "
           "form")
     is_against = any(finding.is_against for finding in found)
     if words.own_words is not None:
         is_against |= print_steps(stepped(path, words.own_words, words.steps))
     if not is_against:
-        print("nothing stands against patching it")
+        print("there is no obstacle to patching it")
     return 1 if is_against else 0

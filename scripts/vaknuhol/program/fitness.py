@@ -1,4 +1,4 @@
-"""What stands against patching a program, by its listing: each finding in a line, with what can be done about it."""
+"""Obstacles to patching a program, by its listing: each finding in a line, with what can be done about it."""
 from collections.abc import Iterator
 from typing import NamedTuple
 
@@ -36,19 +36,18 @@ def marked(listing: Listing, mark: int) -> list[int]:
 def of_ranges(listing: Listing) -> Iterator[Finding]:
     doubtful, data, breaks = (listing.ranges(kind) for kind in (DOUBTFUL, DATA, BREAK))
     if doubtful:
-        yield Finding(True, f"{range_text(doubtful)} of the text may be no code: they are no starts, and no site "
-                            "stands beside them")
+        yield Finding(True, f"{range_text(doubtful)} of the text may be no code: they are not listed as code, "
+                            "and no site is placed beside them")
     if data:
-        yield Finding(True, f"{range_text(data)} of the text are data, as a jump table or what code reads: no site "
-                            "stands beside them")
+        yield Finding(True, f"{range_text(data)} of the text are data, as a jump table or what code reads: no "
+                            "site is placed beside them")
     if breaks:
         shown = " ".join(f"{place.low:x}" for place in breaks[:SHOWN])
-        yield Finding(True, f"code leads to what is no instruction in {count_of(len(breaks), 'place')} ({shown}): it "
-                            "may be made as the "
-                            "program runs, or be one of a newer processor")
+        yield Finding(True, f"code leads to bytes that are no instruction in {count_of(len(breaks), 'place')} "
+                            f"({shown}): one may be made as the program runs, or be of a newer processor")
     if listing.file.zeros or listing.file.traps:
-        yield Finding(False, f"{count_of(listing.file.zeros, 'byte')} 00 and {listing.file.traps} CC fill room between "
-                             "functions")
+        yield Finding(False, f"{count_of(listing.file.zeros, 'byte')} 00 and {listing.file.traps} CC fill the gaps "
+                             "between functions")
 
 
 def of_instructions(listing: Listing) -> Iterator[Finding]:
@@ -63,9 +62,8 @@ def of_instructions(listing: Listing) -> Iterator[Finding]:
                              "of AVX-512: they are left, and what is proved doesn't reach them; with glibc, "
                              f"{AVOID_EVEX} avoids them")
     if unsure:
-        yield Finding(True, f"for {count_of(len(unsure), 'instruction')} (from {unsure[0]:x} on) there is a jump table "
-                            "without a known end "
-                            "alone: no site stands there")
+        yield Finding(True, f"for {count_of(len(unsure), 'instruction')} (from {unsure[0]:x} on) the only evidence is "
+                            "a jump table without a known end: no site is placed there")
 
 
 def sets_handlers(listing: Listing) -> int:
@@ -91,7 +89,7 @@ def findings(listing: Listing) -> list[Finding]:
 
 
 def warning(listing: Listing) -> str:
-    """One line where something stands against patching, else nothing."""
+    """One line where there is an obstacle to patching, else nothing."""
     against = sum(1 for finding in of_ranges(listing) if finding.is_against)
     path = listing.path
     return f"parts of the text of {path} may be no code: vaknuhol fit {path} shows which" if against else ""

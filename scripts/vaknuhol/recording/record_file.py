@@ -219,9 +219,10 @@ class Record:
 
     def run_text(self) -> str:
         """How many processes and threads there were, in words."""
-        return (f"{'of' if self.action.is_ring else 'the sum of'} {number_of(self.processes, 'process', 'processes')}; "
-                f"{number_of(self.threads, 'thread')} and "
-                f"{number_of(self.execs, 'start')} of other programs (exec) were seen")
+        of = "of" if self.action.is_ring or self.processes == 1 else "the sum of"
+        seen = " and ".join(number_of(number, name) for number, name in ((self.threads, "thread"), (self.execs, "exec"))
+                            if number)
+        return f"{of} {number_of(self.processes, 'process', 'processes')}" + (f", with {seen}" if seen else "")
 
     def left_text(self) -> str:
         """How many blocks were left, in words, and why, as far as that is told."""

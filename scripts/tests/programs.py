@@ -21,10 +21,10 @@ stop: hlt
 
 
 def build(source: str, name: str, *flags: str, compiler: str = "gcc") -> None:
-    """The program NAME of a source beside this file, linked statically in the working folder."""
+    """The program NAME of a source beside this file or elsewhere, linked statically in the working folder."""
     need(compiler)
-    shutil.copyfile(f"{SOURCES}/{source}", source)
-    run(compiler, *STATIC, *flags, "-o", name, source)
+    shutil.copy(os.path.join(SOURCES, source), ".")
+    run(compiler, *STATIC, *flags, "-o", name, os.path.basename(source))
 
 
 def compile_text(name: str, source: str, text: str, *flags: str) -> None:

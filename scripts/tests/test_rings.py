@@ -4,13 +4,14 @@ import signal
 
 import pytest
 
-from tests.calls import patch, path_of, record, script
+from tests.calls import TOP, patch, path_of, record, script
 from tests.programs import Programs, inside
 from tests.stepping import single_steps
 from tests.tracing import RIP, register
 from vaknuhol.recording.patch_report import Report
 from vaknuhol.recording.record_file import Record
 
+SOURCE = f"{TOP}/examples/crash.c"
 SLOTS = (65536, 1, 5)
 ENDINGS = ((["5"], -signal.SIGSEGV), (["4", "abort"], -signal.SIGABRT), (["4", "kill"], -signal.SIGKILL), (["4"], 3))
 
@@ -18,7 +19,7 @@ ENDINGS = ((["5"], -signal.SIGSEGV), (["4", "abort"], -signal.SIGABRT), (["4", "
 @pytest.fixture
 def crash(programs: Programs) -> str:
     """The program `crash` in the working folder; the folder of its source."""
-    return programs.bring("crash", "crash.c")
+    return programs.bring("crash", SOURCE)
 
 
 def patch_ring(home, slots):
@@ -49,9 +50,9 @@ def sites_stepped(words, sites, status):
 @pytest.fixture(scope="module")
 def stepped(programs: Programs, module_place: str):
     """The sites in the order in which single steps come to them, for each way to end."""
-    home = programs.home("crash", "crash.c")
+    home = programs.home("crash", SOURCE)
     with inside(module_place):
-        programs.bring("crash", "crash.c")
+        programs.bring("crash", SOURCE)
         sites = patch_ring(home, 1)
         whole = [sites_stepped(words, sites, status) for words, status in ENDINGS]
     assert all(SLOTS[2] < len(sites) < SLOTS[0] for sites in whole)

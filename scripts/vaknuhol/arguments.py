@@ -141,8 +141,8 @@ def address_range(text: str) -> tuple[int, int]:
 def add_loader(parser: argparse.ArgumentParser) -> None:
     """The word that keeps to `patch`."""
     parser.add_argument("--no-loader", dest="loader", action="store_false",
-                        help="keep new code nearer where the program header table would be too long, in place of the "
-                             "loader form")
+                        help="if the program header table would be too long, keep new code nearer, in place of writing "
+                             "the loader form")
 
 
 def regular_expression(text: str) -> re.Pattern[str]:

@@ -16,17 +16,17 @@ MODULES = {"run": ("cover", "count", "ring"), "fit": ("fit",), "wrap": ("wrap",)
            "dump": ("dump",), "check": ("check",), "unpatch": ("unpatch",), "gen": ("gen",), "help": ("help",)}
 OF_ALL = "help"
 REFUSED, REFUSED_IN_RUN = 2, 125
-ABOUT = """Coverage, counts and traces of static x86-64 executables, with or without source: a program is patched, run,
-and its record shown.
+ABOUT = """Coverage, counts and traces of static x86-64 executables, with or without source: vaknuhol patches a program,
+runs it, and shows what it recorded.
 
 vaknuhol count ./prog -- ARGUMENTS patches the program, runs it with these arguments, and shows a summary."""
 STATUSES = """exit status:
-  cover, count, ring   the program's own, or 128 and the number of the signal that ended it; 125 where it is refused
-  diff                 0 where both records have the same blocks executed, 1 where they differ, 2 where it is refused
-  check                0 where each kept patched file is sound, 1 where one is not, 2 where something is refused
-  fit                  0 where there is no obstacle to patching, 1 where there is one, 2 where something is refused
+  cover, count, ring   the program's own, or 128 and the number of the signal that ended it; 125 if it is refused
+  diff                 0 if the same blocks were executed, else 1; 2 if something is refused
+  check                0 if each kept patched file is sound, else 1; 2 if something is refused
+  fit                  0 if there is no obstacle to patching, else 1; 2 if something is refused
   gen                  that of `e9tool gen`
-  the others           0 where it is done, 2 where something is refused
+  the others           0 if all is done, 2 if something is refused
 
 An output's name may be -, which is standard output. vaknuhol help COMMAND lists the options of each command."""
 

@@ -1,4 +1,4 @@
-"""Each block has its count at the margin, blocks are set apart, and lines of source stand between where there are.
+"""Each block has its count in the margin, and lines of source, if there are any, stand above their instructions.
 Without FUNCTION all functions that were executed are shown, those with the most work first. A function that was inlined
 everywhere is shown at each place."""
 import argparse
@@ -27,7 +27,7 @@ def add_words(level: Level, name: str) -> None:
     level.add_argument("function", metavar="FUNCTION", nargs="?",
                        help="only this function, as its symbol or the source names it")
     add_file(level, "--record", metavar="RECORD", action="append", dest="records", default=[],
-             help="what a run wrote, in place of the last; may be repeated")
+             help="what a run wrote, in place of the last record; may be repeated")
     add_output(level, "--html", metavar="FILE", help="write a page for a browser")
 
 

@@ -1,7 +1,7 @@
 """Each kept patched file in PROGRAM.vak is judged by its report (`e9tool check`): whether it does what the original
-does but for what the report says, whoever made it. That command compares entry points, and so says no of each file of
-the loader form; and a file for threads has no report. Such files are written again from the original (`e9tool load`,
-`e9tool threads`), and are to have the same bytes, and so are their reports."""
+does but for what the report says, whoever made it. `e9tool check` compares entry points, and so rejects each file of
+the loader form; a file for threads has no report. Such a file is written again from the original (`e9tool load`,
+`e9tool threads`), and file and report must have the same bytes."""
 import argparse
 import os
 import subprocess
@@ -19,7 +19,7 @@ from vaknuhol.recording.patch_files import SUMMARY, RunFiles
 from vaknuhol.recording.patching import find_tool
 
 NAMES = {"check": "judge the patched files of a program"}
-STATUS = "exit status: 0 where each is sound, 1 where one is not, 2 where something is refused"
+STATUS = "exit status: 0 if each is sound, else 1; 2 if something is refused"
 
 
 def add_words(level: Level, name: str) -> None:

@@ -1,5 +1,5 @@
-"""Records are removed with what they hold: add them up before by `vaknuhol merge`. What runners that were killed left
-half written goes, too."""
+"""Records are removed with what they hold: add them up by `vaknuhol merge` before. Half-written files that killed
+runners left are removed too."""
 import argparse
 import os
 

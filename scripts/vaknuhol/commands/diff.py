@@ -1,5 +1,5 @@
-"""Blocks that were executed in one run only are listed by function and line, then the ten counts that changed most.
-What only one of the records knows, since it was not chosen or was left in the other, is not compared."""
+"""Lists the blocks that were executed in one run only, by function and line, then the ten counts that changed most.
+Blocks that only one of the records knows, since they were not chosen or were left in the other, are not compared."""
 import argparse
 import os
 import sys
@@ -13,15 +13,15 @@ from vaknuhol.recording.record_folder import record_at
 from vaknuhol.views.coverage import Coverage, Place, namer
 
 NAMES = {"diff": "compare two records of one program"}
-STATUS = "exit status: 0 where the same blocks were executed, 1 where not, 2 where something is refused"
+STATUS = "exit status: 0 if the same blocks were executed, else 1; 2 if something is refused"
 TEN = 10
 
 
 def add_words(level: Level, name: str) -> None:
     add_file(level, "program", metavar="PROGRAM", help="the original")
     add_file(level, "old", metavar="OLD", help="a record, or a folder of records, which are added up")
-    add_file(level, "new", metavar="NEW", help="another one")
-    add_file(level, "--source", metavar="FOLDER", help="lines of source files under this folder")
+    add_file(level, "new", metavar="NEW", help="the record, or folder, to compare it with")
+    add_file(level, "--source", metavar="FOLDER", help="only lines of source files under this folder")
 
 
 def print_places(title: str, rows: list[Row], where: dict[int, Place], names: Callable[[str], str]) -> None:

@@ -1,6 +1,6 @@
-"""The process runs on, and isn't stopped; dump it as often as you like. Of a core file the record is what was executed
-up to the crash. The report is found by the patched file's name; of a patch for threads it is the summary. The record is
-written, and shown where its program is known."""
+"""The process is not stopped; dump it as often as you like. The record of a core file is what was executed up to the
+crash. The report is found by the patched file's name; for a patch for threads it is the summary. The record is written
+and, if its program is known, shown."""
 import argparse
 import os
 import subprocess
@@ -22,12 +22,12 @@ NAMES = {"dump": "read what a running process, or a core file, has recorded so f
 
 def add_words(level: Level, name: str) -> None:
     add_file(level, "of", metavar="PID|CORE", help="the number of a process, or a core file (a file named 12 is ./12)")
-    add_file(level, "--report", metavar="REPORT", help="the report of the patched file, where it isn't found by name")
+    add_file(level, "--report", metavar="REPORT", help="the report of the patched file, if it isn't found by name")
     add_output(level, "--record", metavar="FILE",
-               help="the record to write; without it, PID.record or CORE.record here")
-    add_file(level, "--program", metavar="PROGRAM", help="the original, where it isn't known")
+               help="the record to write, in place of PID.record or CORE.record")
+    add_file(level, "--program", metavar="PROGRAM", help="the original, if it isn't known")
     level.add_argument("--detach", action="store_true",
-                       help="let the process run on without its runner, as a daemon that is dumped again later")
+                       help="let the process run on without its runner; it can be dumped again later")
     level.add_argument("--quiet", action="store_true", help="no summary")
 
 

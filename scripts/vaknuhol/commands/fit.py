@@ -19,7 +19,7 @@ from vaknuhol.recording.kept_patches import folder_of
 from vaknuhol.recording.thread_use import threads_of
 
 NAMES = {"fit": "report obstacles to patching a program"}
-STATUS = "exit status: 0 where there is no obstacle to patching, 1 where there is one, 2 where something is refused"
+STATUS = "exit status: 0 if there is no obstacle to patching, else 1; 2 if something is refused"
 STEPS, STEPPER, SHOWN = 300_000, "vaknuhol-step", 10
 
 

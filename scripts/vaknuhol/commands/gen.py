@@ -1,4 +1,4 @@
-"""A program is made from a number, patched, checked, and both files are run step by step; it says whether they end
+"""Makes a program from a number, patches and checks it, runs both files step by step, and says whether they end
 alike."""
 import argparse
 import subprocess

@@ -1,7 +1,6 @@
-"""Without an output the summary is printed. PROGRAM is the original, with or without symbols; RECORD is
-PROGRAM.vak/last.record where none is given, and several records of one program are added up. Where a stand-in (vaknuhol
-wrap) has written records to PROGRAM.vak/records, these are added up in place of last.record. Lines are those of the
-program's own source files."""
+"""Without an option for an output the summary is printed. PROGRAM is the original, with or without symbols. Several
+records are added up. If no RECORD is given, those that a stand-in (vaknuhol wrap) has written to PROGRAM.vak/records
+are taken or, without such, PROGRAM.vak/last.record. Lines are those of the program's own source files."""
 import argparse
 import os
 from collections.abc import Callable
@@ -28,21 +27,21 @@ NAMES = {"report": "show a record, or write it for other programs"}
 def add_words(level: Level, name: str) -> None:
     add_file(level, "program", metavar="PROGRAM", help="the original")
     add_file(level, "records", metavar="RECORD", nargs="*",
-             help="what a run wrote, or a folder of such; without it, PROGRAM.vak/records or PROGRAM.vak/last.record")
+             help="what a run wrote, or a folder of records; by default PROGRAM.vak/records or PROGRAM.vak/last.record")
     add_output(level, "--lcov", metavar="FILE",
                help="write a tracefile of lines, functions and branches, for lcov and genhtml")
     add_output(level, "--cobertura", metavar="FILE", help="write lines, functions and branches as Cobertura XML")
     add_output(level, "--json", metavar="FILE",
-               help="write blocks, lines and functions as JSON, which `gcovr -a` reads, too")
+               help="write blocks, lines and functions as JSON, which `gcovr -a` reads too")
     add_output(level, "--drcov", metavar="FILE",
                help="write the executed blocks as DynamoRIO's drcov does, for plugins of IDA, Ghidra, Binary Ninja")
     add_output(level, "--callgrind", metavar="FILE",
                help="write executed instructions, lines, functions and direct calls, for KCachegrind")
     add_file(level, "--html", metavar="FOLDER",
-             help="write pages for a browser: of source lines by lcov's genhtml, without such of functions and "
+             help="write pages for a browser: of source lines, by lcov's genhtml, or without lines of functions and "
                   "instructions")
     add_file(level, "--source", metavar="FOLDER", help="only lines of source files under this folder")
-    level.add_argument("--all", action="store_true", help="lines of all source files, those of libraries, too")
+    level.add_argument("--all", action="store_true", help="lines of all source files, libraries included")
     level.add_argument("--per-run", action="store_true", help="print a line for each record, and nothing else")
     level.add_argument("--table", action="store_true", help="print a line for each block")
 

@@ -1,5 +1,5 @@
-"""PROGRAM is patched where its blocks are chosen, run with ARGUMENTS, and what it recorded is shown on standard error;
-its input, output and status stay its own. The patched file is kept in PROGRAM.vak, and used again while program,
+"""PROGRAM is patched at the chosen blocks and run with ARGUMENTS; what it recorded is shown on standard error. Its
+input, output and status stay its own. The patched file is kept in PROGRAM.vak, and used again as long as program,
 choice and tool are the same. The record is written to PROGRAM.vak/last.record, where `vaknuhol report PROGRAM` finds
 it."""
 import argparse
@@ -25,7 +25,7 @@ from vaknuhol.views.summary import summary
 NAMES = {"cover": "show which blocks are executed", "count": "count how often each block is executed",
          "ring": "keep the last N executions, in order, of all chosen blocks"}
 STATUS = ("exit status: the program's own, or 128 and the number of the signal that ended it; "
-          "125 where something is refused")
+          "125 if something is refused")
 LAST = "last.record"
 MOST_RESERVES = 200
 
@@ -37,36 +37,33 @@ def add_patch_words(level: Level, name: str) -> None:
         level.add_argument("slots", metavar="N", type=action_of_type("ring:{}"), help="how many executions: 1 to 65536")
     else:
         level.add_argument("--when", metavar="C", type=action_of_type("cover when {}"),
-                           help="only executions with these registers: one to three comparisons, as 'rdi == 2 and rsi "
-                                "< 100'")
+                           help="record only executions in which registers meet C: one to three comparisons, as in "
+                                "'rdi == 2 and rsi < 100'")
     add_file(level, "program", metavar="PROGRAM", help="the original, linked by gcc -static -no-pie")
     add_choice(level)
     level.add_argument("--threads", action=argparse.BooleanOptionalAction,
                        help=argparse.SUPPRESS if name == "ring"
-                       else "for a program with threads: each event counts in one "
-                       "instruction, and none disturbs another's thread; without either word, as the program starts "
-                       "threads or not")
+                       else "patch for threads: each event counts in one instruction and disturbs no other thread; "
+                       "by default, if the program starts threads")
     level.add_argument("--reserve", metavar="LO-HI", type=address_range, action="append", default=[],
-                       help="where no new code may stand; may be repeated")
+                       help="addresses to keep free of new code; may be repeated")
     add_loader(level)
     level.add_argument("--entries", metavar="N", type=whole_number,
-                       help="at most so many program headers in the patched file, as its kernel takes them (Debian 12: "
-                            "73); "
-                            "without it, what the running kernel takes")
+                       help="write at most N program headers, for a kernel that takes no more (Debian 12: 73); by "
+                            "default, as many as the running kernel takes")
     add_file(level, "--into", metavar="FOLDER", help="the folder for all files, in place of PROGRAM.vak")
     if name == "count":
         level.add_argument("--fast", action="store_true",
-                           help="patch only so many blocks that the counts of the others follow from "
-                           "theirs: the run costs less; where a signal or another thread's exit ends a block in its "
-                           "middle, counts "
-                           "near it are off by one")
+                           help="patch only as many blocks as it takes to work out the other counts, so that the run "
+                           "costs less; if a signal or another thread's exit ends a block in its middle, counts near "
+                           "it are off by one")
     level.set_defaults(slots=None, when=None, fast=False)
 
 
 def add_words(level: Level, name: str) -> None:
     add_patch_words(level, name)
     level.add_argument("--patch-only", action="store_true",
-                       help="patch, print where the patched file stands, and don't run it")
+                       help="patch, print the name of the patched file, and don't run it")
     level.add_argument("--quiet", action="store_true", help="no summary")
     add_output(level, "--record", metavar="FILE", help="the record to write, in place of PROGRAM.vak/last.record")
 

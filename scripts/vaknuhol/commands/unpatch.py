@@ -1,6 +1,6 @@
-"""What the original was is worked out from the patched file and its report alone (`e9tool unpatch`), so both may stand
-elsewhere than the program. Without REPORT it is looked for beside PATCHED. A patched file for threads has no report,
-and so none is undone."""
+"""The original is worked out from the patched file and its report alone (`e9tool unpatch`), so the program itself is
+not needed. Without --report, the report is looked for beside PATCHED. A patched file for threads has no report and
+can't be undone."""
 import argparse
 import os
 import subprocess
@@ -21,7 +21,7 @@ def add_words(level: Level, name: str) -> None:
     add_file(level, "patched", metavar="PATCHED", help="a patched file, as --patch-only prints its name")
     add_output(level, "original", metavar="NEW", help="the file to write; - is standard output")
     add_file(level, "--report", metavar="REPORT",
-             help="the report of the patched file, where it doesn't stand beside it")
+             help="the report of the patched file, if it isn't beside it")
 
 
 def report_of(patched: str) -> str:

@@ -1,8 +1,8 @@
-"""PROGRAM is patched, and at PATH an executable is written that can stand in the program's place: whoever runs it, in
-whatever folder and with whatever words, runs the patched file, whose signals are held and whose record is added to
-PROGRAM.vak/records, safely when many run at once. `vaknuhol report PROGRAM` adds up the records. Where a run can't be
-traced, the patched file runs all the same, and the first of such runs says that nothing is recorded. PATH names the
-patched file by its place: patch again where that is moved."""
+"""PROGRAM is patched, and PATH becomes an executable that can take the program's place: whoever runs it, in any folder
+and with any arguments, runs the patched file with its signals held back, and adds a record to PROGRAM.vak/records; many
+may run at once. `vaknuhol report PROGRAM` adds up the records. If a run can't be traced, the patched file runs all the
+same, and the first such run says that nothing is recorded. PATH holds the absolute path of the patched file: if you
+move that, patch again."""
 import argparse
 import os
 import struct

@@ -21,8 +21,8 @@ def add_action(parser: argparse.ArgumentParser) -> None:
     parser.add_argument("--ring", metavar="N", type=action_of_type("ring:{}"),
                         help="in place of either, keep the last N executions of all, in order: 1 to 65536")
     parser.add_argument("--when", metavar="C", type=action_of_type("cover when {}"),
-                        help="only executions with these registers: one to three comparisons, as 'rdi == 2 and rsi < "
-                             "100'")
+                        help="record only executions in which registers meet C: one to three comparisons, as in "
+                             "'rdi == 2 and rsi < 100'")
 
 
 def action_of_words(parser: argparse.ArgumentParser, words: argparse.Namespace) -> Action:

@@ -19,11 +19,11 @@ def add_choices(parser: argparse.ArgumentParser, required: bool = True) -> None:
     """The words that choose blocks."""
     how = parser.add_mutually_exclusive_group(required=required)
     how.add_argument("--functions", action="store_true",
-                     help="the first block of each function: what has a name or is called")
+                     help="the first block of each function: of what has a name or is called")
     how.add_argument("--blocks", action="store_true", help="each basic block")
     how.add_argument("--jumps", action="store_true", help="the blocks that end in a direct jump")
     how.add_argument("--symbols", metavar="REGEX", type=regular_expression,
-                     help="the functions whose whole name is of this form")
+                     help="the functions whose whole name matches")
     parser.add_argument("--within", metavar="LO-HI", type=address_range,
                         help="only blocks from LO on and below HI, hexadecimal")
     parser.add_argument("--source", metavar="FOLDER", type=file_name,

@@ -34,6 +34,12 @@ def pytest_addoption(parser: pytest.Parser) -> None:
     )
 
 
+@pytest.hookimpl(tryfirst=True)
+def pytest_collection_modifyitems(items: list[pytest.Item]) -> None:
+    """Tests that stay on one worker, since they share what takes long to make (--dist loadgroup), are begun first."""
+    items.sort(key=lambda item: item.get_closest_marker("xdist_group") is None)
+
+
 @pytest.hookimpl(hookwrapper=True)
 def pytest_fixture_setup() -> Iterator[None]:
     forget_test_name()

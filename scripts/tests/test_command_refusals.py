@@ -10,6 +10,7 @@ from tests.programs import Programs, inside
 from vaknuhol.main import MODULES
 from vaknuhol.recording.thread_patch import ONLY_COUNTERS
 
+pytestmark = pytest.mark.xdist_group("command refusals")
 NAMES = [name for names in MODULES.values() for name in names]
 CONTROL = "a name with a newline or another control character is not taken: rename it"
 NO_RING = f"--threads: {ONLY_COUNTERS}: vaknuhol cover and vaknuhol count take it, without --when"

@@ -15,6 +15,7 @@ from vaknuhol.recording.actions import REGISTERS, action_of
 from vaknuhol.recording.patch_report import Report
 from vaknuhol.recording.process_memory import read_memory
 
+pytestmark = pytest.mark.xdist_group("conditions")
 FUNCTIONS = ("fib", "collatz", "mix", "compare", "main")
 CONDITIONS = ("rdi == 3", "rsi >= 2 and rdx <= 40 and rsp != 0", "rdi < 2147483647 and rsi > 0")
 CALLED = {"fib": 55, "collatz": 1, "mix": 54}  # with rdi 3

@@ -10,6 +10,7 @@ from tests.calls import SOURCES, run
 from tests.command import call
 from tests.programs import inside
 
+pytestmark = pytest.mark.xdist_group("copies")
 # Of the build without optimization, by lines: gcov's count and ours, and why; None is no count.
 DIFFERENCES = {
     16: (10, 30, "gcov counts a block on its last line alone, and the inlined bodies begin in the middle of one"),

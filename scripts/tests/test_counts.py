@@ -16,6 +16,7 @@ from vaknuhol.recording.process_memory import read_memory
 from vaknuhol.recording.record_file import Record
 from vaknuhol.views.coverage import Coverage
 
+pytestmark = pytest.mark.xdist_group("counts")
 NEAR = "01000000-7fff0000"
 REPEATED = (0xF2, 0xF3)  # single steps stand at each turn of a repeated instruction
 PROTECTED = "-fcf-protection"

@@ -9,6 +9,7 @@ import pytest
 from tests.calls import TOP
 from tests.needs import need
 
+pytestmark = pytest.mark.xdist_group("hardware")
 HARDWARE = f"{TOP}/bench/hardware"
 SEED = "80"
 COUNT = 100_000

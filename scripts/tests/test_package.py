@@ -13,6 +13,7 @@ from tests.debian_package import made, over_this_system
 from tests.needs import need
 from tests.programs import Programs
 
+pytestmark = pytest.mark.xdist_group("package")
 DOC = "usr/share/doc/vaknuhol"
 COMPLETE = (
     "source /usr/share/bash-completion/completions/vaknuhol; COMP_LINE='{line}'; COMP_POINT=${{#COMP_LINE}}; "

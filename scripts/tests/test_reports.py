@@ -18,6 +18,7 @@ from vaknuhol.program.program_file import Program
 from vaknuhol.recording.record_file import Record
 from vaknuhol.views.coverage import Coverage
 
+pytestmark = pytest.mark.xdist_group("reports")
 TABLE = re.compile(
     rb"DRCOV VERSION: 2\nDRCOV FLAVOR: drcov\nModule Table: version 2, count ([0-9]+)\n"
     rb"Columns: id, base, end, entry, path\n((?: *[0-9]+, 0x[0-9a-f]+, 0x[0-9a-f]+, 0x[0-9a-f]+, [^\n]+\n)+)"

@@ -11,6 +11,7 @@ from tests.tracing import RIP, register
 from vaknuhol.recording.patch_report import Report
 from vaknuhol.recording.record_file import Record
 
+pytestmark = pytest.mark.xdist_group("rings")
 SOURCE = f"{TOP}/examples/crash.c"
 SLOTS = (65536, 1, 5)
 ENDINGS = ((["5"], -signal.SIGSEGV), (["4", "abort"], -signal.SIGABRT), (["4", "kill"], -signal.SIGKILL), (["4"], 3))

@@ -16,6 +16,7 @@ from tests.stand_ins import RECORDS, lines_of, suite_with_stand_in
 from vaknuhol.recording.record_file import Record
 from vaknuhol.recording.record_folder import paths_in
 
+pytestmark = pytest.mark.xdist_group("stand ins")
 AT_ONCE = 6
 HALVES = "import vaknuhol.recording.default_choice\nvaknuhol.recording.default_choice.MOST = 24"
 CALLS = (

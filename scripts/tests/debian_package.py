@@ -65,8 +65,8 @@ class System:
 
 
 @contextlib.contextmanager
-def over_this_system(top: str) -> Iterator[System]:
-    """A layer over this system in memory; nothing of it stays."""
+def over_this_system(top: str, like: System | None = None) -> Iterator[System]:
+    """A layer over this system in memory, in which what another one took is written already; nothing of it stays."""
     if os.geteuid():
         pytest.skip("only root can install a package")
     need("mount")
@@ -75,12 +75,14 @@ def over_this_system(top: str) -> Iterator[System]:
     try:
         for name in ("root", "written", "work"):
             os.mkdir(f"{top}/{name}")
+        if like:
+            run("cp", "--archive", f"{like.written}/.", system.written)
         options = f"lowerdir=/,upperdir={system.written},workdir={top}/work"
         if subprocess.run(["mount", "-t", "overlay", "-o", options, "overlay", system.root], check=False).returncode:
             left_out("no file system can be mounted over / here")
         for name in ("dev", "proc"):
             run("mount", "--rbind", f"/{name}", f"{system.root}/{name}")
-        os.makedirs(f"{system.root}/root/tried")
+        os.makedirs(f"{system.root}/root/tried", exist_ok=True)
         yield system
     finally:
         run("umount", "--recursive", "--lazy", top)

@@ -73,6 +73,7 @@ def test_its_own_test_passes(system):
 def test_a_manual_page_is_read_without_a_warning(system, name):
     need("man")
     told = system.run("man", "--warnings", name, MANWIDTH="100")
+    assert re.match(rf".*\n\nNAME\n +{name} +- .*\n\nSYNOPSIS\n +\w", told, re.S), told
     assert "EXIT STATUS" in " ".join(told.upper().split()) or name in ("vaknuhol-report", "vaknuhol-unpatch"), told
     assert "warning" not in told, told
 
@@ -132,14 +133,11 @@ def test_an_example_runs_on_what_is_installed(system):
     assert system.run("sh", f"/{DOC}/examples/count.sh").endswith("465\n")
 
 
-def test_purged_it_leaves_nothing(package, module_place):
+def test_purged_it_leaves_nothing(system, module_place):
     """Python's compiled modules, which stand there once it is installed, go too."""
     os.mkdir(f"{module_place}/purged")
-    with over_this_system(f"{module_place}/purged") as system:
-        shutil.copyfile(package, f"{system.root}/root/tried/package.deb")
-        system.run("dpkg", "--install", "package.deb")
-        assert [it for it in system.files("usr/lib/vaknuhol") if it.endswith(".pyc")], "its modules are compiled"
-        system.run("vaknuhol", "--version")
-        system.run("dpkg", "--purge", "vaknuhol")
-        left = [it for it in system.files() if os.path.lexists(f"{system.root}/{it}") and not os.path.lexists(f"/{it}")]
-        assert not left and not os.path.exists(f"{system.root}/usr/lib/vaknuhol"), left
+    with over_this_system(f"{module_place}/purged", like=system) as purged:
+        assert [it for it in purged.files("usr/lib/vaknuhol") if it.endswith(".pyc")], "its modules are compiled"
+        purged.run("dpkg", "--purge", "vaknuhol")
+        left = [it for it in purged.files() if os.path.lexists(f"{purged.root}/{it}") and not os.path.lexists(f"/{it}")]
+        assert not left and not os.path.exists(f"{purged.root}/usr/lib/vaknuhol"), left

@@ -10,6 +10,7 @@ import signal
 import subprocess
 import sys
 import time
+from collections.abc import Callable
 
 import pytest
 
@@ -94,15 +95,23 @@ def signals(programs: Programs) -> None:
     programs.bring("signals", "signals.c", "-pthread")
 
 
-@pytest.mark.parametrize("words", ACTIONS.values(), ids=ACTIONS)
-def test_each_case_prints_what_the_original_prints(signals, words) -> None:
-    path = stand_in(*words)
+@pytest.fixture
+def counted(signals: None, programs: Programs) -> None:
+    """The same with the patched file of all its blocks, those of the C library too."""
+    programs.patch("signals", *ACTIONS["count"], "PROGRAM", "--blocks")
+
+
+@pytest.mark.parametrize("action", ACTIONS)
+def test_each_case_prints_what_the_original_prints(signals, action, request) -> None:
+    if action == "count":
+        request.getfixturevalue("counted")
+    path = stand_in(*ACTIONS[action])
     for case in CASES:
         wanted, told = printed("./signals", case)[0], printed(path, case)[0]
         assert told == wanted, f"{case}: {told} and not {wanted}"
 
 
-def test_counts_are_exact_although_handlers_come_in_between(signals) -> None:
+def test_counts_are_exact_although_handlers_come_in_between(counted) -> None:
     exact(stand_in(*ACTIONS["count"]))
 
 
@@ -115,13 +124,14 @@ def test_cases_of_a_program_that_is_patched_for_threads_print_the_same(signals) 
 
 def flooded(path: str) -> tuple[str, int]:
     """What busybox's ash prints, and its status, while signals come to it as fast as they can be sent."""
-    it = subprocess.Popen(["busybox", "sh", "-c", SCRIPT], executable=path, stdout=subprocess.PIPE, text=True)
-    assert it.stdout and it.stdout.readline() == "ready\n"
-    while it.poll() is None:
-        it.send_signal(signal.SIGUSR1)
-        time.sleep(0.0002)
-    with it.stdout:
-        return it.stdout.read(), it.returncode
+    with subprocess.Popen(["busybox", "sh", "-c", SCRIPT], executable=path, stdout=subprocess.PIPE, text=True) as shell:
+        assert shell.stdout and shell.stdout.readline() == "ready\n"
+        end = time.monotonic() + SOON
+        while shell.poll() is None and time.monotonic() < end:
+            shell.send_signal(signal.SIGUSR1)
+            time.sleep(0.0002)
+        shell.kill()
+        return shell.stdout.read(), shell.returncode
 
 
 @pytest.mark.parametrize("words", [("count",), ("ring", "64"), ("count", "--when", "rdi < 1000000000")], ids=ACTIONS)
@@ -137,46 +147,34 @@ def test_a_shell_with_traps_is_the_original_under_a_flood_of_signals(words) -> N
         assert told == wanted, f"{told} and not {wanted}"
 
 
-def test_each_site_counts_what_single_steps_of_the_original_see(signals) -> None:
-    """Faults that a handler leaves by siglongjmp, handlers in handlers, another stack, sigwait. Left out is what looks
-    at the program header table or the break, which a patched file has elsewhere; of functions that read vectors all but
-    their entries, since no two runs have their stacks at the same address."""
-    visits = collections.Counter()
+def comparable(path: str) -> Callable[[int], bool]:
+    """Tells whether two runs of a program count the same at an address. Left out is what looks at the program header
+    table or the break, which a patched file has elsewhere; of functions that read vectors all but their entries, since
+    no two runs have their stacks at the same address."""
+    symbols = sorted((int(it[0], 16), it[2]) for it in map(str.split, run("nm", "--defined-only", path).splitlines()))
+
+    def is_comparable(site: int) -> bool:
+        addr, name = symbols[bisect.bisect(symbols, (site, "~")) - 1]
+        return not ELSEWHERE.match(name) and (site == addr or not VECTORS.match(name))
+
+    return is_comparable
+
+
+def test_each_site_counts_what_single_steps_of_the_original_see(counted) -> None:
+    """Faults that a handler leaves by siglongjmp, handlers in handlers, another stack, sigwait."""
+    visits: collections.Counter[int] = collections.Counter()
     at = lambda pid: (register(pid, RIP),)
     single_steps(
         ["./signals", "repeatable"], lambda pid: visits.update(at(pid)), signalled=lambda pid: visits.subtract(at(pid))
     )
-    words = [
-        sys.executable,
-        COMMAND,
-        "count",
-        "./signals",
-        "--no-threads",
-        "--blocks",
-        "--quiet",
-        "--record",
-        "repeatable.record",
-        "--",
-        "repeatable",
-    ]
-    subprocess.run(words, stdout=subprocess.DEVNULL, check=True)
-    symbols = sorted(
-        (int(line.split()[0], 16), line.split()[2]) for line in run("nm", "--defined-only", "signals").splitlines()
-    )
-
-    def is_repeatable(site: int) -> bool:
-        addr, name = symbols[bisect.bisect(symbols, (site, "~")) - 1]
-        return not ELSEWHERE.match(name) and (site == addr or not VECTORS.match(name))
-
+    words = "count ./signals --no-threads --blocks --quiet --record repeatable.record -- repeatable".split()
+    subprocess.run([sys.executable, COMMAND, *words], stdout=subprocess.DEVNULL, check=True)
     rows = [row for row in rows_of("repeatable.record") if row.count is not None]
-    compared = [row for row in rows if is_repeatable(row.site)]
+    is_comparable = comparable("signals")
+    compared = [row for row in rows if is_comparable(row.site)]
     wrong = [
         f"{row.site:x}: {row.count} and not {visits[row.site]}" for row in compared if row.count != visits[row.site]
     ]
-    executed = [row.count for row in compared if row.count]
-    assert not wrong and len(executed) > 1000 and 4 * len(compared) > 3 * len(rows), (
-        wrong,
-        len(executed),
-        len(compared),
-        len(rows),
-    )
+    executed = sum(1 for row in compared if row.count)
+    assert not wrong, wrong
+    assert executed > 1000 and 4 * len(compared) > 3 * len(rows), (executed, len(compared), len(rows))

@@ -171,11 +171,11 @@ def model() -> str:
 def section(source: str, least: dict[str, Cost], columns: tuple[list[Tool], list[Tool]]) -> str:
     """README's section: how it was measured, and the factors."""
     is_busy = least[""].wall > BUSY * least[""].processor
-    text = (f"A run's processor time, as a factor of the original's {least[''].processor:.2f} s: "
-            f"`{os.path.relpath(source, TOP)}` ({' '.join(GCC)}), which sorts, counts divisors and sieves. The least "
-            f"of {TURNS} runs, in turns with the others{', beside other work' if is_busy else ''}; {model()}, Linux "
+    text = (f"Processor time of a run, as a factor of the original's {least[''].processor:.2f} s: "
+            f"`{os.path.relpath(source, TOP)}` ({' '.join(GCC)}) sorts, counts divisors and sieves. The least of {TURNS} "
+            f"runs, in turns with the others{', beside other work' if is_busy else ''}; {model()}, Linux "
             f"{'.'.join(os.uname().release.split('.')[:2])}. Patching and showing the record are left out. "
-            f"`bench/costs.py` measures any C program, and makes this section.")
+            f"`bench/costs.py` measures any C program so, and makes this section.")
     cells = [[f"`{tool.name}`: {tool.records} | {least[tool.name].times(least[''])}" for tool in column]
              for column in columns]
     rows = [f"| {ours} | {other} |" for ours, other in itertools.zip_longest(*cells, fillvalue="|")]

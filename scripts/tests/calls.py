@@ -3,6 +3,7 @@ import os
 import re
 import subprocess
 import sys
+from typing import Any
 
 from vaknuhol.recording.record_file import Record
 
@@ -12,11 +13,18 @@ TOP = os.path.dirname(SCRIPTS)
 STATIC = "-O1 -g -fno-inline -static -no-pie".split()
 
 
-def run(*words, status=(0,), **how):
+def run(*words: str, status: tuple[int, ...] = (0,), **how: Any) -> str:
     """What a command prints, which has to end with one of these statuses."""
     done = subprocess.run(words, stdout=subprocess.PIPE, stderr=subprocess.STDOUT, text=True, **how)
     assert done.returncode in status, f"{' '.join(words)} ended with {done.returncode}: {done.stdout}"
-    return done.stdout
+    return str(done.stdout)
+
+
+def match(pattern: str, text: str) -> re.Match[str]:
+    """What a pattern finds in a text, where it has to find something."""
+    found = re.search(pattern, text)
+    assert found, f"{pattern!r} finds nothing in {text}"
+    return found
 
 
 def words_of(name, *words):

@@ -80,9 +80,7 @@ def e9tool(request: pytest.FixtureRequest, shared: str) -> Iterator[str]:
     if not can_trace():
         left_out("ptrace is not allowed")
     if not takes(MOST, shared):
-        left_out(
-            f"this kernel takes {FEW} program headers at most, and the scripts don't ask it (docs/use/programs.md, Kernels)"
-        )
+        left_out(f"this kernel takes {FEW} program headers at most, which the scripts don't ask (docs/use/programs.md)")
     with tempfile.TemporaryDirectory() as folder:
         os.chmod(folder, 0o755)
         os.environ["E9TOOL"] = f"{folder}/e9tool"

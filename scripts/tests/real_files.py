@@ -1,7 +1,8 @@
 """The program on real files: what stands before a call, what is answered, and what each name holds afterwards."""
-import collections
 import os
 import subprocess
+from collections.abc import Callable
+from typing import Any, NamedTuple
 
 HERE = os.path.dirname(os.path.realpath(__file__))
 DATA = f"{HERE}/../../crates/e9tool/data"
@@ -12,7 +13,18 @@ SUMMARY = "sites 1 patched 1 left 0\nB1 1 B2 0 T1 0 T2 0 T3 0\nNotRelocatable 0 
 # What a name holds afterwards: bytes, the first bytes of OUT, a text of this name, a folder, or nothing.
 OUT, REPORT, FOLDER, NOTHING, EMPTY = "OUT", "REPORT", "folder", None, b""
 DONE = {"O": OUT, "R": REPORT}
-Row = collections.namedtuple("Row", "what before out report status told left", defaults=(DONE,))
+
+
+class Row(NamedTuple):
+    """A call: what it is, what stands before it, its outputs, what is answered and printed, and what is left."""
+
+    what: Any
+    before: Callable[[], object]
+    out: str
+    report: str
+    status: int
+    told: str
+    left: dict[str, Any] = DONE
 
 
 def holds(name, text=b"before", mode=0o666):
@@ -35,7 +47,7 @@ def nothing():
     """A row's preparation where there is none."""
 
 
-def refused(name):
+def refused(name: str) -> tuple[int, str]:
     return 5, f"fault write {name}\n"
 
 

@@ -1,10 +1,9 @@
 """What actions record: numbers of sites, rings, conditions."""
 import array
-from types import SimpleNamespace
 
 import pytest
 
-from vaknuhol.recording.actions import ActionError, CoverOfCounters, action_of
+from vaknuhol.recording.actions import ActionError, Counting, CoverOfCounters, Ring, action_of
 
 REGISTERS = {"rdi": 2, "rsi": 2147483647, "rsp": 0}
 
@@ -22,7 +21,8 @@ REGISTERS = {"rdi": 2, "rsi": 2147483647, "rsp": 0}
 )
 def test_ring_wraps_at_its_length(numbers, events):
     """Not full, full, its position at the begin and at the end, and where something else wrote."""
-    assert action_of("ring:3").events(numbers) == events
+    action = action_of("ring:3")
+    assert isinstance(action, Ring) and action.events(numbers) == events
 
 
 def test_ring_has_a_slot_more_than_its_length_for_the_next_one():
@@ -65,6 +65,7 @@ def test_what_is_no_action_is_refused(text):
 )
 def test_a_condition_holds_where_all_its_comparisons_do(condition, holds):
     action = action_of(f"count when {condition}")
+    assert isinstance(action, Counting)
     assert action.holds(REGISTERS) is holds and action.registers <= REGISTERS.keys()
 
 

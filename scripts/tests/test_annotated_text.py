@@ -1,6 +1,5 @@
 """The text that `vaknuhol annotate` prints."""
-from types import SimpleNamespace
-
+from tests.doubles import double
 from vaknuhol.views.annotation import Block, Instruction, Part, Source
 from vaknuhol.views.annotation_text import text_of
 
@@ -9,7 +8,7 @@ def test_columns_are_kept_where_counts_are_long() -> None:
     """And a line of source with tabs stays within the terminal's width."""
     part = Part("busy", [(0x401000, 0x401010)])
     part.entered, part.greatest = 1, 123456789012
-    rows = [SimpleNamespace(count=count, how=None) for count in (1, 123456789012)]
+    rows = [double(count=count, how=None) for count in (1, 123456789012)]
     items = [
         Block(rows[0]),
         Source("busy.c", 7, "\t\twhile (left)\t/* as long as any is */", ""),
@@ -17,7 +16,7 @@ def test_columns_are_kept_where_counts_are_long() -> None:
         Block(rows[1]),
         Instruction(0x401001, "dec     %rax"),
     ]
-    told = list(text_of(SimpleNamespace(names=str, items=lambda _: items), [part], 44, False))
+    told = list(text_of(double(names=str, items=lambda _: items), [part], 44, False))
     assert told[1:6] == [
         "",
         "              busy.c:7  while (left)    /* …",

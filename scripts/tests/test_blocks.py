@@ -1,9 +1,10 @@
 """The blocks of a program, their instructions, and which of them are chosen, against what is written here by hand."""
 import re
-from types import SimpleNamespace
+from typing import Any
 
 import pytest
 
+from tests.doubles import double
 from tests.programs import compile_text
 from vaknuhol.arguments import Refusal
 from vaknuhol.program.blocks import blocks_of, distances, words_of
@@ -37,7 +38,7 @@ work:
 .section .note.GNU-stack
 """
 COUNTS = {"_start": 2, "back": 2, "kernel": 1, "work": 1, "loop": 3, "last": 1}  # instructions
-ALL = dict(functions=False, symbols=None, jumps=False, within=None)
+ALL: dict[str, Any] = {"functions": False, "symbols": None, "jumps": False, "within": None}
 
 
 @pytest.fixture
@@ -79,12 +80,12 @@ def test_blocks_of_functions_are_those_that_begin_one(listing, labels):
     ids=["functions", "jumps", "symbols", "blocks"],
 )
 def test_arguments_choose_blocks(listing, labels, words, names):
-    chosen = choose("small", listing, SimpleNamespace(**{**ALL, **words}))
+    chosen = choose("small", listing, double(**{**ALL, **words}))
     assert [block.first for block in chosen] == [labels[name] for name in names]
 
 
 def test_a_range_chooses_blocks_from_its_first_address_on_and_below_its_second(listing, labels):
-    words = SimpleNamespace(**{**ALL, "within": (labels["back"], labels["loop"])})
+    words = double(**{**ALL, "within": (labels["back"], labels["loop"])})
     assert [block.first for block in choose("small", listing, words)] == [
         labels[name] for name in ("back", "kernel", "work")
     ]
@@ -92,7 +93,7 @@ def test_a_range_chooses_blocks_from_its_first_address_on_and_below_its_second(l
 
 def test_a_name_that_no_function_has_is_refused(listing):
     with pytest.raises(Refusal):
-        choose("small", listing, SimpleNamespace(**{**ALL, "symbols": re.compile("other")}))
+        choose("small", listing, double(**{**ALL, "symbols": re.compile("other")}))
 
 
 def test_all_blocks_of_this_program_have_support(listing):
@@ -126,6 +127,6 @@ def test_a_table_of_distances_ends_where_one_leads_to_no_instruction(listing, la
         labels["last"] + 1 - 0x402000,
         labels["work"] - 0x402000,
     ]
-    table = SimpleNamespace(read=lambda addr, size: b"".join(step.to_bytes(4, "little", signed=True) for step in steps))
+    table = double(read=lambda addr, size: b"".join(step.to_bytes(4, "little", signed=True) for step in steps))
     assert list(distances(table, 0x402000, listing)) == [labels["work"], labels["last"]]
     assert Program("small").is_code(labels["work"])

@@ -91,7 +91,7 @@ def test_a_call_that_fails_is_a_fault_of_its_file(cases: Cases, before: dict[str
     cases.try_row(row, env={**before, "FAIL": row.what})
 
 
-TEXTS = {"O": b"before O", "R": b"before R"}
+TEXTS: dict[str, object] = {"O": b"before O", "R": b"before R"}
 
 
 @pytest.mark.parametrize("number, name", list(enumerate(INPUTS, 1)))
@@ -104,7 +104,7 @@ def test_an_input_of_which_nothing_is_told_is_a_fault(
     cases.try_row(row, env={**before, "FAIL_STATX": str(number)})
 
 
-@pytest.mark.parametrize("number, name, left", [(4, "O", TEXTS), (5, "R", {**TEXTS, "O": OUT})])
+@pytest.mark.parametrize("number, name, left", [(4, "O", TEXTS), (5, "R", TEXTS | {"O": OUT})])
 def test_an_output_of_which_nothing_is_told_stays_as_it_was(
     cases: Cases, before: dict[str, str], number, name, left
 ) -> None:

@@ -1,9 +1,8 @@
 """Which blocks belong to source lines, and the counts of branches and lines in outputs, by tables that are made up."""
-from types import SimpleNamespace
-
 import pytest
 
 import vaknuhol.program.source_lines
+from tests.doubles import double
 from vaknuhol.program.flow_graph import FALL, JUMP, NEXT, RETURN, Graph
 from vaknuhol.program.loops import body_of
 from vaknuhol.program.source_lines import with_lines
@@ -16,7 +15,7 @@ from vaknuhol.views.lcov import section
 from vaknuhol.views.line_counts import Line, LineCounts
 
 BLOCKS = [
-    SimpleNamespace(first=first, end=end) for first, end in ((0x10, 0x18), (0x18, 0x20), (0x20, 0x24), (0x30, 0x34))
+    double(first=first, end=end) for first, end in ((0x10, 0x18), (0x18, 0x20), (0x20, 0x24), (0x30, 0x34))
 ]
 
 
@@ -24,7 +23,7 @@ def info_of(pieces, points=()):
     """Debugging information with pieces of code (first, end, line) and rows without a length of one file."""
     low, high, lines = zip(*pieces) if pieces else ((), (), ())
     at, at_lines = zip(*points) if points else ((), ())
-    return SimpleNamespace(
+    return double(
         files=["own.c"],
         piece_low=low,
         piece_high=high,
@@ -91,7 +90,7 @@ def test_a_loop_that_is_tested_at_its_end_goes_round_once_less_than_its_body():
 
 def test_a_branch_is_taken_and_not_taken_as_its_edges_are():
     flow = Flow(loop(), [1, 8, 7, 1])
-    copies = SimpleNamespace(last_line={0: (0, (0, 4)), 1: (0, (0, 5)), 2: (0, (0, 6))})
+    copies = double(last_line={0: (0, (0, 4)), 1: (0, (0, 5)), 2: (0, (0, 6))})
     assert branches_of(copies, flow) == {(0, 5): [(1, 7)]}
 
 
@@ -102,7 +101,7 @@ def test_the_same_branch_of_several_copies_is_added_up():
 
 def joiner(is_coverage):
     counts = LineCounts.__new__(LineCounts)
-    counts.flow = SimpleNamespace(is_coverage=is_coverage, counts=[4, None, 0, 9])
+    counts.flow = double(is_coverage=is_coverage, counts=[4, None, 0, 9])
     return counts
 
 
@@ -137,6 +136,6 @@ def test_rates_are_of_what_was_executed():
 
 
 def test_a_block_that_is_longer_than_drcov_allows_is_told_in_parts():
-    row = SimpleNamespace(first=0x1000, end=0x1000 + 0x20001)
+    row = double(first=0x1000, end=0x1000 + 0x20001)
     assert list(parts_of(row)) == [(0x1000, 0xFFFF), (0x10FFF, 0xFFFF), (0x20FFE, 3)]
     assert list(parts_of(BLOCKS[0])) == [(0x10, 8)]

@@ -21,50 +21,23 @@ from tests.real_files import (
     refused,
 )
 
+TWICE = {"O": OUT, "R": OUT}
 # OUT or REPORT is an input, or REPORT is OUT, by another name: it is refused before anything is lost.
 SPELLINGS = [
     row
     for it in INPUTS
     for row in (
         Row(f"OUT is ./{it}", nothing, f"./{it}", "R", *refused(f"./{it}"), {"R": NOTHING}),
-        Row(
-            f"OUT is a symbolic link to {it}",
-            links(os.symlink, it, "O"),
-            "O",
-            "R",
-            *refused("O"),
-            {"O": it, "R": NOTHING},
-        ),
+        Row(f"OUT is a link to {it}", links(os.symlink, it, "O"), "O", "R", *refused("O"), {"O": it, "R": NOTHING}),
         Row(f"OUT is a hard link of {it}", links(os.link, it, "O"), "O", "R", *refused("O"), {"O": it, "R": NOTHING}),
         Row(f"REPORT is ./{it}", nothing, "O", f"./{it}", *refused(f"./{it}"), {"O": OUT}),
-        Row(
-            f"REPORT is a symbolic link to {it}",
-            links(os.symlink, it, "R"),
-            "O",
-            "R",
-            *refused("R"),
-            {"O": OUT, "R": it},
-        ),
+        Row(f"REPORT is a link to {it}", links(os.symlink, it, "R"), "O", "R", *refused("R"), {"O": OUT, "R": it}),
         Row(f"REPORT is a hard link of {it}", links(os.link, it, "R"), "O", "R", *refused("R"), {"O": OUT, "R": it}),
     )
 ] + [
     Row("REPORT is ./OUT", nothing, "O", "./O", *refused("./O"), {"O": OUT}),
-    Row(
-        "REPORT is a link to OUT, which is not there yet",
-        links(os.symlink, "O", "R"),
-        "O",
-        "R",
-        *refused("R"),
-        {"O": OUT, "R": OUT},
-    ),
-    Row(
-        "OUT and REPORT are one file",
-        lambda: (holds("O")(), os.link("O", "R")),
-        "O",
-        "R",
-        *refused("R"),
-        {"O": OUT, "R": OUT},
-    ),
+    Row("REPORT is a link to OUT, which is not there yet", links(os.symlink, "O", "R"), "O", "R", *refused("R"), TWICE),
+    Row("OUT and REPORT are one file", lambda: (holds("O")(), os.link("O", "R")), "O", "R", *refused("R"), TWICE),
     Row(
         "OUT is a link to a file of its own",
         lambda: (holds("old")(), os.symlink("old", "O")),
@@ -114,8 +87,8 @@ def test_a_name_with_blanks_leads_to_no_file_without_them(cases: Cases, front: s
     for name, text in zip(named, INPUTS):
         os.rename(text, name)
     others = {name: b"another " + name.encode() for name in (*INPUTS, "O", "R")}
-    for name, text in others.items():
-        holds(name, text)()
+    for name, held in others.items():
+        holds(name, held)()
     *inputs, out, report = named
     row = Row(f"names with blanks: {named}", nothing, out, report, 0, SUMMARY, {**others, out: OUT, report: REPORT})
     cases.try_row(row, inputs)
@@ -149,7 +122,7 @@ def mounted(names: tuple[str, ...]) -> list[str]:
 def same_number(one: str, other: str) -> bool:
     """Whether two files of two file systems are made so that both have one number there: of 64 files each, where not
     the first."""
-    numbers = {}
+    numbers: dict[int, dict[str, str]] = {}
     for folder in (one, other):
         for count in range(64):
             holds(f"{folder}/{count}")()

@@ -1,8 +1,9 @@
 """Records: what is written is read, and records are added up."""
-from types import SimpleNamespace
+import array
 
 import pytest
 
+from tests.doubles import double
 from vaknuhol.arguments import Refusal
 from vaknuhol.recording.actions import action_of
 from vaknuhol.recording.record_file import Record, Row, counted, remembered, write_record
@@ -14,10 +15,10 @@ BLOCKS = [(0x401000, 0x401008, 0x401004), (0x401008, 0x40100C, 0x401008), (0x401
 
 
 def report_of(action, patched, left):
-    return SimpleNamespace(action=action_of(action), hash=HASH, for_threads=False, patched=patched, left=left)
+    return double(action=action_of(action), hash=HASH, for_threads=False, patched=patched, left=left)
 
 
-RUN = SimpleNamespace(blocks=BLOCKS)
+RUN = double(blocks=BLOCKS)
 COUNTS = report_of("count", {0x401004: 1, 0x401008: 0}, {0x40100C: "Shared"})
 
 
@@ -38,7 +39,7 @@ def record_of(name, counts, **how):
 
 def test_each_block_has_the_count_of_its_site():
     """By the site's number, and in its place the outcome where the site was left."""
-    record = written("record", list(counted(COUNTS, RUN, [7, 9])))
+    record = written("record", list(counted(COUNTS, RUN, array.array("Q", [7, 9]))))
     assert [(row.first, row.end, row.site, row.count, row.outcome) for row in record.rows] == [
         (*BLOCKS[0], 9, None),
         (*BLOCKS[1], 7, None),
@@ -51,8 +52,8 @@ def test_each_block_has_the_count_of_its_site():
 def test_the_events_of_each_process_are_in_their_order():
     ring = report_of("ring:3", {0x401004: 0, 0x401008: 1}, {0x40100C: "NoPlan"})
     spaces = [
-        SimpleNamespace(number=2, ended="signal 11", after=[1, 2, 1, 2]),
-        SimpleNamespace(number=1, ended="exit 3", after=[0, 0, 9, 1]),
+        double(number=2, ended="signal 11", after=[1, 2, 1, 2]),
+        double(number=1, ended="exit 3", after=[0, 0, 9, 1]),
     ]
     record = written(
         "record", list(remembered(ring, RUN, spaces)), action="ring:3", seen={"processes": 2, "threads": 0, "execs": 0}

@@ -1,8 +1,7 @@
 """Which instruction of a block is its site, by rows of a listing that are made up."""
-from types import SimpleNamespace
-
 import pytest
 
+from tests.doubles import double
 from vaknuhol.program.blocks import Block
 from vaknuhol.program.listing_file import BESIDE, BRANCH, CALL, FALLS, FAULTS, FIXED, JUMP, SHARED, UNSURE
 from vaknuhol.recording.action_places import BITS, changed, front
@@ -17,7 +16,7 @@ def block_of(*rows):
     """A block at 0x1000 of instructions: kind, size, marks, registers that are written."""
     kinds, sizes, marks, writes = zip(*((*row, 0, 0)[:4] for row in rows))
     addresses = [0x1000 + sum(sizes[:number]) for number in range(len(rows))]
-    listing = SimpleNamespace(addr=addresses, size=sizes, kind=kinds, marks=marks, writes=writes)
+    listing = double(addr=addresses, size=sizes, kind=kinds, marks=marks, writes=writes)
     return Block(listing, 0, len(rows))
 
 

@@ -41,7 +41,7 @@ def test_a_program_that_runs_on_is_dumped_three_times(counted_tour):
 
 
 def test_a_program_that_is_not_patched_has_nothing_to_dump():
-    it = subprocess.Popen(["sleep", "60"])
+    it = subprocess.Popen(["sleep", "3600"])
     try:
         assert "which is no patched file by its name" in call("dump", str(it.pid), status=2)[1]
     finally:

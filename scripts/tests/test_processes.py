@@ -49,6 +49,7 @@ def works():
 def slow_program(**how):
     """The script with the program that goes on until a signal, the pid of the program, and what it prints."""
     it = subprocess.Popen(words_of("run_and_record", *FILES, "slow"), stdout=subprocess.PIPE, **how)
+    assert it.stdout
     return it, int(it.stdout.readline())
 
 
@@ -118,7 +119,7 @@ def test_stops_and_signals_reach_the_program_once_each(counted):
     it.send_signal(signal.SIGUSR1)
     assert comes(it, b"signal\n."), "a signal to the script doesn't reach the program"
     it.send_signal(signal.SIGTERM)
-    status, told = it.wait(), it.stdout.read()
+    status, told = it.wait(SOON / 10), it.stdout.read()
     assert status == 9 and told.count(b"signal\n") == 1, f"{status} {told}"
 
 
@@ -130,7 +131,7 @@ def test_stops_of_job_control_reach_the_program(counted):
     os.killpg(it.pid, signal.SIGCONT)
     assert comes(it, b"."), "the job stands still after SIGCONT"
     os.kill(pid, signal.SIGKILL)
-    assert it.wait() == 128 + signal.SIGKILL and works() > 0
+    assert it.wait(SOON / 10) == 128 + signal.SIGKILL and works() > 0
 
 
 def test_sigpipe_reaches_the_program(counted):
@@ -184,7 +185,7 @@ def test_a_program_without_threads_is_not_warned_of(processes):
 def test_a_shell_prints_as_it_does():
     """Debian's static busybox, with subshells and a pipe."""
     need("busybox")
-    busybox = shutil.which("busybox")
+    busybox = shutil.which("busybox") or ""
     try:
         Program(busybox)
     except Refusal:

@@ -41,7 +41,7 @@ int main(int argc, char **argv) {
         tour::walk(many);
         abort();
     } else if (!strcmp(how, "long"))
-        for (int i = 0; i < 60000; i++) {
+        for (int i = 0; i < 360000; i++) {
             tour::walk(10);
             usleep(10000);
         }

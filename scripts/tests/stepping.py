@@ -17,7 +17,8 @@ USER = (
 def single_steps(command, seen, at_end=lambda pid: None, status=0, signalled=lambda pid: None):
     """Runs a program instruction by instruction: `seen` is called with its pid before each, `signalled` where a signal
     comes before the instruction is made, and `at_end` as it ends."""
-    kept, null, stopped = os.dup(1), os.open(os.devnull, os.O_WRONLY), None
+    kept, null = os.dup(1), os.open(os.devnull, os.O_WRONLY)
+    stopped: int | None = None
     os.dup2(null, 1)
     pid = start(command[0], command)
     os.dup2(kept, 1)
@@ -39,7 +40,8 @@ def single_steps(command, seen, at_end=lambda pid: None, status=0, signalled=lam
 
 def visits_of(path, status, at_end=lambda pid: None):
     """How often the program stands at each address, and what at_end reads as it ends."""
-    visits, read = collections.Counter(), []
+    visits: collections.Counter[int] = collections.Counter()
+    read = []
 
     def seen(pid):
         visits[register(pid, RIP)] += 1

@@ -92,10 +92,10 @@ def of_ours(level, source="copies"):
     call("report", name, "--json", f"{name}.json", "--lcov", f"{name}.info")
     with open(f"{name}.json", encoding="utf-8") as file:
         told = json.load(file)
-    (file,) = told["files"]
-    lines = {it["line_number"]: it["count"] for it in file["lines"] if not it["gcovr/noncode"]}
-    ways = {it["line_number"]: sorted(way["count"] for way in it["branches"]) for it in file["lines"]}
-    return lines, {it["symbol"]: it for it in file["functions"]}, ways, told
+    (own,) = told["files"]
+    lines = {it["line_number"]: it["count"] for it in own["lines"] if not it["gcovr/noncode"]}
+    ways = {it["line_number"]: sorted(way["count"] for way in it["branches"]) for it in own["lines"]}
+    return lines, {it["symbol"]: it for it in own["functions"]}, ways, told
 
 
 def assert_known(theirs, ours, known):

@@ -1,7 +1,8 @@
-"""Ten programs without optimization, and two with it, beside gcov, line by line: each count that differs is known, and so is why.
+"""Ten programs without optimization, and two with it, beside gcov, line by line: each count that differs is known, and
+so is why.
 
 Lines that only one of both counts aren't compared: labels alone have no code, and the end of a function without a value
-has no statement. """
+has no statement."""
 import glob
 import json
 import os
@@ -27,7 +28,7 @@ BARE, CONVERTED, FOLDED = (
     "the first test of a loop, which always holds, has no code",
 )
 # The differences of each program: by lines gcov's count, ours, and why; by functions the same.
-PROGRAMS = {
+PROGRAMS: dict[str, dict[int | str, tuple[int, int, str]]] = {
     "sorts.c": {},
     "graph.c": {},
     "grid.c": {},
@@ -53,7 +54,9 @@ def built(source, name, *flags):
 
 def of_gcov(source, *flags):
     """gcov's lines and functions; of a function's instances the sum."""
-    folder, lines, functions = f"{source}{''.join(flags)}.counted", {}, {}
+    folder = f"{source}{''.join(flags)}.counted"
+    lines: dict[int, int] = {}
+    functions: dict[str, int] = {}
     os.makedirs(folder)
     built(source, f"{folder}/program", "--coverage", *flags)
     run(f"{folder}/program")
@@ -74,14 +77,14 @@ def of_ours(source, *flags):
     call("report", name, "--json", f"{source}.json")
     with open(f"{source}.json", encoding="utf-8") as file:
         told = json.load(file)
-    (file,) = [it for it in told["files"] if os.path.basename(it["file"]) == source]
+    (own,) = [it for it in told["files"] if os.path.basename(it["file"]) == source]
     unknown = sum(1 for it in told["blocks"] if it["count"] is None)
     assert (
         1000 * unknown <= len(told["blocks"]) and not told["contradicting blocks"]
     ), f"{source}: {unknown} blocks are unknown"
     return (
-        {it["line_number"]: it["count"] for it in file["lines"] if not it["gcovr/noncode"]},
-        {it["symbol"]: it["execution_count"] for it in file["functions"]},
+        {it["line_number"]: it["count"] for it in own["lines"] if not it["gcovr/noncode"]},
+        {it["symbol"]: it["execution_count"] for it in own["functions"]},
     )
 
 

@@ -3,7 +3,7 @@ import re
 
 import pytest
 
-from tests.calls import run
+from tests.calls import match, run
 from tests.command import call, changed, patched_below
 from vaknuhol.program.kernel import FEW, MOST, entries_of, takes
 
@@ -31,7 +31,7 @@ def test_a_table_has_no_more_entries_than_a_kernel_takes(most, words, form, leas
     """By the loader form or by nearer code; what the kernel refuses is told."""
     printed, told = call("cover", "tour", "--functions", "--entries", str(FEW), *words, "--patch-only")
     (path,) = printed.split()
-    patched, chosen = (int(it) for it in re.search(r"patched ([0-9]+) of ([0-9]+) blocks", told).groups())
+    patched, chosen = (int(it) for it in match(r"patched ([0-9]+) of ([0-9]+) blocks", told).groups())
     assert entries_of(path) <= FEW < most and f"since the table may have {FEW} entries" in told and form in told, told
     assert 100 * patched > least * chosen, told
     assert run(f"./{path}", "walk", "100", status=(4,)) == WALKED

@@ -191,7 +191,8 @@ def test_each_output_of_each_command_is_tried():
 @pytest.mark.parametrize("words, status", OUTPUTS.values(), ids=map(" ".join, OUTPUTS))
 def test_an_output_is_written_where_its_name_leads(recorded, waiting, words, status):
     """Files, links, descriptors, pipes, devices, -; what can't be written is refused, and nothing else is left."""
-    writer = Writer(words, status, *recorded, waiting)
+    top, patched = recorded
+    writer = Writer(words, status, top, patched, waiting)
     whole = files(writer)
     standard(writer, whole)
     pipes(writer, whole)

@@ -25,7 +25,7 @@ def refused(name, words, text, status, environment=None):
 
 
 STATIC = "link with gcc -static -no-pie"
-PATCH = [
+PATCH: list[tuple[list[str], str]] = [
     (["lines.c", "--jumps"], "lines.c is no ELF file"),
     (["gone", "--jumps"], "gone: No such file or directory"),
     (["dynamic", "--jumps"], f"dynamic is position independent or dynamic: {STATIC}"),
@@ -86,7 +86,7 @@ PATCH = [
             ["lines", "--jumps", "--threads", *it],
             f"--threads: {ONLY_COUNTERS}; give --count with it, and neither --ring nor --when",
         )
-        for it in ([], ["--ring", "3"], ["--count", "--when", "rax > 0"])
+        for it in ((), ("--ring", "3"), ("--count", "--when", "rax > 0"))
     ),
     (
         ["hlt", "--symbols", "stop"],

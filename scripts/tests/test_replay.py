@@ -3,12 +3,13 @@ import os
 import re
 import subprocess
 import sys
-from types import SimpleNamespace
+from typing import Any
 
 import pytest
 from filelock import FileLock
 
-from tests.calls import SCRIPTS, SOURCES, run
+from tests.calls import SCRIPTS, SOURCES, match, run
+from tests.doubles import double
 from tests.needs import need
 from vaknuhol.recording.replay import steps_to
 
@@ -63,8 +64,8 @@ def replay(*words, tool=None):
 
 def check_well(program, *words):
     status, lines, told = replay(*words, program)
-    found = [re.fullmatch(form, line) for form, line in zip(WELL, lines)]
-    assert status == 0 and len(lines) == 4 and all(found), f"{words}: {status} {lines} {told}"
+    assert status == 0 and len(lines) == 4, f"{words}: {status} {lines} {told}"
+    found = [match(f"^{form}$", line) for form, line in zip(WELL, lines)]
     steps, asked, flags = map(int, found[0].groups())
     patched, sites, original, made = map(int, found[3].groups())
     assert 4000 < steps < 20000 and asked > 50 and flags > 50, lines
@@ -148,7 +149,8 @@ def test_what_cannot_be_replayed_is_refused(words, text):
 
 def test_a_patched_file_of_too_many_steps_is_compared_as_far_as_it_comes(program):
     code = (
-        "import sys, replay_run, vaknuhol.recording.replay; vaknuhol.recording.replay.MOST_STEPS = 3000; sys.exit(replay_run.main())"
+        "import sys, replay_run, vaknuhol.recording.replay as replay; "
+        "replay.MOST_STEPS = 3000; sys.exit(replay_run.main())"
     )
     done = subprocess.run(
         [sys.executable, "-c", code, "--steps", "3000", program],
@@ -205,7 +207,7 @@ class Counted:
     def after(self, count):
         steps = min(count, self.last)
         outside = sum(1 for at in self.outside if at <= steps)
-        return SimpleNamespace(steps=steps, outside=outside, lines={"rip": str(int(steps in self.outside))})
+        return double(steps=steps, outside=outside, lines={"rip": str(int(steps in self.outside))})
 
 
 def test_the_state_of_each_number_is_found_and_no_other():
@@ -213,7 +215,7 @@ def test_the_state_of_each_number_is_found_and_no_other():
     for apart in ([1] * 40, [24] * 40, [1, 9] * 20, [1] * 20 + [24] * 20 + [1] * 20):
         outside = [sum(apart[:count]) for count in range(len(apart) + 1)]
         for behind in (0, 7, 23):
-            patched = Counted(set(outside), outside[-1] + behind)
+            patched: Any = Counted(set(outside), outside[-1] + behind)
             for number, at in enumerate(outside):
                 assert steps_to(patched, {1}, number + 1) == at, (apart, behind, number)
             assert steps_to(patched, {1}, len(outside) + 1) is None

@@ -9,7 +9,7 @@ from xml.etree import ElementTree
 
 import pytest
 
-from tests.calls import SOURCES, leave, run
+from tests.calls import SOURCES, leave, match, run
 from tests.command import LAST, STEP, call, counts
 from tests.needs import need
 from tests.programs import Programs, build, inside
@@ -41,8 +41,14 @@ def gcov_lines():
 def lines_of(path):
     """The lines of the one file of a report, with their counts."""
     with open(path, encoding="utf-8") as file:
-        (file,) = json.load(file)["files"]
-    return {it["line_number"]: it["count"] for it in file["lines"] if not it["gcovr/noncode"]}
+        (own,) = json.load(file)["files"]
+    return {it["line_number"]: it["count"] for it in own["lines"] if not it["gcovr/noncode"]}
+
+
+def hits_of(top: ElementTree.Element) -> dict[int, int]:
+    """The lines of the one class of a Cobertura file, with their hits."""
+    (one,) = top.iter("class")
+    return {int(it.attrib["number"]): int(it.attrib["hits"]) for it in one.iterfind("lines/line")}
 
 
 class Reported:
@@ -120,10 +126,8 @@ def test_lcov_and_genhtml_read_the_tracefile(reported):
 def test_the_cobertura_file_has_the_lines_and_methods(reported):
     ours = reported.lines
     top = ElementTree.parse("tour.xml").getroot()
-    (classes,) = top.iter("classes")
-    (one,) = classes
-    read = {int(it.get("number")): int(it.get("hits")) for it in one.find("lines")}
-    assert read == ours and one.get("filename") == reported.source.lstrip("/"), read
+    (one,) = top.iter("class")
+    assert hits_of(top) == ours and one.get("filename") == reported.source.lstrip("/"), hits_of(top)
     assert STEP in [it.get("name") for it in top.iter("method")]
 
 
@@ -144,8 +148,7 @@ def test_gcovr_reads_the_json_and_writes_the_same_cobertura(reported):
     assert [theirs.get(it) for it in same] == [
         top.get(it) for it in same
     ], "gcovr's own Cobertura of our JSON has other lines"
-    read = {int(it.get("number")): int(it.get("hits")) for it in theirs.find(".//class").find("lines")}
-    assert read == ours, "gcovr reads other counts"
+    assert hits_of(theirs) == ours, "gcovr reads other counts"
 
 
 @pytest.mark.skipif(not shutil.which("diff-cover"), reason="diff-cover is not here, which Debian 12 has no package of")
@@ -181,9 +184,7 @@ def test_the_drcov_file_has_the_layout_that_dynamorio_documents(reported):
     ends = [int(addr, 16) + int(size, 16) for addr, size in loads]
     assert int(base, 16) == 0x400000 == min(at for at, _, _ in program.segments) and len(ends) == len(program.segments)
     assert int(end, 16) == max(ends) + 0xFFF & ~0xFFF > max(at + len(data) for at, _, data in program.segments), end
-    assert int(entry, 16) == int(
-        re.search(r"Entry point address: +(0x[0-9a-f]+)", run("readelf", "-h", "tour")).group(1), 16
-    )
+    assert int(entry, 16) == int(match(r"Entry point address: +(0x[0-9a-f]+)", run("readelf", "-h", "tour"))[1], 16)
     table = data[head.end() :]
     assert len(table) == 8 * blocks
     told = [(int(base, 16) + start, size, module) for start, size, module in struct.iter_unpack("<IHH", table)]

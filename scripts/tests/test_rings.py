@@ -1,10 +1,9 @@
 """Rings: the records are what single steps of the original tell."""
-import re
 import signal
 
 import pytest
 
-from tests.calls import TOP, patch, path_of, record, script
+from tests.calls import TOP, match, patch, path_of, record, script
 from tests.programs import Programs, inside
 from tests.stepping import single_steps
 from tests.tracing import RIP, register
@@ -90,7 +89,7 @@ def test_a_slot_that_something_else_wrote_is_read_as_unknown(crashed):
 def test_the_table_shows_what_ran_last_before_a_crash(crashed):
     shown = script("show_coverage", "crash", "record").splitlines()
     assert shown[0] == "process 1, which ended by SIGSEGV: its last 5 executions of sites, oldest first", shown
-    told = [re.fullmatch(r" +(\d) [0-9a-f]{8} [0-9a-f]{8}  (\w+) crash.c:\d+", line).groups() for line in shown[2:7]]
+    told = [match(r"^ +(\d) [0-9a-f]{8} [0-9a-f]{8}  (\w+) crash.c:\d+$", line).groups() for line in shown[2:7]]
     assert [number for number, _ in told] == list("12345"), told
     assert [function for _, function in told] == ["discount", "worth", "sum", "sum", "worth"], told
     assert script("show_coverage", "crash", "record", "--lcov", "a", status=(2,)) == (

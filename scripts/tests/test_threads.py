@@ -63,7 +63,8 @@ def test_each_line_has_as_many_executions_as_the_source_says(threads):
             int(number): int(count) for number, count in re.findall(r"^DA:([0-9]+),([0-9]+)", file.read(), re.M)
         }
     methods = ElementTree.parse("threads.xml").getroot().iter("method")
-    assert {it.get("name"): int(it.find("lines/line").get("hits")) for it in methods} == {"add": 4, "main": 1}
+    hits = {it.get("name"): [line.get("hits") for line in it.iterfind("lines/line")][0] for it in methods}
+    assert hits == {"add": "4", "main": "1"}
     with open("threads.drcov", "rb") as file:
         assert f"BB Table: {sum(1 for it in known(LAST).values() if it)} bbs\n".encode() in file.read()
 
@@ -114,7 +115,7 @@ def test_a_dump_of_a_program_that_waits_has_all_its_counts(threads):
     (path,) = call("count", "threads", "--threads", "--patch-only")[0].split()
     it = subprocess.Popen([f"./{path}", "wait"], stdout=subprocess.PIPE, text=True)
     try:
-        assert it.stdout.readline() == SUM
+        assert it.stdout and it.stdout.readline() == SUM
         shown, _ = call("dump", str(it.pid), "--record", "dumped")
         assert f"{4 * TIMES}  add  threads.c:" in shown and Record("dumped").for_threads, shown
     finally:

@@ -102,6 +102,6 @@ def test_a_child_that_crashes_has_a_table_of_its_own(crashed):
     assert (child.number, child.ended, first.number, first.ended) == (2, "signal 11", 1, "exit 3")
     shown = script("show_coverage", "crash", "record")
     assert shown.startswith("process 2, which ended by SIGSEGV") and "process 1," not in shown, shown
-    assert "signal ended: 1 (--all" in shown and "it is of 2 processes; 0 threads" in shown, shown
+    assert "signal ended: 1 (--all" in shown and "it is of 2 processes\n" in shown, shown
     shown = script("show_coverage", "crash", "record", "--all")
     assert "process 1, which ended with status 3: its last 5" in shown, shown

@@ -47,7 +47,7 @@ def test_each_line_has_as_many_executions_as_the_source_says(threads):
     """Four threads count in the same blocks; each output has the same."""
     printed, shown = call("count", "threads", "--threads")
     assert printed == SUM and "warning" not in shown and "--threads" not in shown, shown
-    assert "; 4 threads and 0 starts" in shown and f"{4 * TIMES}  add  threads.c:" in shown, shown
+    assert "it is of 1 process, with 4 threads\n" in shown and f"{4 * TIMES}  add  threads.c:" in shown, shown
     call(
         "report",
         "threads",

@@ -15,7 +15,6 @@ from vaknuhol.recording.action_options import action_of_type
 from vaknuhol.recording.actions import Action, CoverOfCounters, action_of
 from vaknuhol.recording.default_choice import add_choice, complete
 from vaknuhol.recording.kept_patches import Kept, folder_of
-from vaknuhol.recording.record_file import Record
 from vaknuhol.recording.runs import run
 from vaknuhol.recording.thread_patch import ONLY_COUNTERS
 from vaknuhol.recording.thread_use import started_by
@@ -138,9 +137,8 @@ def do(words: argparse.Namespace) -> int:
             print(part.files.patched)
         return 0
     with as_file(record_path(words)) as path:
-        status, is_recorded = run(kept, [words.program, *(words.own_words or [])], path)
+        status, record = run(kept, [words.program, *(words.own_words or [])], path)
         del kept  # its reports take more room than the record
-        record = Record(path) if is_recorded else None
     manner.results = sys.stderr
     if record and not words.quiet:
         for line in summary(Coverage(words.program, record, words.source, folder=words.into)):

@@ -9,6 +9,7 @@ they are `prog.vak/prog.ring.`, whatever its length, and with a condition `prog.
 import itertools
 import os
 import re
+import struct
 
 from vaknuhol.arguments import Refusal, file_name
 from vaknuhol.program.blocks import Block
@@ -20,8 +21,8 @@ from vaknuhol.recording.thread_patch import ThreadPatch
 HEAD = "vakblocks 1"
 REPORT, SUMMARY, THREADS = "report", "summary", "threads"
 ENDINGS = ("starts", "sites", "patched", REPORT, SUMMARY, "blocks")
-LINE = re.compile(r"^([0-9a-f]{8}) ([0-9a-f]{8}) ([0-9a-f]{8})$", re.M)
-ROW = "%08x %08x %08x\n"
+ROWS = re.compile(r"(?:[0-9a-f]{8} [0-9a-f]{8} [0-9a-f]{8}\n)*")
+ROW, NUMBERS = "%08x %08x %08x\n", struct.Struct(">3I")
 
 
 class RunFiles:
@@ -85,13 +86,11 @@ class Run:
 
     def read(self, report: Patch) -> None:
         path = self.files.blocks
-        lines = read_text(path).splitlines()
-        if lines[:1] != [HEAD] or lines[-1] != "end":
-            raise Refusal(f"{path} is no file of blocks: patch again")
-        heads = dict(line.split(" ", 1) for line in lines[1:3 + len(self.files.hashed)] if " " in line)
-        rows = lines[3 + len(self.files.hashed):-1]
-        found = LINE.findall("\n".join(rows))
-        if len(found) != len(rows) or not {"action", "program", *self.files.hashed} <= heads.keys():
+        text = read_text(path)
+        head, *lines = text.removesuffix("end\n").split("\n", 3 + len(self.files.hashed))
+        heads, rows = dict(line.split(" ", 1) for line in lines[:-1] if " " in line), lines[-1] if lines else ""
+        is_whole = head == HEAD and text.endswith("\nend\n") and ROWS.fullmatch(rows)
+        if not is_whole or not {"action", "program", *self.files.hashed} <= heads.keys():
             raise Refusal(f"{path} is no file of blocks: patch again")
         if heads[report.ending] != report.text_hash or heads["action"] != report.action.name:
             raise Refusal(f"{report.path} is of another run than {path}: patch again")
@@ -100,7 +99,7 @@ class Run:
             if os.path.isfile(other) and file_hash(other) != heads[ending]:
                 raise Refusal(f"{other} is of another run than {report.path}: patch again")
         self.program_hash, self.patched_hash = heads["program"], heads["patched"]
-        self.blocks = [(int(first, 16), int(end, 16), int(site, 16)) for first, end, site in found]
+        self.blocks = [(first, end, site) for first, end, site in NUMBERS.iter_unpack(bytes.fromhex(rows))]
 
     def check_patched(self, path: str, report: Patch) -> None:
         """Refuses every program but the one that was written with the report."""

@@ -7,20 +7,22 @@ import abc
 import collections
 import functools
 import hashlib
+import os
 import re
 from collections.abc import Iterable, Iterator
 from typing import Any
 
 from vaknuhol.arguments import Refusal
-from vaknuhol.program.program_file import Program, read_text
+from vaknuhol.program.program_file import Program, file_hash, read_text
 from vaknuhol.recording.actions import Action, ActionError, action_of
 
 SCRATCH = 64
 LEFT = ("NotRelocatable", "NoPlan", "Shared")
 
 
-def text_hash(text: str) -> str:
-    return hashlib.sha256(text.encode()).hexdigest()
+def text_hash(path: str, text: str) -> str:
+    """The hash of a text that was read: of a file that can be read again, as it may be known already."""
+    return file_hash(path) if os.path.isfile(path) else hashlib.sha256(text.encode()).hexdigest()
 
 
 def outcome_counts(outcomes: Iterable[str | None]) -> str:
@@ -95,7 +97,7 @@ class Report(Patch):
         if not text.startswith(("e9report 1\n", "e9report 2\n")) or not text.endswith("\nend\n"):
             raise Refusal(f"{path} is no report of e9tool patch")
         self.path, self.text = path, text
-        self.hash = self.text_hash = text_hash(text)
+        self.hash = self.text_hash = text_hash(path, text)
         actions, privates = ACTION.found(path, text), PRIVATE.found(path, text)
         for line in actions:
             try:

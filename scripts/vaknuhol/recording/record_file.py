@@ -177,8 +177,12 @@ class Record:
         found = LINE.findall(body)
         if len(found) < body.count("\n"):
             raise self.no_record(next(line for line in body.splitlines() if not LINE.fullmatch(line)))
-        self.rows = [Row(int(first, 16), int(end, 16), int(site, 16), int(count) if count else None, outcome or None)
-                     for first, end, site, count, outcome in found]
+        self.take_over([Row(int(first, 16), int(end, 16), int(site, 16), int(count) if count else None, outcome or None)
+                        for first, end, site, count, outcome in found])
+
+    def take_over(self, rows: list[Row]) -> None:
+        """Takes rows as its own, and what they tell of left blocks."""
+        self.rows = rows
         outcomes = [row.outcome for row in self.rows if row.count is None]
         self.left, self.why_left = len(outcomes), outcome_counts(outcomes)
 

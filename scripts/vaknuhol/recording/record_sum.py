@@ -1,19 +1,18 @@
 """Records of one program added up: a block's count is the sum over the records that know it."""
+import copy
 import hashlib
-import os
-import tempfile
 
 from vaknuhol.arguments import Refusal
 from vaknuhol.recording.record_file import Record, Row, write_record
 
-WORD = 1 << 64
+WORD, SEEN = 1 << 64, ("processes", "threads", "execs")
 
 
 class Sum:
     """The sum, in the place of a report, as records are written of them."""
 
     def __init__(self, records: list[Record], of_one_run: bool = False) -> None:
-        first = records[0]
+        self.first = first = records[0]
         for record in records[1:]:
             self.compare(first, record)
         if first.action.is_ring:
@@ -25,7 +24,7 @@ class Sum:
         self.state = "running" if any(record.state == "running" for record in records) else "ended"
         self.for_threads = (any(record.for_threads for record in records)
                             and all(record.for_threads or not record.threads for record in records))
-        seen = {name: [getattr(record, name) for record in records] for name in ("processes", "threads", "execs")}
+        seen = {name: [getattr(record, name) for record in records] for name in SEEN}
         self.seen = {name: max(numbers) if of_one_run else sum(numbers) for name, numbers in seen.items()}
         self.rows: dict[int, Row] = {}
         for record in records:
@@ -53,15 +52,17 @@ class Sum:
         else:
             known.count = (known.count + row.count) % WORD if self.action.adds else known.count | row.count
 
+    def sorted_rows(self) -> list[Row]:
+        return [row for _, row in sorted(self.rows.items())]
+
     def write(self, path: str) -> None:
-        write_record(path, self, self.program_hash, (row.line() for _, row in sorted(self.rows.items())), self.state,
-                     self.seen)
+        write_record(path, self, self.program_hash, (row.line() for row in self.sorted_rows()), self.state, self.seen)
 
     def as_record(self, name: str) -> Record:
         """The sum as a record that was read, which goes by a name in messages."""
-        with tempfile.TemporaryDirectory() as folder:
-            path = os.path.join(folder, "sum")
-            self.write(path)
-            record = Record(path)
-        record.path = name
+        record = copy.copy(self.first)
+        record.path, record.report_hash = name, self.hash
+        record.state, record.for_threads = self.state, self.for_threads
+        record.processes, record.threads, record.execs = (self.seen[name] for name in SEEN)
+        record.take_over(self.sorted_rows())
         return record

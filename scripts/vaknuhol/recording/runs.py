@@ -50,9 +50,9 @@ def silence() -> Iterator[None]:
         os.close(null)
 
 
-def run_parts(parts: list[Part], command: list[str], record: str) -> tuple[int, bool]:
-    """Makes the run once with each file, and adds up the records; the status of the first, and whether there is a
-    record."""
+def run_parts(parts: list[Part], command: list[str], record: str) -> tuple[int, Record | None]:
+    """Makes the run once with each file, and adds up the records; the status of the first, and the record, if there is
+    one."""
     halves = [f"{record}.{number}" for number in range(1, len(parts) + 1)]
     statuses: list[int] = []
     note(f"the blocks are in {len(parts)} patched files, so the program runs {len(parts)} times with the same words "
@@ -65,14 +65,15 @@ def run_parts(parts: list[Part], command: list[str], record: str) -> tuple[int, 
                 status, is_recorded = run_part(part, command, half)
             statuses.append(status)
             if not is_recorded:
-                return statuses[0], False
+                return statuses[0], None
     if len(set(statuses)) > 1:
         text = " ".join(str(status) for status in statuses)
         note(f"warning: the runs ended differently ({text}): the record is the sum of runs that were not the same")
-    Sum([Record(half) for half in halves], of_one_run=True).write(record)
+    whole = Sum([Record(half) for half in halves], of_one_run=True)
+    whole.write(record)
     for half in halves:
         os.remove(half)
-    return statuses[0], True
+    return statuses[0], whole.as_record(record)
 
 
 def run_part(part: Part, command: list[str], record: str) -> tuple[int, bool]:
@@ -80,13 +81,14 @@ def run_part(part: Part, command: list[str], record: str) -> tuple[int, bool]:
     return run_recorded(kept_table(part.files.stem, part.report, part.run), part.files.patched, command, record)
 
 
-def run(kept: Kept, command: list[str], record: str) -> tuple[int, bool]:
-    """Runs the patched files of a choice; the status with which the program ended, as shells have it, and whether there
-    is a record."""
+def run(kept: Kept, command: list[str], record: str) -> tuple[int, Record | None]:
+    """Runs the patched files of a choice; the status with which the program ended, as shells have it, and the record,
+    if there is one."""
     for part in kept.parts:
         if part.entries() > kept.runs_here:
             refuse_too_many(part.files.patched, part.entries(), kept.runs_here)
     if len(kept.parts) > 1:
         return run_parts(kept.parts, command, record)
     (part,) = kept.parts
-    return run_part(part, command, record)
+    status, is_recorded = run_part(part, command, record)
+    return status, Record(record) if is_recorded else None

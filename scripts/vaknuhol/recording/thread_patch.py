@@ -74,7 +74,7 @@ class ThreadPatch(Patch):
         if not found:
             raise Refusal(f"{path} is no summary that e9tool threads printed")
         self.path, self.action = path, action_of("count")
-        self.hash, self.text_hash = file_hash(patched), text_hash(text)
+        self.hash, self.text_hash = file_hash(patched), text_hash(path, text)
         self.patched, self.left, self.private = {}, {}, 0
         self.events: list[tuple[int, int, int]] = []
         self.find(sites_in(sites), Program(patched), outcome_of_all(found.groups()[3:]))

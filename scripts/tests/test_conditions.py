@@ -29,8 +29,9 @@ def lines(programs: Programs) -> str:
 def met(actions, firsts):
     """How often `lines` comes to each address of some with a condition met, for each condition, by single steps. No
     instruction changes a register that `changed` doesn't name."""
-    listing, counts = Listing("lines"), [collections.Counter() for _ in actions]
-    before = None
+    listing = Listing("lines")
+    counts: list[collections.Counter[int]] = [collections.Counter() for _ in actions]
+    before: dict[str, int] = {}
 
     def seen(pid):
         nonlocal before
@@ -49,7 +50,8 @@ def met(actions, firsts):
 
 def equal_at_sites(report):
     """Each counter of a stepped run of the patched `lines` is how often it came to the site with the condition met."""
-    counted, told = collections.Counter(), []
+    counted: collections.Counter[int] = collections.Counter()
+    told = []
 
     def seen(pid):
         rip = register(pid, RIP)

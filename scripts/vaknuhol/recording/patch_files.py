@@ -99,7 +99,7 @@ class Run:
             if os.path.isfile(other) and file_hash(other) != heads[ending]:
                 raise Refusal(f"{other} is of another run than {report.path}: patch again")
         self.program_hash, self.patched_hash = heads["program"], heads["patched"]
-        self.blocks = [(first, end, site) for first, end, site in NUMBERS.iter_unpack(bytes.fromhex(rows))]
+        self.blocks = [(row[0], row[1], row[2]) for row in NUMBERS.iter_unpack(bytes.fromhex(rows))]
 
     def check_patched(self, path: str, report: Patch) -> None:
         """Refuses every program but the one that was written with the report."""

@@ -20,8 +20,7 @@ NAMES = {"unpatch": "give the original of a patched file back, byte for byte"}
 def add_words(level: Level, name: str) -> None:
     add_file(level, "patched", metavar="PATCHED", help="a patched file, as --patch-only prints its name")
     add_output(level, "original", metavar="NEW", help="the file to write; - is standard output")
-    add_file(level, "--report", metavar="REPORT",
-             help="the report of the patched file, if it isn't beside it")
+    add_file(level, "--report", metavar="REPORT", help="the report of the patched file, if it isn't beside it")
 
 
 def report_of(patched: str) -> str:

@@ -9,9 +9,7 @@ use Rattle.address_space.specs.declared.window.Window.{Window}
 use Rattle.pun_base.specs.Least.{IsLeast, Least}
 use Rattle.address_space.specs.Fit.{IsAway}
 use Rattle.address_space.specs.Ranges.{Ascending, IsApart, StepsFrom, PlacesFrom, FitsIn, FitsAmong, EndedFirst, BegunFirst}
-use Rattle.address_space.specs.Runs.{IsMeasured}
 use Rattle.address_space.proofs.RangePlaces.{apart, range_at}
-use Rattle.address_space.proofs.LongestRanges.{measured_at}
 
 -- The next step is the next place where it is away from what is to be avoided.
 pub stays : (w : Window) (low next : ℕ) (avoid : Option Range) → w.avoid ≡ avoid → IsLeast (StepsFrom w.from w.step w.width low) next → IsAway avoid next w.size → IsLeast (PlacesFrom w low) next
@@ -130,17 +128,6 @@ none_begun w rs end begun none s f =
 -- None fits where the window ends before it begins.
 pub none_late : (w : Window) (rs : List FreeRange) → w.top ≤ w.from → Least (FitsAmong w rs) None
 none_late w rs late s f = let here = f.fits blank in omega (arith, here.before, here.steps.is)
-
--- None fits in runs that are too short.
-pub none_short : (w : Window) (rs : List FreeRange) (longest : List ℕ) (next run end : ℕ) → IsMeasured rs longest → end ≤ length rs → NoneBelow w rs next
-    → ((k : ℕ) → next / 64 ≤ k → k < run → get_or longest k 0 < w.size) → NoneBelow w rs (min end (max next (run * 64)))
-none_short w rs longest next run end m h none short j d less s f =
-    elim (cases_lt j next) [
-      | inl before ↦ none j d before s f
-      | inr after ↦ let bound = measured_at rs longest m (j / 64) j d (omega arith) (omega arith) (omega arith) in
-          let few = short (j / 64) (omega arith) (omega arith) in
-          omega (arith, bound, few, f.inside.0, f.inside.1)
-    ]
 
 -- None fits in ranges that end at or below the next place behind a range that is passed.
 pub none_leapt : (w : Window) (rs : List FreeRange) (behind ended place : ℕ) (e : FreeRange) → Ascending 0x20000 rs → 0 < w.size → 0 < behind → behind ≤ length rs → ended ≤ length rs → NoneBelow w rs behind

@@ -48,7 +48,7 @@ text_of G v = lines_text G (G.lines v)
 -- ---- lines after lines
 
 -- Of lines that are taken each is taken.
-first_taken : {L D : Type 0} (taken : D → L → Option D) (d e : D) (x : L) (xs : List L) → after taken d (x ∷ xs) ≡ Some e
+pub first_taken : {L D : Type 0} (taken : D → L → Option D) (d e : D) (x : L) (xs : List L) → after taken d (x ∷ xs) ≡ Some e
     → (f : D) × (taken d x ≡ Some f) × (after taken f xs ≡ Some e)
 first_taken {L = L} {D = D} taken d e x xs h = by_first (taken d x) refl h
   where
@@ -160,14 +160,14 @@ goes_from : {L D : Type 0} (taken : D → L → Option D) (d e : D) (o : Option 
 goes_from taken d e None h = absurd cc
 goes_from taken d e (Some x) h = (x, refl, h)
 
-rest_from : {D : Type 0} (behind later : List ℕ) (o : Option D) (e : D) → option_map (λ z. (z, behind)) o ≡ Some (e, later) → (o ≡ Some e) × (behind ≡ later)
+rest_from : {D : Type 0} (behind later : List ℕ) (o : Option D) (e : D) → option_map {U = D × List ℕ} (λ z. (z, behind)) o ≡ Some (e, later) → (o ≡ Some e) × (behind ≡ later)
 rest_from behind later None e h = absurd cc
 rest_from {D = D} behind later (Some z) e h =
     let pair : ◌≡◌ {A = D × List ℕ} (z, behind) (e, later) = cc in
     (ap (λ (p : D × List ℕ). Some p.0) pair, ap (λ (p : D × List ℕ). p.1) pair)
 
 one_by : {L D V : Type 0} (G : Language L D V) (b : Bool) (d : D) (rest : List ℕ) (e : D) (later : List ℕ) → eqb (length (before_first is_line_feed rest)) (length rest) ≡ b
-    → cond b None (option_map (λ z. (z, after_first is_line_feed rest)) (goes_on G.taken d (G.line_of (before_first is_line_feed rest)))) ≡ Some (e, later)
+    → cond {A = Option (D × List ℕ)} b None (option_map (λ z. (z, after_first is_line_feed rest)) (goes_on G.taken d (G.line_of (before_first is_line_feed rest)))) ≡ Some (e, later)
     → One G d rest e later
 one_by G true d rest e later is h = absurd cc
 one_by {L = L} G false d rest e later is h =

@@ -23,3 +23,4 @@ pub mod ScenarioLines
 pub mod ScenarioDrafts
 pub mod ScenarioLanguage
 pub mod ScenarioTexts
+pub mod PlainScenarios

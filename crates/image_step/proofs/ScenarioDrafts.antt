@@ -20,7 +20,6 @@ use Rattle.image_step.specs.Taking.{Draft, blank, done, heads, taken}
 use Rattle.image_step.proofs.DraftLines.{Keeps, all_front, all_push, grown, told, values_push}
 use Rattle.image_step.proofs.Languages.{after}
 use Rattle.image_step.proofs.LineSpellings.{kept}
-use Rattle.image_step.proofs.TakenLines.{completed, completed_lines, completed_script, left, left_holds, values_append, zero_lines}
 
 -- The lines of deliveries.
 abbrev pub dues_lines : List DueValue → List ScenarioLine

@@ -19,7 +19,7 @@ use Rattle.image_step.specs.Spelling.{entry_lines, script_lines, value_lines}
 use Rattle.image_step.specs.Taking.{Draft, after as plain_after, blank, done, heads, taken}
 use Rattle.image_step.specs.Values.{ScriptValue}
 use Rattle.image_step.proofs.DraftLines.{all_front, all_push, told}
-use Rattle.image_step.proofs.Languages.{Language, after, after_append}
+use Rattle.image_step.proofs.Languages.{Language, after, first_taken}
 use Rattle.image_step.proofs.ScenarioDrafts.{ScenarioKeeps, ascend_last, dues_lines, front_some, scenario_grown, scenario_told}
 use Rattle.image_step.proofs.ScenarioLines.{scenario_line_above, scenario_line_read, scenario_line_spelled}
 use Rattle.image_step.proofs.TakenLines.{completed, completed_lines, completed_script, left, script_taken, values_append, zero_lines}
@@ -37,15 +37,11 @@ told_after : (d e : ScenarioDraft) (xs : List ScenarioLine) → AllByRecursion S
 told_after d e [] h k a =
     let same : d ≡ e = cc in
     (ap scenario_told (sym same) ∙ sym (append-nil (scenario_told d)), subst ScenarioKeeps same k)
-told_after d e (x ∷ xs) h k a = by_first (scenario_taken d x) refl a
-  where
-    by_first : (o : Option ScenarioDraft) → scenario_taken d x ≡ o → option_and_then (λ z. afterwards z xs) o ≡ Some e
-        → (scenario_told e ≡ scenario_told d ++ x ∷ xs) × ScenarioKeeps e
-    by_first None is b = absurd cc
-    by_first (Some f) is b =
-        let g = scenario_grown d x f h.0 k is in
-        let ih = told_after f e xs h.1 g.keeps b in
-        (ih.0 ∙ (ap (λ (l : List ScenarioLine). l ++ xs) g.told_is ∙ append_assoc (scenario_told d) (x ∷ []) xs), ih.1)
+told_after d e (x ∷ xs) h k a =
+    let f = first_taken scenario_taken d e x xs a in
+    let g = scenario_grown d x f.0 h.0 k f.1 in
+    let ih = told_after f.0 e xs h.1 g.keeps f.2 in
+    (ih.0 ∙ (ap (λ (l : List ScenarioLine). l ++ xs) g.told_is ∙ append_assoc (scenario_told d) (x ∷ []) xs), ih.1)
 
 -- ---- the lines of a script are taken
 
@@ -93,19 +89,23 @@ dues_taken ds d (e ∷ es) rest h a =
     ∙ (dues_taken (ds ++ d ∷ []) e es rest h.1 p.1
     ∙ ap (λ (l : List DueValue). afterwards (inner l (heads [])) rest) (append_assoc ds (d ∷ []) (e ∷ es)))))
 
+inner_first : (ds : List DueValue) (xs : List Line) (o : Option Draft)
+    → ((e : Draft) → afterwards (inner ds e) (plain xs) ≡ option_map (inner ds) (plain_after e xs))
+    → option_and_then (λ z. afterwards z (plain xs)) (option_map (inner ds) o) ≡ option_map (inner ds) (option_and_then (λ z. plain_after z xs) o)
+inner_first ds xs None ih = refl
+inner_first ds xs (Some e) ih = ih e
+
 inner_taken : (ds : List DueValue) (d : Draft) (xs : List Line) → afterwards (inner ds d) (plain xs) ≡ option_map (inner ds) (plain_after d xs)
 inner_taken ds d [] = refl
-inner_taken ds d (x ∷ xs) = by_first (taken d x)
-  where
-    by_first : (o : Option Draft) → option_and_then (λ z. afterwards z (plain xs)) (option_map (inner ds) o) ≡ option_map (inner ds) (option_and_then (λ z. plain_after z xs) o)
-    by_first None = refl
-    by_first (Some e) = inner_taken ds e xs
+inner_taken ds d (x ∷ xs) = inner_first ds xs (taken d x) (λ e. inner_taken ds e xs)
 
 -- Behind the version of a script all of its lines are taken.
+abbrev lines_behind : ScriptValue → List Line
+lines_behind v = value_lines 0 v.values ++ (map line.Region v.regions ++ (flat_map entry_lines v.entries ++ line.End ∷ []))
+
 script_behind : (ds : List DueValue) (v : ScriptValue) → IsScript v
-    → afterwards (inner ds (heads [])) (plain (value_lines 0 v.values ++ (map line.Region v.regions ++ (flat_map entry_lines v.entries ++ line.End ∷ []))))
-    ≡ Some (inner ds (done v.values v.regions v.entries))
-script_behind ds v h = inner_taken ds (heads []) _ ∙ ap (option_map (inner ds)) (script_taken v h)
+    → afterwards (inner ds (heads [])) (plain (lines_behind v)) ≡ Some (inner ds (done v.values v.regions v.entries))
+script_behind ds v h = inner_taken ds (heads []) (lines_behind v) ∙ ap (option_map (inner ds)) (script_taken v h)
 
 abbrev pub scenario_whole : ScenarioValue → ScenarioDraft
 scenario_whole v = inner v.dues (done v.script.values v.script.regions v.script.entries)
@@ -115,7 +115,7 @@ reached : (ds : List DueValue) (v : ScriptValue) → IsScript v → AllByRecursi
 reached [] v h a r = script_behind [] v h
 reached (d ∷ ds) v h a r =
     let p = and_parts (nat_le 0 d.step) (ascend_from d.step ds) r in
-    let later : List Line = value_lines 0 v.values ++ (map line.Region v.regions ++ (flat_map entry_lines v.entries ++ line.End ∷ [])) in
+    let later : List Line = lines_behind v in
     ap (afterwards front) (append_assoc (due_lines d) (dues_lines ds) (Plain line.Version ∷ plain later))
     ∙ (due_taken [] d (dues_lines ds ++ (Plain line.Version ∷ plain later)) a.0
     ∙ (dues_taken [] d ds (plain later) a.1 p.1 ∙ script_behind (d ∷ ds) v h))
@@ -162,7 +162,7 @@ lines_completed (inner ds d) =
     ∙ (ap (λ (l : List ScenarioLine). front_lines ds ++ l) (map-append Plain (told d) (left d))
     ∙ sym (append_assoc (front_lines ds) (plain (told d)) (plain (left d))))
 
-plain_holds : (xs : List Line) → AllByRecursion LineHolds xs → AllByRecursion ScenarioLineHolds (plain xs)
+pub plain_holds : (xs : List Line) → AllByRecursion LineHolds xs → AllByRecursion ScenarioLineHolds (plain xs)
 plain_holds [] h = tt
 plain_holds (x ∷ xs) h = (h.0, plain_holds xs h.1)
 

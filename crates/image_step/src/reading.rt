@@ -1,8 +1,10 @@
 //! The script of a text.
-ghost use Rattle.std.specs.Prelude.{◌≡◌, ◌-◌, ◌^◌, ◌<◌, IfOk, IfSome, length, option_map};
+ghost use Rattle.std.specs.Prelude.{◌≡◌, ◌-◌, ◌^◌, ◌<◌, true, IfOk, IfSome, length, option_map};
+ghost use Rattle.cpu_state.specs.Script.{are_regions};
 ghost use Rattle.image_step.specs.Answers.{ReadsScript, ReadsAs};
 ghost use Rattle.image_step.specs.Reading.{read_one};
 ghost use Rattle.image_step.specs.Taking.{script_in};
+ghost use Rattle.image_step.specs.Values.{script_value};
 ghost use Rattle.image_step.specs.Views.{draft_value, parts_value};
 
 use crate::draft::Draft;

@@ -32,7 +32,7 @@ one_taken : (d e : ScenarioDraft) (x : ScenarioLine) (xs : List ScenarioLine) �
 one_taken d e x xs h = ap (λ (o : Option ScenarioDraft). option_and_then (λ z. afterwards z xs) o) h
 
 -- The lines that were taken are those that the draft tells.
-told_after : (d e : ScenarioDraft) (xs : List ScenarioLine) → AllByRecursion ScenarioLineHolds xs → ScenarioKeeps d → afterwards d xs ≡ Some e
+pub told_after : (d e : ScenarioDraft) (xs : List ScenarioLine) → AllByRecursion ScenarioLineHolds xs → ScenarioKeeps d → afterwards d xs ≡ Some e
     → (scenario_told e ≡ scenario_told d ++ xs) × ScenarioKeeps e
 told_after d e [] h k a =
     let same : d ≡ e = cc in
@@ -110,7 +110,7 @@ script_behind ds v h = inner_taken ds (heads []) (lines_behind v) ∙ ap (option
 abbrev pub scenario_whole : ScenarioValue → ScenarioDraft
 scenario_whole v = inner v.dues (done v.script.values v.script.regions v.script.entries)
 
-reached : (ds : List DueValue) (v : ScriptValue) → IsScript v → AllByRecursion HasValues ds → ascend_from 0 ds ≡ true
+pub reached : (ds : List DueValue) (v : ScriptValue) → IsScript v → AllByRecursion HasValues ds → ascend_from 0 ds ≡ true
     → afterwards opened (front_lines ds ++ plain (script_lines v)) ≡ Some (inner ds (done v.values v.regions v.entries))
 reached [] v h a r = script_behind [] v h
 reached (d ∷ ds) v h a r =
@@ -142,7 +142,7 @@ regroup : (x y r : ScenarioLine) (a b c p : List ScenarioLine) → (x ∷ (a ++ 
 regroup x y r a b c p = simp append_assoc
 
 -- Its lines are those that the draft tells and those that are left.
-lines_completed : (d : ScenarioDraft) → scenario_lines (scenario_completed d) ≡ scenario_told d ++ scenario_left d
+pub lines_completed : (d : ScenarioDraft) → scenario_lines (scenario_completed d) ≡ scenario_told d ++ scenario_left d
 lines_completed opened = refl
 lines_completed front =
     ap (λ (l : List ScenarioLine). (Second ∷ l) ++ plain (script_lines (completed blank))) (append-nil (due_lines (due_at 0 (replicate 19 0) 0)))
@@ -202,7 +202,7 @@ completed_holds d k h =
     subst (AllByRecursion ScenarioLineHolds) (sym (lines_completed d)) (all_appended ScenarioLineHolds (scenario_told d) (scenario_left d) h (left_holds d k h))
 
 -- Lines that were taken begin a script with deliveries.
-completed_is : (d : ScenarioDraft) → ScenarioKeeps d → AllByRecursion ScenarioLineHolds (scenario_told d) → IsScenario (scenario_completed d)
+pub completed_is : (d : ScenarioDraft) → ScenarioKeeps d → AllByRecursion ScenarioLineHolds (scenario_told d) → IsScenario (scenario_completed d)
 completed_is opened k h = record { script = zero_script; rising = refl; values = tt; lines = completed_holds opened k h }
 completed_is front k h = record { script = zero_script; rising = refl; values = (refl, tt); lines = completed_holds front k h }
 completed_is (valued ds step vs) k h =
@@ -224,10 +224,10 @@ completed_is (inner ds d) k h =
       lines = completed_holds (inner ds d) k h;
     }
 
-told_holds : (d : ScenarioDraft) (xs : List ScenarioLine) → AllByRecursion ScenarioLineHolds xs → scenario_told d ≡ xs → AllByRecursion ScenarioLineHolds (scenario_told d)
+pub told_holds : (d : ScenarioDraft) (xs : List ScenarioLine) → AllByRecursion ScenarioLineHolds xs → scenario_told d ≡ xs → AllByRecursion ScenarioLineHolds (scenario_told d)
 told_holds d xs h e = subst (AllByRecursion ScenarioLineHolds) (sym e) h
 
-same_whole : (v w : ScenarioValue) → scenario_whole v ≡ scenario_whole w → v ≡ w
+pub same_whole : (v w : ScenarioValue) → scenario_whole v ≡ scenario_whole w → v ≡ w
 same_whole v w e =
     let p : v.dues ≡ w.dues = cc in
     let q : done v.script.values v.script.regions v.script.entries ≡ done w.script.values w.script.regions w.script.entries = cc in
@@ -237,7 +237,7 @@ same_whole v w e =
     λ i. record { dues = p i; script = record { values = a i; regions = b i; entries = c i } }
 
 -- Scripts with deliveries, read line by line.
-pub scenarios : Language ScenarioLine ScenarioDraft ScenarioValue
+unfoldable pub scenarios : Language ScenarioLine ScenarioDraft ScenarioValue
 scenarios =
     record {
       text = scenario_line_text;

@@ -1,5 +1,5 @@
 -- How far the text of a script with deliveries has been read, and what the reader tells.
-use Rattle.std.proofs.Common.{◌≡◌, ℕ, ◌+◌, cond, eqb, List, [], ◌∷◌, ◌×◌, length, map, Option, Some, None, refl, ap, sym, subst, ◌∙◌, arith}
+use Rattle.std.proofs.Common.{◌≡◌, ℕ, ◌+◌, cond, eqb, List, [], ◌∷◌, length, map, Option, Some, None, refl, ap, sym, subst, ◌∙◌, arith}
 use Rattle.std.specs.Prelude.{nat_le, option_map, ◌&&◌}
 use Rattle.std.specs.List.{before_first, after_first}
 use Rattle.list_text.specs.Lines.{is_line_feed}
@@ -11,7 +11,7 @@ use Rattle.image_step.specs.ScenarioReading.{ScenarioDraft, came, front, goes_on
 use Rattle.image_step.specs.ScenarioText.{ScenarioValue, ascend_from, due_value}
 use Rattle.image_step.specs.Taking.{Draft, script_in}
 use Rattle.image_step.specs.Values.{ScriptValue}
-use Rattle.image_step.proofs.Languages.{Passed, Unended, finishes, goes_on as goes, passed_more, read_one, refused, some_left, stops}
+use Rattle.image_step.proofs.Languages.{Passed, Unended, finishes, goes_on as goes, passed_more, passed_none, read_one, refused, some_left, stops}
 use Rattle.image_step.proofs.ScenarioLanguage.{scenario_whole, scenarios}
 use Rattle.image_step.proofs.TextSoFar.{done_is}
 
@@ -29,13 +29,20 @@ read_same d text =
 abbrev pub ReadSoFar : List ℕ → ℕ → ScenarioDraft → List ℕ → Type 0
 ReadSoFar text place d rest = Passed scenarios text place d rest
 
+-- Nothing has been read.
+pub text_begins : (text : List ℕ) → ReadSoFar text 1 opened text
+unfolding scenarios
+text_begins text = passed_none scenarios text
+
 pub line_passed : (text : List ℕ) (place : ℕ) (d e : ScenarioDraft) (rest later : List ℕ) → ReadSoFar text place d rest
     → read_scenario_line d rest ≡ Some (e, later) → ReadSoFar text (place + 1) e later
+unfolding scenarios
 line_passed text place d e rest later p h = passed_more scenarios text place d e rest later p (sym (read_same d rest) ∙ h)
 
 -- The next line is refused.
 pub line_refused : (text : List ℕ) (place : ℕ) (d : ScenarioDraft) (rest : List ℕ) → ReadSoFar text place d rest → read_scenario_line d rest ≡ None
     → (length rest ≡ 0 → ⊥) → IsScenarioRefused text place
+unfolding scenarios
 line_refused text place d rest p h some =
     let r = refused scenarios text place d rest p (sym (read_same d rest) ∙ h) (some_left scenarios d rest some) in
     record { place = r.place; front = r.front; none = r.none; other = r.other }
@@ -46,6 +53,7 @@ none_whole d h v e = let both : ◌≡◌ {A = Option ScenarioValue} (scenario_i
 -- The text ends before it is a script's.
 pub text_stops : (text : List ℕ) (place : ℕ) (d : ScenarioDraft) (rest : List ℕ) → ReadSoFar text place d rest → length rest ≡ 0 → scenario_in d ≡ None
     → IsScenarioRefused text place
+unfolding scenarios
 text_stops text place d rest p h is =
     let r = stops scenarios text place d rest p h (none_whole d is) in
     record { place = r.place; front = r.front; none = r.none; other = r.other }
@@ -66,6 +74,7 @@ inner_whole (inner ds d) v h = by_script (script_in d) refl h
 -- The text ends as the text of a script.
 pub text_ends : (text : List ℕ) (place : ℕ) (d : ScenarioDraft) (rest : List ℕ) (v : ScenarioValue) → ReadSoFar text place d rest → length rest ≡ 0
     → scenario_in d ≡ Some v → IsTextOfScenario text v
+unfolding scenarios
 text_ends text place d rest v p h is =
     let t = finishes scenarios text place rest v (subst (λ (z : ScenarioDraft). ReadSoFar text place z rest) (inner_whole d v is) p) h in
     record { holds = t.holds; spelled = t.spelled; one = t.one }

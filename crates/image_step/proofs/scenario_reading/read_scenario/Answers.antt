@@ -10,5 +10,6 @@ returns c =
     subst (λ (s : ScriptValue). IsTextOfScenario c.args.text.now (record { dues = map due_value c.in_ok-parts.parts.dues.items; script = s }))
     (sym c.script_of.ensures) c.in_ok-parts.ensures
 
-pub invariant_of-result-clause-rising : goal.invariant_of-result-clause-rising
-invariant_of-result-clause-rising c = rise_values 0 c.in_ok-parts.parts.dues.items ∙ c.in_ok-parts.ensures.holds.rising
+pub invariant_of-result : goal.invariant_of-result
+invariant_of-result c =
+    record { rising = rise_values 0 c.in_ok-parts.parts.dues.items ∙ c.in_ok-parts.ensures.holds.rising }

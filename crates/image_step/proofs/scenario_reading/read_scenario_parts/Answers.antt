@@ -2,13 +2,11 @@ use Rattle.std.proofs.Common.{◌≡◌, None, Some, sym, arith}
 use Rattle.std.proofs.lemmas.Bool.Decides.{nat_tests}
 use Rattle.image_step.specs.ScenarioReading.{read_scenario_line, scenario_in}
 use Rattle.image_step.specs.ScenarioViews.{scenario_draft_value, scenario_parts_value}
-use Rattle.image_step.proofs.Languages.{passed_none}
-use Rattle.image_step.proofs.ScenarioLanguage.{scenarios}
-use Rattle.image_step.proofs.ScenarioTexts.{line_passed, line_refused, text_ends, text_stops}
+use Rattle.image_step.proofs.ScenarioTexts.{line_passed, line_refused, text_begins, text_ends, text_stops}
 use Rattle.image_step.proofs.scenario_reading.read_scenario_parts.Goals as goal
 
 pub loop-rest-init : goal.loop-rest-init
-loop-rest-init c = passed_none scenarios c.args.text.now
+loop-rest-init c = text_begins c.args.text.now
 
 pub returns-in_default : goal.returns-in_default
 returns-in_default c =

@@ -154,7 +154,7 @@ UNFIT: list[tuple[str, str, bytes, int, int]] = [
     ("it leads to no start", due(0, TEXT + 1), BOTH, 0, TEXT + 1),
     ("it comes at no start", due(1, TEXT), FIRST, 1, END),
     ("it writes a missing byte", due(0, TEXT, DATA - 1, "2a"), BOTH, 0, DATA - 1),
-    ("it writes a listed byte", due(0, TEXT, END, "90"), BOTH, 0, END),
+    ("it writes a byte of code", due(0, TEXT, END, "90"), BOTH, 0, END),
 ]
 
 

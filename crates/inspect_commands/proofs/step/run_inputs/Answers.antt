@@ -2,7 +2,6 @@ use Rattle.std.proofs.Common.{◌≡◌, [], None, true, ◌∙◌, arith, subst
 use Rattle.list_text.proofs.ListGrammar.{lists_are_grammar}
 use Rattle.start_entries.specs.Entries.{entries_of}
 use Rattle.image_step.specs.Running.{Shows}
-use Rattle.image_step.specs.Scheduled.{rise}
 use Rattle.image_step.specs.Starting.{start_machine, least_met_of}
 use Rattle.inspect_commands.proofs.StepVerdicts.{ran}
 use Rattle.inspect_commands.proofs.step.run_inputs.Goals as goal

@@ -86,11 +86,7 @@ fn halted_address(halted: &Halted) -> u64
 }
 
 /// Appends the line of what a run goes no further for.
-fn push_halted(
-    alloc: Global,
-    out: &mut Vec<u8>,
-    halted: &Option<Halted>,
-) -> Result<(), AllocError>
+fn push_halted(alloc: Global, out: &mut Vec<u8>, halted: &Option<Halted>) -> Result<(), AllocError>
     ensures { OnOk result (out.new.items ≡ out.old.items ++ halted_line halted.now) }
 {
     match halted {

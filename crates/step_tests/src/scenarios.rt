@@ -30,6 +30,7 @@ const VALUES: &str = "rax 0000000000000001\n\
 /// What stands before the values of the first delivery, and behind them: lines 1, 2 and 22 to 26.
 const FIRST: &str = "e9world 2\n\
     due 0000000000000003\n";
+
 const SECOND: &str = "rip 0000000000401009\n\
     mem 00000000005ffff8 2a00000000000000\n\
     mem 00000000005ffff8 2b\n\
@@ -39,6 +40,7 @@ const SECOND: &str = "rip 0000000000401009\n\
 /// What stands behind those of the second and of the third: lines 46 and 47, 67 and 68.
 const THIRD: &str = "rip 0000000000401000\n\
     due ffffffffffffffff\n";
+
 const SCRIPT: &str = "rip ffffffffffffffff\n\
     e9world 1\n";
 

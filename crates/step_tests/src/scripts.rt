@@ -290,7 +290,11 @@ fn hostile(rt: HostRuntime) -> Result<(), Fail> {
         let text = format!(in rt.alloc(); "{front}{new}{back}")?;
         assert_eq!(rt; refusal(rt.alloc(), text.as_bytes()), *line, "{text}");
         let line_too = if *new == "e9world 2" { 2 } else { *line };
-        assert_eq!(rt; scenarios::refusal(rt.alloc(), text.as_bytes()), line_too, "{text}");
+        assert_eq!(rt;
+            scenarios::refusal(rt.alloc(), text.as_bytes()),
+            line_too,
+            "{text}"
+        );
     }
     for text in ["", "e9world 1", "\n", "rax 0000000000000000\n"] {
         assert_eq!(rt; refusal(rt.alloc(), text.as_bytes()), 1, "{text}");

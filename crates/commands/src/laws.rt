@@ -13,16 +13,19 @@ pub fn planned_is_reversed()
 {}
 
 /// What is written for each job that an input is judged to be is undone by its report.
+#[tactic(auto, using(crate::proofs::ReversedPlans::judged_is_reversed))]
 pub fn judged_is_reversed()
     ensures { JudgedIsReversed }
 {}
 
 /// What a patch leaves under OUT and REPORT gives FILE back, where it is within the limit of a read.
+#[tactic(auto, using(crate::proofs::PatchReversal::patch_is_reversed))]
 pub fn patch_is_reversed()
     ensures { PatchIsReversed }
 {}
 
 /// What `load` leaves under OUT and REPORT gives FILE back, where it is within the limit of a read.
+#[tactic(auto, using(crate::proofs::LoadReversal::load_is_reversed))]
 pub fn load_is_reversed()
     ensures { LoadIsReversed }
 {}

@@ -3,6 +3,7 @@ ghost use Rattle.guest_findings.specs.Findings.{NoGuestIsRefused};
 ghost use Rattle.guest_findings.specs.GuestLaws.{GuestsHaveStarts, GuestOutsAreAccepted, GuestTablesAreShort, FindingsAreOne};
 
 /// No guest is refused: neither its file, nor a start of it, nor its patching.
+#[tactic(auto, using(crate::proofs::GuestAcceptance::no_guest_refused, crate::proofs::GuestStarts::guest_starts_stand))]
 pub fn no_guest_is_refused()
     ensures none { NoGuestIsRefused }
     ensures starts { GuestsHaveStarts }
@@ -15,6 +16,7 @@ pub fn guest_outs_are_accepted()
 {}
 
 /// One thing is found of a guest, at each run.
+#[tactic(auto, using(crate::proofs::FindingsUniqueness::findings_one))]
 pub fn findings_are_one()
     ensures { FindingsAreOne }
 {}

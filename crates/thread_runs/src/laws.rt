@@ -18,21 +18,25 @@ pub fn event_steps()
 {}
 
 /// The event of a thread that runs alone adds one to its counter, and leaves all else as it was.
+#[tactic(auto, using(crate::proofs::LoneThreadEvent::event_counts_alone))]
 pub fn event_counts_alone()
     ensures { EventCountsAlone }
 {}
 
 /// An instruction that isn't LOCK INC is a thread's step as it is a single processor's.
+#[tactic(auto, using(crate::proofs::ThreadSteps::thread_step))]
 pub fn thread_step()
     ensures { IsThreadStep }
 {}
 
 /// The first instruction of relocated code makes the original's step.
+#[tactic(auto, using(crate::proofs::EffectSteps::effect_step))]
 pub fn effect_steps()
     ensures { IsEffectStep }
 {}
 
 /// After the effect step the trampoline's steps lead on.
+#[tactic(auto, using(crate::proofs::WorkTails::tail_step))]
 pub fn tail_steps()
     ensures { IsTailStep }
 {}
@@ -51,22 +55,26 @@ pub fn further_laws()
 {}
 
 /// All facts of single steps on which the theorem rests.
+#[tactic(auto, using(crate::proofs::AllStepLaws::step_laws))]
 pub fn all_steps()
     ensures { StepLaws }
 {}
 
 /// Each run of a guest is one that is watched.
+#[tactic(auto, using(crate::proofs::WatchedRuns::each_run))]
 pub fn each_run()
     ensures { EachRunIsWatched }
 {}
 
 /// In each interleaved run that meets the premises the patched guest runs as the original does, and counts.
+#[tactic(auto, using(crate::proofs::ThreadsTheorem::threads_followed))]
 pub fn threads_step()
     ensures { ThreadsAreFollowed }
 {}
 
 /// LOCK INC, the instruction that interleaved runs don't ask the world about, is recognized by its
 /// bytes: F0 48 FF 04 25 and four more. F0 itself makes no difference.
+#[tactic(auto, using(crate::proofs::LockIncSpelling::locked_spelled, crate::proofs::LockIncSpelling::lock_untested))]
 pub fn locked_spelling()
     ensures spelled { LockedIsSpelled }
     ensures untested { LockIsUntested }
@@ -74,6 +82,7 @@ pub fn locked_spelling()
 
 /// A schedule is run in one way: to its end, or to an entry that names no thread or one without a
 /// step.
+#[tactic(auto, using(crate::proofs::RunUniqueness::one_way))]
 pub fn one_run()
     ensures { RunsOneWay }
 {}

@@ -145,14 +145,13 @@ before_blank words count h k t = elim (cases_lt (k / 64) count) [
 ]
 
 -- the lowest bit of a word behind words of zeros is the least bit
-pub least_bit : (words : List ℕ) (index : ℕ) → get_or words index 0 ≢ 0 → Fits w64 (get_or words index 0)
-    → ((i : ℕ) → i < index → get_or words i 0 ≡ 0) → (k : ℕ) → has_bit words k ≡ true
-    → 64 * index + trailing_zeros w64 (get_or words index 0) ≤ k
-least_bit words index some fits h k t =
+pub least_bit : (words : List ℕ) (index zeros : ℕ) → zeros ≡ trailing_zeros w64 (get_or words index 0) → get_or words index 0 ≢ 0
+    → Fits w64 (get_or words index 0) → ((i : ℕ) → i < index → get_or words i 0 ≡ 0) → (k : ℕ) → has_bit words k ≡ true
+    → 64 * index + zeros ≤ k
+least_bit words index zeros is some fits h k t =
     let word : ℕ = get_or words index 0 in
-    let low = bit_at-trailing_zeros w64 word (omega arith) fits in
-    let zeros : ℕ = trailing_zeros w64 word in
-    let within : zeros < 64 = low.0 in
+    let low = bit_at-trailing_zeros w64 word (omega arith) fits.fits in
+    let within : trailing_zeros w64 word < 64 = low.0 in
     elim (cases_lt (k / 64) index) [
       | inl m ↦ absurd (both_ways (has_bit words k) (blank_word words k (h (k / 64) m)) t)
       | inr m ↦ elim (cases_eq (k / 64) index) [
@@ -161,7 +160,7 @@ least_bit words index some fits h k t =
           | inr n ↦ omega arith
           | inl n ↦ (
               let one : bit_at word (k % 64) ≡ 1 = (λ i. bit_at (get_or words (sym e i) 0) (k % 64)) ∙ eqb-true (bit_at (get_or words (k / 64) 0) (k % 64)) 1 t in
-              let none : bit_at word (k % 64) ≡ 0 = low.2 (k % 64) n in
+              let none : bit_at word (k % 64) ≡ 0 = low.2 (k % 64) (omega arith) in
               absurd (omega arith)
               )
         ]
@@ -169,16 +168,15 @@ least_bit words index some fits h k t =
     ]
 
 -- the lowest bit of a word that isn't 0 is 1
-pub lowest_bit : (words : List ℕ) (index : ℕ) → get_or words index 0 ≢ 0 → Fits w64 (get_or words index 0)
-    → has_bit words (64 * index + trailing_zeros w64 (get_or words index 0)) ≡ true
-lowest_bit words index some fits =
+pub lowest_bit : (words : List ℕ) (index zeros : ℕ) → zeros ≡ trailing_zeros w64 (get_or words index 0) → get_or words index 0 ≢ 0
+    → Fits w64 (get_or words index 0) → has_bit words (64 * index + zeros) ≡ true
+lowest_bit words index zeros is some fits =
     let word : ℕ = get_or words index 0 in
-    let low = bit_at-trailing_zeros w64 word (omega arith) fits in
-    let zeros : ℕ = trailing_zeros w64 word in
-    let within : zeros < 64 = low.0 in
+    let low = bit_at-trailing_zeros w64 word (omega arith) fits.fits in
+    let within : trailing_zeros w64 word < 64 = low.0 in
     let k : ℕ = 64 * index + zeros in
     let p : index ≡ k / 64 = omega arith in
-    let q : zeros ≡ k % 64 = omega arith in
+    let q : trailing_zeros w64 word ≡ k % 64 = omega arith in
     eq-eqb (bit_at (get_or words (k / 64) 0) (k % 64)) 1 ((λ i. bit_at (get_or words (sym p i) 0) (sym q i)) ∙ low.1)
 
 -- where one list's words add nothing to another's, its bits are the other's too

@@ -1,5 +1,5 @@
 -- The least place, by steps and by ranges.
-use Rattle.std.proofs.Common.{◌≡◌, ℕ, ◌+◌, ◌-◌, ◌*◌, ◌/◌, ◌<◌, ◌≤◌, List, length, get_or, take, drop, min, max, ap, ◌∙◌, length-take, length-drop, Option, Some, None, inl, inr, subst, sym, arith}
+use Rattle.std.proofs.Common.{◌≡◌, ℕ, ◌+◌, ◌-◌, ◌<◌, ◌≤◌, List, length, get_or, take, drop, min, ap, ◌∙◌, length-take, length-drop, Option, Some, None, inl, inr, subst, sym, arith}
 use Rattle.std.proofs.Math.Nat.{eq-or-lt_of_le}
 use Rattle.std.proofs.lemmas.Bool.{cases_lt}
 use Rattle.std.proofs.lemmas.List.{get_or-take, get_or-drop, get_or_default}
@@ -8,10 +8,8 @@ use Rattle.address_space.specs.declared.free_range.FreeRange.{FreeRange}
 use Rattle.address_space.specs.declared.window.Window.{Window}
 use Rattle.pun_base.specs.Least.{IsLeast, Least}
 use Rattle.address_space.specs.Fit.{IsAway}
-use Rattle.address_space.specs.Ranges.{Ascending, IsApart, StepsFrom, PlacesFrom, FitsIn, FitsAmong, EndedFirst, BegunFirst}
-use Rattle.address_space.specs.Runs.{IsMeasured}
-use Rattle.address_space.proofs.RangePlaces.{apart, range_at}
-use Rattle.address_space.proofs.LongestRanges.{measured_at}
+use Rattle.address_space.specs.Ranges.{IsApart, StepsFrom, PlacesFrom, FitsIn, FitsAmong}
+use Rattle.address_space.proofs.RangePlaces.{apart}
 
 -- The next step is the next place where it is away from what is to be avoided.
 pub stays : (w : Window) (low next : ℕ) (avoid : Option Range) → w.avoid ≡ avoid → IsLeast (StepsFrom w.from w.step w.width low) next → IsAway avoid next w.size → IsLeast (PlacesFrom w low) next
@@ -69,14 +67,6 @@ part_at rs at next k d h l =
 part_length : (rs : List FreeRange) (at next : ℕ) → at ≤ next → next ≤ length rs → length (take (next - at) (drop at rs)) ≡ next - at
 part_length rs at next h l = length-take (next - at) (drop at rs) ∙ (let e : min (next - at) (length (drop at rs)) ≡ next - at = rw length-drop (omega arith) in e)
 
--- A part of ranges that don't touch are ranges that don't touch.
-pub part_apart : (rs : List FreeRange) (at next : ℕ) → at ≤ next → next ≤ length rs → IsApart rs → IsApart (take (next - at) (drop at rs))
-part_apart rs at next h l apart i j d less below =
-    let long = part_length rs at next h l in
-    let first : get_or (take (next - at) (drop at rs)) i d ≡ get_or rs (at + i) d = get_or-take (next - at) (drop at rs) i d (omega arith) ∙ get_or-drop at rs i d in
-    let second : get_or (take (next - at) (drop at rs)) j d ≡ get_or rs (at + j) d = get_or-take (next - at) (drop at rs) j d (omega arith) ∙ get_or-drop at rs j d in
-    rw (first, second) (apart (at + i) (at + j) d (omega arith) (omega arith))
-
 -- What fits in a range of the part fits in the part.
 in_part : (w : Window) (rs : List FreeRange) (at next k s : ℕ) → at ≤ k → k < next → next ≤ length rs → ((d : FreeRange) → FitsIn w (get_or rs k d) s) → FitsAmong w (take (next - at) (drop at rs)) s
 in_part w rs at next k s h l le f =
@@ -115,42 +105,6 @@ none_part w rs at next l none here j d less s f =
       | inr after ↦ here s (in_part w rs at next j s after less l (λ e. subst (λ (r : FreeRange). FitsIn w r s) (get_or_default rs j d e (omega arith)) f))
     ]
 
--- None fits in ranges that end at or below the window.
-pub none_ended : (w : Window) (rs : List FreeRange) (first : ℕ) → 0 < w.size → EndedFirst rs w.from first → NoneBelow w rs first
-none_ended w rs first some ended j d less s f = omega (arith, ended.first j d less, f.inside.1, f.steps.is)
-
--- None fits at all where none fits before the ranges that begin at or above the window's end.
-pub none_begun : (w : Window) (rs : List FreeRange) (end : ℕ) → BegunFirst rs w.top end → NoneBelow w rs end → Least (FitsAmong w rs) None
-none_begun w rs end begun none s f =
-    elim (cases_lt f.place end) [
-      | inl before ↦ none f.place blank before s (f.fits blank)
-      | inr after ↦ omega (arith, begun.others f.place blank after f.below, (f.fits blank).inside.0, (f.fits blank).before)
-    ]
-
 -- None fits where the window ends before it begins.
 pub none_late : (w : Window) (rs : List FreeRange) → w.top ≤ w.from → Least (FitsAmong w rs) None
 none_late w rs late s f = let here = f.fits blank in omega (arith, here.before, here.steps.is)
-
--- None fits in runs that are too short.
-pub none_short : (w : Window) (rs : List FreeRange) (longest : List ℕ) (next run end : ℕ) → IsMeasured rs longest → end ≤ length rs → NoneBelow w rs next
-    → ((k : ℕ) → next / 64 ≤ k → k < run → get_or longest k 0 < w.size) → NoneBelow w rs (min end (max next (run * 64)))
-none_short w rs longest next run end m h none short j d less s f =
-    elim (cases_lt j next) [
-      | inl before ↦ none j d before s f
-      | inr after ↦ let bound = measured_at rs longest m (j / 64) j d (omega arith) (omega arith) (omega arith) in
-          let few = short (j / 64) (omega arith) (omega arith) in
-          omega (arith, bound, few, f.inside.0, f.inside.1)
-    ]
-
--- None fits in ranges that end at or below the next place behind a range that is passed.
-pub none_leapt : (w : Window) (rs : List FreeRange) (behind ended place : ℕ) (e : FreeRange) → Ascending 0x20000 rs → 0 < w.size → 0 < behind → behind ≤ length rs → ended ≤ length rs → NoneBelow w rs behind
-    → IsLeast (PlacesFrom w (get_or rs (behind - 1) e).lo) place → EndedFirst rs place ended → NoneBelow w rs (max behind ended)
-none_leapt w rs behind ended place e up full some h l none least parted j d less s f =
-    elim (cases_lt j behind) [
-      | inl before ↦ none j d before s f
-      | inr after ↦ let gap = apart rs 0x20000 up (behind - 1) j d (omega arith) (omega arith) in
-          let last = range_at rs 0x20000 (behind - 1) d up (omega arith) in
-          let same = ap (λ (r : FreeRange). r.lo) (get_or_default rs (behind - 1) e d (omega arith)) in
-          let from = least.least s (record { steps = record { steps = f.steps; above = omega (arith, same, gap, last.some, f.inside.0) }; away = f.away }) in
-          omega (arith, from, parted.first j d (omega arith), f.inside.1)
-    ]

@@ -10,4 +10,9 @@ pub mod LeastPlaces
 pub mod SplitRanges
 pub mod SweptRanges
 pub mod LongestRanges
+pub mod BlockLists
+pub mod SplitBlocks
+pub mod BlockSearches
+pub mod MarkedBlocks
+pub mod TakenBlocks
 pub mod FreeParts

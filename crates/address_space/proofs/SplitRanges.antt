@@ -197,14 +197,6 @@ left_lies rs place lo hi t n d up k some =
 abbrev pub state_of : List FreeRange → ℕ → SpaceState
 state_of rs spare = record { taken = gaps 0x20000 rs; spare = spare }
 
--- A range that is free is taken out of the free range that it lies in.
-pub taken_here : (rs rs' : List FreeRange) (state : SpaceState) (spare place begin lo hi : ℕ) → state_of rs spare ≡ state → rs' ≡ rs → begin ≡ lo → Ascending 0x20000 rs → EndedFirst rs' begin place
-    → lo < hi → IsFree state.taken lo (hi - lo) → IsTaken rs place lo hi
-taken_here rs rs' state spare place begin lo hi view same is up parted some free =
-    let free' = subst (λ (s : SpaceState). IsFree s.taken lo (hi - lo)) (sym view) free in
-    let parted' = subst (λ a. EndedFirst rs a place) is (subst (λ (xs : List FreeRange). EndedFirst xs begin place) same parted) in
-    place_is rs place lo hi up parted' some ((free_is rs lo (hi - lo) (omega arith) up).0 free')
-
 -- What is free when it is taken out is what was free and misses it.
 pub taken_out : (rs rs' : List FreeRange) (state : SpaceState) (spare place lo hi : ℕ) (d : FreeRange) → state_of rs spare ≡ state → Ascending 0x20000 rs → IsTaken rs place lo hi
     → rs' ≡ take place rs ++ ((range_if (get_or rs place d).lo lo ++ range_if hi (get_or rs place d).hi) ++ drop (place + 1) rs)

@@ -2,5 +2,6 @@ pub mod Free
 pub mod Fit
 pub mod Windows
 pub mod Ranges
-pub mod Runs
+pub mod Longest
+pub mod Blocks
 pub mod Marks

@@ -100,8 +100,3 @@ pub record IsPlaceAmong (w : Window) (shift : ℕ) (ranges : List FreeRange) (co
 pub record EndedFirst (ranges : List FreeRange) (addr count : ℕ) : Type 0 where
   pub first : (k : ℕ) (d : FreeRange) → k < count → (slice_index_or ranges k d).hi ≤ addr
   pub others : (k : ℕ) (d : FreeRange) → count ≤ k → k < length ranges → addr < (slice_index_or ranges k d).hi
-
--- The first `count` ranges begin below an address, and the others don't.
-pub record BegunFirst (ranges : List FreeRange) (addr count : ℕ) : Type 0 where
-  pub first : (k : ℕ) (d : FreeRange) → k < count → (slice_index_or ranges k d).lo < addr
-  pub others : (k : ℕ) (d : FreeRange) → count ≤ k → k < length ranges → addr ≤ (slice_index_or ranges k d).lo

@@ -1,14 +1,13 @@
-//! The list of free ranges: made, and changed.
+//! Lists of free ranges: made, changed and measured.
 ghost use Rattle.std.specs.Prelude.{◌≡◌, ℕ, ◌+◌, ◌*◌, ◌<◌, ◌≤◌, ◌++◌, ◌↔◌, take, drop, slice_index_or, vec_len, vec_capacity, IfOk, OnOk};
 ghost use Rattle.std.specs.List.{All};
 ghost use Rattle.std.specs.List.Sorted.{IsNonDecreasingBy};
 ghost use Rattle.address_space.specs.Free.{IsFree};
-ghost use Rattle.address_space.specs.Ranges.{Ascending, LiesAmong, left_of, range_if, IsTaken};
-ghost use Rattle.address_space.specs.Runs.{IsMeasured};
+ghost use Rattle.address_space.specs.Ranges.{Ascending, LiesAmong, left_of, range_if};
+ghost use Rattle.address_space.specs.Longest.{greatest};
 
 use crate::extent::Extent;
 use crate::free_range::FreeRange;
-use crate::runs::{RUN, measure};
 use pun_base::limits::{ADDRESS_END, ORIGINAL_LOW};
 use pun_base::range::Range;
 use std::alloc::{AllocError, Global};
@@ -46,7 +45,7 @@ fn add_below(free: &mut Vec<FreeRange>, lo: u64, hi: u64) -> Result<(), AllocErr
 }
 
 /// Takes a range out of the free one at a place, of which it is a part.
-fn split(free: &mut Vec<FreeRange>, place: usize, range: Range)
+pub fn split(free: &mut Vec<FreeRange>, place: usize, range: Range)
     requires place { place < vec_len free.old }
     requires room { vec_len free.old < vec_capacity free.old }
     ensures items { (d : FreeRange) → free.new.items
@@ -76,29 +75,13 @@ fn split(free: &mut Vec<FreeRange>, place: usize, range: Range)
     }
 }
 
-/// Takes a range out of the free one at a place, of which it is a part, and measures the runs that change.
-pub fn take_out(free: &mut Vec<FreeRange>, longest: &mut Vec<u32>, place: usize, range: Range)
-    requires ascending { Ascending 0x20000 free.old.items }
-    requires taken { IsTaken free.old.items place range.lo range.hi }
-    requires measured { IsMeasured free.old.items longest.old.items }
-    requires room { vec_len free.old < vec_capacity free.old }
-    requires runs { vec_len free.old < vec_capacity longest.old * 64 }
-    ensures items { (d : FreeRange) → free.new.items
-        ≡ take place free.old.items ++ (left_of (slice_index_or free.old.items place d) range
-        ++ drop (place + 1) free.old.items) }
-    ensures measured { IsMeasured free.new.items longest.new.items }
-    ensures len { vec_len free.new ≤ vec_len free.old + 1 }
-    ensures capacity { vec_capacity free.old ≤ vec_capacity free.new }
-    ensures runs { vec_capacity longest.old ≤ vec_capacity longest.new }
+/// The length of the longest of the ranges, 0 where there is none.
+pub fn longest_of(ranges: &[FreeRange]) -> u32
+    ensures { result ≡ greatest ranges.now }
 {
-    let run = place / RUN;
-    let count = free.len();
-    split(free, place, range);
-    if free.len() == count {
-        measure(longest, free, run, run + 1);
-    } else {
-        let runs = free.len().div_ceil(RUN);
-        longest.resize(runs, 0).unwrap();
-        measure(longest, free, run, runs);
+    let mut longest = 0;
+    for range in ranges {
+        longest = longest.max(range.hi.saturating_sub(range.lo));
     }
+    longest
 }

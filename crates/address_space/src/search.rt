@@ -1,20 +1,19 @@
 //! The least free place, found by the ranges that are free.
-ghost use Rattle.std.specs.Prelude.{ℕ, ◌<◌, ◌≤◌, ◌^◌, length, slice_index};
+ghost use Rattle.std.specs.Prelude.{ℕ, ◌<◌, ◌≤◌, ◌^◌, length, slice_index_or};
 ghost use Rattle.pun_base.specs.Least.{IsLeast, Least};
 ghost use Rattle.address_space.specs.Ranges.{
   Ascending,
-  IsApart,
   IsSmall,
   PlacesFrom,
   FitsIn,
   FitsAmong,
   EndedFirst,
-  BegunFirst,
 };
-ghost use Rattle.address_space.specs.Runs.{IsMeasured};
+ghost use Rattle.address_space.specs.Blocks.{flat};
 
+use crate::block::Block;
+use crate::blocks::{blocks_begun, blocks_ended};
 use crate::free_range::FreeRange;
-use crate::runs::RUN;
 use crate::window::{Window, next_step};
 
 /// The least address at or above `low`, less than `width` above a step, at which a window's
@@ -56,10 +55,13 @@ fn fit_in(window: Window, range: FreeRange) -> Option<u32>
 fn fit_among(window: Window, ranges: &[FreeRange]) -> Option<u32>
     requires small { IsSmall window }
     requires from { window.from < window.top }
-    requires apart { IsApart ranges.now }
+    requires ascending { Ascending 0x20000 ranges.now }
     ensures { Least (FitsAmong window ranges.now) result }
 {
     for range in ranges {
+        if window.top <= u64::from(range.lo) {
+            return None;
+        }
         if let Some(place) = fit_in(window, *range) {
             return Some(place);
         }
@@ -76,56 +78,45 @@ pub fn count_ended(ranges: &[FreeRange], addr: u64) -> usize
     ranges.partition_point(|range| u64::from(range.hi) <= addr)
 }
 
-/// How many ranges begin below an address; they are the first ones.
-fn count_begun(ranges: &[FreeRange], addr: u64) -> usize
-    requires { Ascending 0x20000 ranges.now }
-    ensures bound { result ≤ length ranges.now }
-    ensures parted { BegunFirst ranges.now addr result }
-{
-    ranges.partition_point(|range| u64::from(range.lo) < addr)
-}
-
-/// The first run from `first` up to and without `end` that has a range of `size` addresses, or
+/// The first block from `first` up to and without `end` that has a range of `size` addresses, or
 /// `end`.
-fn long_run(longest: &[u32], first: usize, end: usize, size: u64) -> usize
+fn long_block(blocks: &[Block], first: usize, end: usize, size: u64) -> usize
     requires first { first ≤ end }
-    requires end { end ≤ length longest.now }
+    requires end { end ≤ length blocks.now }
     ensures bound { (first ≤ result) × (result ≤ end) }
-    ensures short { (k : ℕ) → first ≤ k → k < result → slice_index longest.now k < size }
+    ensures short { (k : ℕ) (d : Block) → first ≤ k → k < result → (slice_index_or blocks.now k d).longest < size }
 {
-    for run in first..end {
-        if size <= u64::from(longest[run]) {
-            return run;
+    for number in first..end {
+        if size <= u64::from(blocks[number].longest) {
+            return number;
         }
     }
     end
 }
 
-/// The least place for a window's addresses in all free ranges, given the length of the longest in
-/// each run.
-pub fn least(window: Window, ranges: &[FreeRange], longest: &[u32]) -> Option<u32>
+/// The least place for a window's addresses in the ranges of all blocks.
+pub fn least(window: Window, blocks: &[Block]) -> Option<u32>
     requires small { IsSmall window }
-    requires ascending { Ascending 0x20000 ranges.now }
-    requires measured { IsMeasured ranges.now longest.now }
-    ensures { Least (FitsAmong window ranges.now) result }
+    requires ascending { Ascending 0x20000 (flat blocks.now) }
+    ensures { Least (FitsAmong window (flat blocks.now)) result }
 {
     if window.top <= window.from {
         return None;
     }
-    let end = count_begun(ranges, window.top);
-    let mut next = count_ended(ranges, window.from);
+    let end = blocks_begun(blocks, window.top);
+    let mut low = window.from;
+    let mut next = blocks_ended(blocks, low);
     while next < end {
-        let run = long_run(longest, next / RUN, end.div_ceil(RUN), window.size);
-        let first = next.max(run * RUN);
-        if end <= first {
+        let number = long_block(blocks, next, end, window.size);
+        if number == end {
             return None;
         }
-        let behind = end.min((run + 1) * RUN);
-        if let Some(place) = fit_among(window, &ranges[first..behind]) {
+        let ranges = blocks[number].ranges.as_slice();
+        if let Some(place) = fit_among(window, &ranges[count_ended(ranges, low)..]) {
             return Some(place);
         }
-        let place = next_place(window, ranges[behind - 1].lo);
-        next = behind.max(count_ended(ranges, place));
+        low = next_place(window, ranges[ranges.len() - 1].lo);
+        next = blocks_ended(blocks, low).max(number + 1);
     }
     None
 }

@@ -5,11 +5,12 @@ ghost use Rattle.pun_base.specs.Least.{Least};
 ghost use Rattle.address_space.specs.Marks.{MarksMore};
 ghost use Rattle.address_space.specs.Fit.{Fits, FitsStep, FitsNear, FitsAside, FitsPages};
 
+use crate::blank_block::{BlankBlock, prepare};
+use crate::block::Block;
+use crate::blocks::{blocks_ended, blocks_of, mark_blocks, take_out};
 use crate::extent::Extent;
-use crate::free_range::FreeRange;
-use crate::marked_places::{mark_ranges, shift_of};
-use crate::ranges::{free_beside, take_out};
-use crate::runs::{RUN, measured};
+use crate::marked_places::shift_of;
+use crate::ranges::free_beside;
 use crate::search::{count_ended, least};
 use crate::window::{Window, start, top};
 use pun_base::limits::{ADDRESS_END, ORIGINAL_LOW, PAGE_LEN};
@@ -19,27 +20,27 @@ use std::marker::Model;
 
 /// The addresses where code may be put: those from 0x20000 up to and without 0x7FFF0000 that aren't taken.
 ///
-/// They are kept as the maximal free ranges in ascending order, and for each run of 64 of these the length of the longest, by which
-/// a search skips. Memory is taken by `new` and `reserve` alone: `reserve` makes room beforehand, and contracts see as `spare` for
-/// how many more ranges.
+/// They are kept as the maximal free ranges in ascending order, by blocks of less than 64, and for each block the length of its
+/// longest range, by which a search skips. Memory is taken by `new` and `reserve` alone: `reserve` makes blank blocks beforehand.
+/// Contracts see as `spare` how many these are, and so for how many more ranges they serve, since a range that is taken needs one
+/// at most.
 #[derive(Drop)]
 pub struct Space {
-    free: Vec<FreeRange>,
-    longest: Vec<u32>,
-    spare: usize,
+    blocks: Vec<Block>,
+    blank: Vec<BlankBlock>,
 }
 
 impl Model for Space {
-    ghost use Rattle.std.specs.Prelude.{vec_capacity};
+    ghost use Rattle.std.specs.Prelude.{◌+◌, ◌≤◌, vec_len, vec_capacity};
     ghost use Rattle.address_space.specs.Free.{SpaceState};
-    ghost use Rattle.address_space.specs.Ranges.{gaps};
-    ghost use Rattle.address_space.specs.Runs.{IsKept};
+    ghost use Rattle.address_space.specs.Ranges.{Ascending, gaps};
+    ghost use Rattle.address_space.specs.Blocks.{flat};
 
     ghost Value = { SpaceState };
 
-    ghost view = { λ s. record { taken = gaps 0x20000 s.free.items; spare = s.spare } };
+    ghost view = { λ s. record { taken = gaps 0x20000 (flat s.blocks.items); spare = vec_len s.blank } };
 
-    ghost invariant = { λ s. IsKept s.free.items (vec_capacity s.free) s.longest.items (vec_capacity s.longest) s.spare };
+    ghost invariant = { λ s. Ascending 0x20000 (flat s.blocks.items) × (vec_len s.blocks + vec_len s.blank ≤ vec_capacity s.blocks) };
 }
 
 impl Space {
@@ -54,25 +55,21 @@ impl Space {
         }
         extents.sort_unstable_by_key(|extent| extent.lo);
         let free = free_beside(alloc, &extents)?;
-        let longest = measured(alloc, &free)?;
+        let blocks = blocks_of(alloc, &free)?;
         Ok(Space {
-            free,
-            longest,
-            spare: 0,
+            blocks,
+            blank: Vec::new(alloc),
         })
     }
 
     /// Makes room for at least `n` more calls of `take`.
-    pub fn reserve(&mut self, _alloc: Global, n: u32) -> Result<(), AllocError>
+    pub fn reserve(&mut self, alloc: Global, n: u32) -> Result<(), AllocError>
         ensures spare { OnOk result (n ≤ self.new.spare) }
         ensures taken { OnOk result (self.new.taken ≡ self.old.taken) }
         ensures refused { OnErr result (self.new ≡ self.old) }
     {
-        let n = n as usize;
-        self.longest.reserve(n / RUN + 1)?;
-        self.free.reserve(n)?;
-        self.spare = self.spare.max(n);
-        Ok(())
+        self.blocks.reserve(n as usize)?;
+        prepare(&mut self.blank, alloc, n as usize)
     }
 
     /// Takes the addresses of a range, which isn't widened to whole pages.
@@ -83,9 +80,10 @@ impl Space {
             ↔ (IsFree self.old.taken t n × Misses t n (extent_of range)) }
         ensures spare { self.old.spare ≤ self.new.spare + 1 }
     {
-        let place = count_ended(&self.free, u64::from(range.lo));
-        take_out(&mut self.free, &mut self.longest, place, range);
-        self.spare -= 1;
+        let lo = u64::from(range.lo);
+        let number = blocks_ended(&self.blocks, lo);
+        let place = count_ended(&self.blocks[number].ranges, lo);
+        take_out(&mut self.blocks, &mut self.blank, number, place, range);
     }
 
     /// The least address from `lo` up to and without `hi` where `size` addresses are free and none is one of `avoid`.
@@ -118,7 +116,7 @@ impl Space {
             size: u64::from(size),
             avoid,
         };
-        least(window, &self.free, &self.longest)
+        least(window, &self.blocks)
     }
 
     /// The least address below `hi` where `size` addresses are free, of the `width` addresses from `lo` on, those from `lo + step` on,
@@ -137,7 +135,7 @@ impl Space {
             size: u64::from(size),
             avoid: None,
         };
-        least(window, &self.free, &self.longest)
+        least(window, &self.blocks)
     }
 
     /// Marks how far above `lo` the addresses from `lo` up to and without `hi` lie where `size` addresses are free, multiples of `step`
@@ -156,7 +154,7 @@ impl Space {
             avoid: None,
         };
         let shift = shift_of(lo, step as u64);
-        mark_ranges(words, window, shift, &self.free);
+        mark_blocks(words, window, shift, &self.blocks);
     }
 
     /// The least address of a page from which on `pages` pages are free: a page has 4,096 bytes.
@@ -172,6 +170,6 @@ impl Space {
             size: u64::from(pages) * PAGE_LEN as u64,
             avoid: None,
         };
-        least(window, &self.free, &self.longest)
+        least(window, &self.blocks)
     }
 }

@@ -1,37 +1,91 @@
-use Rattle.std.proofs.Common.{arith}
+use Rattle.std.proofs.Common.{◌≡◌, ◌+◌, ◌-◌, ◌<◌, ◌≤◌, List, None, length, get_or, take, drop, arith, ap, sym, subst}
+use Rattle.pun_base.specs.Least.{IsLeast, Least}
 use Rattle.address_space.specs.declared.free_range.FreeRange.{FreeRange}
-use Rattle.address_space.proofs.RangePlaces.{apart}
-use Rattle.address_space.proofs.LeastPlaces.{part_apart, found_part, none_part, none_ended, none_begun, none_late, none_short, none_leapt}
+use Rattle.address_space.specs.Ranges.{Ascending, PlacesFrom, FitsAmong, EndedFirst}
+use Rattle.address_space.specs.Blocks.{flat, begin}
+use Rattle.address_space.proofs.LeastPlaces.{blank, none_late}
+use Rattle.address_space.proofs.BlockLists.{begin_most, begin_rises, some_block, block_ascends}
+use Rattle.address_space.proofs.BlockSearches.{all_above, none_under, short_up_to, none_behind, rest_ascends, found_here, none_here, leaps, none_in_more}
 use Rattle.address_space.proofs.search.least.Goals as goal
 
 pub returns-then-window : goal.returns-then-window
-returns-then-window c = none_late c.args.window c.args.ranges.now (omega arith)
+returns-then-window c = none_late c.args.window (flat c.args.blocks.now) (omega arith)
 
 pub loop-next-init : goal.loop-next-init
-loop-next-init c = none_ended c.args.window c.args.ranges.now c.count_ended-next.result c.requires.small.full c.count_ended-next.ensures.parted
+loop-next-init c =
+    let rs = flat c.args.blocks.now in
+    let above = all_above c.args.window rs in
+    record {
+      none = none_under c.args.window rs (begin c.args.blocks.now c.blocks_ended-next.result) c.args.window.from c.requires.small.full
+          (begin_most c.args.blocks.now c.blocks_ended-next.result) above c.blocks_ended-next.ensures.parted.first;
+      above = above;
+    }
 
-pub returns-then-end-first : goal.returns-then-end-first
-returns-then-end-first c =
-    let none = none_short c.args.window c.args.ranges.now c.args.longest.now c.loop-next.next c.long_run-run.result c.count_begun-end.result c.requires.measured c.count_begun-end.ensures.bound c.loop-next.invariant c.long_run-run.ensures.short in
-    none_begun c.args.window c.args.ranges.now c.count_begun-end.result c.count_begun-end.ensures.parted (λ j d h s f. none j d (omega (arith, c.max-first.ensures)) s f)
+pub returns-then-number-end : goal.returns-then-number-end
+returns-then-number-end c =
+    let blocks = c.args.blocks.now in
+    let number = c.long_block-number.result in
+    let none = short_up_to c.args.window blocks c.loop-next.next number (some_block blocks (omega (arith, c.blocks_begun-end.ensures.bound))) c.long_block-number.ensures.bound.0
+    (omega (arith, c.long_block-number.ensures.bound.1, c.blocks_begun-end.ensures.bound)) c.loop-next.invariant.none c.long_block-number.ensures.short in
+    let last : number ≡ c.blocks_begun-end.result = omega arith in
+    let same = ap (begin blocks) last in
+    none_behind c.args.window (flat blocks) (begin blocks number) (λ k d from below. c.blocks_begun-end.ensures.parted k d (omega (arith, from, same)) below) none
 
-pub fit_among-requires-clause-apart : goal.fit_among-requires-clause-apart
-fit_among-requires-clause-apart c =
-    part_apart c.args.ranges.now c.max-first.result c.min-behind.result (omega (arith, c.min-behind.ensures, c.max-first.ensures)) (omega (arith, c.min-behind.ensures, c.count_begun-end.ensures.bound)) (apart c.args.ranges.now 0x20000 c.requires.ascending)
+pub count_ended-requires : goal.count_ended-requires
+count_ended-requires c =
+    let blocks = c.args.blocks.now in
+    let number = c.long_block-number.result in
+    let within : number < length blocks = omega (arith, c.long_block-number.ensures.bound.1, c.blocks_begun-end.ensures.bound, c.if-number-end.false) in
+    subst (Ascending 0x20000) (sym c.as_slice-ranges.ensures.value) (block_ascends blocks number c.index-blocks-number.result within c.requires.ascending)
+
+pub fit_among-requires-clause-ascending : goal.fit_among-requires-clause-ascending
+fit_among-requires-clause-ascending c =
+    let blocks = c.args.blocks.now in
+    let number = c.long_block-number.result in
+    let within : number < length blocks = omega (arith, c.long_block-number.ensures.bound.1, c.blocks_begun-end.ensures.bound, c.if-number-end.false) in
+    rest_ascends c.as_slice-ranges.result.now c.count_ended.result
+    (subst (Ascending 0x20000) (sym c.as_slice-ranges.ensures.value) (block_ascends blocks number c.index-blocks-number.result within c.requires.ascending))
 
 pub returns-in-Some : goal.returns-in-Some
 returns-in-Some c =
-    let none = none_short c.args.window c.args.ranges.now c.args.longest.now c.loop-next.next c.long_run-run.result c.count_begun-end.result c.requires.measured c.count_begun-end.ensures.bound c.loop-next.invariant c.long_run-run.ensures.short in
-    found_part c.args.window c.args.ranges.now c.max-first.result c.min-behind.result c.in-Some.place (apart c.args.ranges.now 0x20000 c.requires.ascending) (omega (arith, c.min-behind.ensures, c.max-first.ensures)) (omega (arith, c.min-behind.ensures, c.count_begun-end.ensures.bound)) (λ j d h s f. none j d (omega (arith, c.max-first.ensures)) s f) c.in-Some.ensures
+    let w = c.args.window in
+    let blocks = c.args.blocks.now in
+    let number = c.long_block-number.result in
+    let first = c.count_ended.result in
+    let block = c.index-blocks-number.result in
+    let value = c.as_slice-ranges.ensures.value in
+    let within : number < length blocks = omega (arith, c.long_block-number.ensures.bound.1, c.blocks_begun-end.ensures.bound, c.if-number-end.false) in
+    let none = short_up_to w blocks c.loop-next.next number block c.long_block-number.ensures.bound.0 (omega (arith, within)) c.loop-next.invariant.none c.long_block-number.ensures.short in
+    let few : first ≤ length (get_or blocks number block).ranges.items = omega (arith, c.count_ended.ensures.bound, ap length value) in
+    let ended = subst (λ (rs : List FreeRange). EndedFirst rs c.loop-next.low first) value c.count_ended.ensures.parted in
+    found_here w blocks number first c.loop-next.low block within c.requires.small.full c.requires.ascending few ended c.loop-next.invariant.above none c.in-Some.place
+    (subst (λ (rs : List FreeRange). IsLeast (FitsAmong w (take (length rs - first) (drop first rs))) c.in-Some.place) value c.in-Some.ensures)
 
 pub loop-next-preserved : goal.loop-next-preserved
 loop-next-preserved c =
-    let none = none_short c.args.window c.args.ranges.now c.args.longest.now c.loop-next.next c.long_run-run.result c.count_begun-end.result c.requires.measured c.count_begun-end.ensures.bound c.loop-next.invariant c.long_run-run.ensures.short in
-    let passed = none_part c.args.window c.args.ranges.now c.max-first.result c.min-behind.result (omega (arith, c.min-behind.ensures, c.count_begun-end.ensures.bound)) (λ j d h s f. none j d (omega (arith, c.max-first.ensures)) s f) c.in_default.ensures in
-    let blank : FreeRange = record { lo = 0; hi = 0 } in
-    rw c.max-next.ensures
-    (none_leapt c.args.window c.args.ranges.now c.min-behind.result c.count_ended.result c.next_place-place.result blank c.requires.ascending c.requires.small.full (omega (arith, c.min-behind.ensures, c.max-first.ensures)) (omega (arith, c.min-behind.ensures, c.count_begun-end.ensures.bound)) c.count_ended.ensures.bound passed c.next_place-place.ensures.value c.count_ended.ensures.parted)
+    let w = c.args.window in
+    let blocks = c.args.blocks.now in
+    let number = c.long_block-number.result in
+    let first = c.count_ended.result in
+    let block = c.index-blocks-number.result in
+    let value = c.as_slice-ranges.ensures.value in
+    let within : number < length blocks = omega (arith, c.long_block-number.ensures.bound.1, c.blocks_begun-end.ensures.bound, c.if-number-end.false) in
+    let none = short_up_to w blocks c.loop-next.next number block c.long_block-number.ensures.bound.0 (omega (arith, within)) c.loop-next.invariant.none c.long_block-number.ensures.short in
+    let few : first ≤ length (get_or blocks number block).ranges.items = omega (arith, c.count_ended.ensures.bound, ap length value) in
+    let ended = subst (λ (rs : List FreeRange). EndedFirst rs c.loop-next.low first) value c.count_ended.ensures.parted in
+    let passed = none_here w blocks number first c.loop-next.low block within c.requires.small.full c.requires.ascending few ended c.loop-next.invariant.above none
+    (subst (λ (rs : List FreeRange). Least (FitsAmong w (take (length rs - first) (drop first rs))) None) value c.in_default.ensures) in
+    let low = c.next_place-low.result in
+    let above = leaps w blocks number first c.loop-next.low block within c.requires.small.full c.requires.ascending few ended c.loop-next.invariant.above none low blank passed
+    (subst (λ (rs : List FreeRange). IsLeast (PlacesFrom w (get_or rs (length rs - 1) blank).lo) low) value c.next_place-low.ensures.value) in
+    let under = none_under w (flat blocks) (begin blocks c.blocks_ended.result) low c.requires.small.full (begin_most blocks c.blocks_ended.result) above c.blocks_ended.ensures.parted.first in
+    record {
+      none = rw c.max-next.ensures (none_in_more w blocks c.blocks_ended.result (number + 1) under passed);
+      above = above;
+    }
 
 pub returns : goal.returns
 returns c =
-    none_begun c.args.window c.args.ranges.now c.count_begun-end.result c.count_begun-end.ensures.parted (λ j d h s f. c.loop-next.invariant j d (omega arith) s f)
+    let blocks = c.args.blocks.now in
+    let rises = begin_rises blocks c.blocks_begun-end.result c.loop-next.next (omega arith) in
+    none_behind c.args.window (flat blocks) (begin blocks c.loop-next.next) (λ k d from below. c.blocks_begun-end.ensures.parted k d (omega (arith, from, rises)) below) c.loop-next.invariant.none

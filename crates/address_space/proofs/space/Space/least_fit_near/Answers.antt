@@ -3,6 +3,7 @@ use Rattle.std.proofs.lemmas.Int.{ints}
 use Rattle.address_space.specs.Windows.{IsStart, IsTop}
 use Rattle.address_space.specs.declared.window.Window.{Window}
 use Rattle.address_space.specs.Ranges.{gaps}
+use Rattle.address_space.specs.Blocks.{flat}
 use Rattle.address_space.proofs.EquivalentSearches.{least_free, least_of_near}
 use Rattle.address_space.proofs.space.Space.least_fit_near.Goals as goal
 
@@ -23,5 +24,5 @@ returns c =
       size = c.from.result;
       avoid = None;
     } in
-    let free = rw c.from.ensures at (least_free window c.self.inside.free.items c.least.result (omega (arith, c.from.ensures, c.requires.size)) c.self.invariant.ascending found) in
-    rw (← c.self.view_is) (least_of_near (gaps 0x20000 c.self.inside.free.items) c.args.lo c.args.hi c.args.step c.args.width c.args.size c.start.result c.top.result c.least.result (c.requires.width.1) start c.top.ensures.bound end free)
+    let free = rw c.from.ensures at (least_free window (flat c.self.inside.blocks.items) c.least.result (omega (arith, c.from.ensures, c.requires.size)) c.self.invariant.0 found) in
+    rw (← c.self.view_is) (least_of_near (gaps 0x20000 (flat c.self.inside.blocks.items)) c.args.lo c.args.hi c.args.step c.args.width c.args.size c.start.result c.top.result c.least.result (c.requires.width.1) start c.top.ensures.bound end free)

@@ -3,6 +3,7 @@ use Rattle.std.proofs.lemmas.Int.{ints}
 use Rattle.address_space.specs.Windows.{IsStart, IsTop}
 use Rattle.address_space.specs.declared.window.Window.{Window}
 use Rattle.address_space.specs.Ranges.{gaps}
+use Rattle.address_space.specs.Blocks.{flat}
 use Rattle.address_space.proofs.EquivalentSearches.{least_free, least_of_steps}
 use Rattle.address_space.proofs.space.Space.least_fit_step.Goals as goal
 
@@ -17,5 +18,5 @@ returns c =
     let end = subst Hi high c.top.ensures.value in
     let found = rw c.deref.ensures.value at c.least.ensures in
     let window : Window = record { from = c.start.result; top = c.top.result; step = c.from-step.result; width = 1; size = c.from.result; avoid = c.args.avoid } in
-    let free = rw (c.from-step.ensures, c.from.ensures) at (least_free window c.self.inside.free.items c.least.result (omega (arith, c.from.ensures, c.requires.size)) c.self.invariant.ascending found) in
-    rw (← c.self.view_is) (least_of_steps (gaps 0x20000 c.self.inside.free.items) c.args.lo c.args.hi c.args.step c.args.size c.args.avoid c.start.result c.top.result c.least.result start c.top.ensures.bound end free)
+    let free = rw (c.from-step.ensures, c.from.ensures) at (least_free window (flat c.self.inside.blocks.items) c.least.result (omega (arith, c.from.ensures, c.requires.size)) c.self.invariant.0 found) in
+    rw (← c.self.view_is) (least_of_steps (gaps 0x20000 (flat c.self.inside.blocks.items)) c.args.lo c.args.hi c.args.step c.args.size c.args.avoid c.start.result c.top.result c.least.result start c.top.ensures.bound end free)

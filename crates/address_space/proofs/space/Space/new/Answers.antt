@@ -1,10 +1,9 @@
-use Rattle.std.proofs.Common.{ap, arith, List, length, map, rules, subst, sym}
+use Rattle.std.proofs.Common.{arith, List, map, rules, subst, sym}
 use Rattle.std.specs.List.Sorted.{IsNonDecreasingBy}
 use Rattle.std.proofs.lemmas.List.{take_all}
 use Rattle.std.proofs.lemmas.List.Sorted.{IsNonDecreasingBy-from_sort_by_key}
 use Rattle.address_space.specs.declared.extent.Extent.{Extent}
 use Rattle.address_space.specs.Free.{whole_pages}
-use Rattle.address_space.proofs.LongestRanges.{all_some}
 use Rattle.address_space.proofs.SweptRanges.{pages_some, made_is}
 use Rattle.address_space.proofs.space.Space.new.Goals as goal
 
@@ -21,15 +20,11 @@ free_beside-requires-clause-some c =
 pub returns : goal.returns
 returns c =
     let pages = rw (c.loop-range.invariant, take_all c.loop-range.range-index c.args.taken.now c.loop-range-test.false) at c.sort_unstable_by_key.ensures.permutation in
-    made_is (map whole_pages c.args.taken.now) c.sort_unstable_by_key.new.self.items c.deref.result.now c.in_ok-free.free.items pages c.deref.ensures.value c.in_ok-free.ensures.ascending c.in_ok-free.ensures.free
-
-pub measured-requires : goal.measured-requires
-measured-requires c = rw c.deref-2.ensures.value (all_some c.in_ok-free.free.items c.in_ok-free.ensures.ascending)
+    rw (c.in_ok-blocks.ensures, c.deref-2.ensures.value)
+    (made_is (map whole_pages c.args.taken.now) c.sort_unstable_by_key.new.self.items c.deref.result.now c.in_ok-free.free.items pages c.deref.ensures.value c.in_ok-free.ensures.ascending c.in_ok-free.ensures.free)
 
 pub invariant_of-result : goal.invariant_of-result
-invariant_of-result c = record {
-  ascending = c.in_ok-free.ensures.ascending;
-  room = omega (arith, c.in_ok-free.free.ok.0, c.in_ok-free.free.ok.1);
-  measured = rw c.deref-2.ensures.value at c.in_ok-longest.ensures.measured;
-  run_room = omega (arith, ap length c.deref-2.ensures.value, c.in_ok-longest.ensures.room);
-}
+invariant_of-result c = (
+  rw (c.in_ok-blocks.ensures, c.deref-2.ensures.value) c.in_ok-free.ensures.ascending,
+  omega (arith, c.in_ok-blocks.blocks.ok.0, c.in_ok-blocks.blocks.ok.1, c.new.ensures.len),
+)

@@ -1,28 +1,91 @@
-use Rattle.std.proofs.Common.{◌≡◌, ◌+◌, ◌-◌, ◌≤◌, length, ap, arith}
-use Rattle.address_space.specs.Free.{SpaceState}
-use Rattle.address_space.proofs.SplitRanges.{taken_here, taken_out, left_ascends}
-use Rattle.address_space.proofs.space.Space.take.Goals as goal
+use Rattle.std.proofs.Common.{◌+◌, ◌<◌, length, get_or, vec_len, arith, ap, sym, subst, ◌∙◌}
+use Rattle.address_space.specs.declared.block.Block.{Block}
+use Rattle.address_space.specs.Ranges.{Ascending}
+use Rattle.address_space.specs.Blocks.{flat, begin}
 use Rattle.address_space.proofs.LeastPlaces.{blank}
+use Rattle.address_space.proofs.SplitRanges.{left_ascends, taken_out}
+use Rattle.address_space.proofs.BlockLists.{block_ascends}
+use Rattle.address_space.proofs.TakenBlocks.{parted_as, ended_as, in_block, stands_at}
+use Rattle.address_space.proofs.space.Space.take.Goals as goal
 
-pub take_out-requires-clause-taken : goal.take_out-requires-clause-taken
-take_out-requires-clause-taken c =
-    let at = taken_here c.self.inside.free.items c.deref.result.now c.args.self.now c.self.inside.spare c.count_ended-place.result c.from.result c.args.range.lo c.args.range.hi c.self.view_is c.deref.ensures.value c.from.ensures c.self.invariant.ascending c.count_ended-place.ensures.parted c.args.range.nonempty c.requires.free in
-    at
+pub index-requires : goal.index-requires
+index-requires c =
+    let blocks = c.self.inside.blocks.items in
+    let spare = vec_len c.self.inside.blank in
+    let number = c.blocks_ended-number.result in
+    let lo = c.args.range.lo in
+    let hi = c.args.range.hi in
+    let parted = parted_as blocks c.deref.result.now lo c.from-lo.result number c.deref.ensures.value c.from-lo.ensures c.blocks_ended-number.ensures.parted in
+    let within : number < length blocks = in_block blocks c.args.self.now spare number lo hi c.self.view_is c.self.invariant.0 c.args.range.nonempty c.requires.free parted in
+    omega (arith, within, c.self.inside.blocks.ok.0)
+
+pub count_ended-place-requires : goal.count_ended-place-requires
+count_ended-place-requires c =
+    let blocks = c.self.inside.blocks.items in
+    let spare = vec_len c.self.inside.blank in
+    let number = c.blocks_ended-number.result in
+    let lo = c.args.range.lo in
+    let hi = c.args.range.hi in
+    let parted = parted_as blocks c.deref.result.now lo c.from-lo.result number c.deref.ensures.value c.from-lo.ensures c.blocks_ended-number.ensures.parted in
+    let block = c.index.result.now in
+    let within : number < length blocks = in_block blocks c.args.self.now spare number lo hi c.self.view_is c.self.invariant.0 c.args.range.nonempty c.requires.free parted in
+    let same = c.deref-2.ensures.value ∙ ap (λ (b : Block). b.ranges.items) c.index.ensures in
+    subst (Ascending 0x20000) (sym same) (block_ascends blocks number block within c.self.invariant.0)
+
+pub take_out-requires-clause-number : goal.take_out-requires-clause-number
+take_out-requires-clause-number c =
+    let blocks = c.self.inside.blocks.items in
+    let spare = vec_len c.self.inside.blank in
+    let number = c.blocks_ended-number.result in
+    let lo = c.args.range.lo in
+    let hi = c.args.range.hi in
+    let parted = parted_as blocks c.deref.result.now lo c.from-lo.result number c.deref.ensures.value c.from-lo.ensures c.blocks_ended-number.ensures.parted in
+    let within : number < length blocks = in_block blocks c.args.self.now spare number lo hi c.self.view_is c.self.invariant.0 c.args.range.nonempty c.requires.free parted in
+    omega (arith, within, c.self.inside.blocks.ok.0)
+
+pub take_out-requires-clause-place : goal.take_out-requires-clause-place
+take_out-requires-clause-place c =
+    let blocks = c.self.inside.blocks.items in
+    let spare = vec_len c.self.inside.blank in
+    let number = c.blocks_ended-number.result in
+    let lo = c.args.range.lo in
+    let hi = c.args.range.hi in
+    let parted = parted_as blocks c.deref.result.now lo c.from-lo.result number c.deref.ensures.value c.from-lo.ensures c.blocks_ended-number.ensures.parted in
+    let place = c.count_ended-place.result in
+    let block = c.index.result.now in
+    let same = c.deref-2.ensures.value ∙ ap (λ (b : Block). b.ranges.items) c.index.ensures in
+    let ended = ended_as (get_or blocks number block).ranges.items c.deref-2.result.now lo c.from-lo.result place same c.from-lo.ensures c.count_ended-place.ensures.parted in
+    let at = stands_at blocks c.args.self.now spare number lo hi c.self.view_is c.self.invariant.0 c.args.range.nonempty c.requires.free parted place block ended in
+    at.place_within
 
 pub invariant_of-self : goal.invariant_of-self
 invariant_of-self c =
-    let at = taken_here c.self.inside.free.items c.deref.result.now c.args.self.now c.self.inside.spare c.count_ended-place.result c.from.result c.args.range.lo c.args.range.hi c.self.view_is c.deref.ensures.value c.from.ensures c.self.invariant.ascending c.count_ended-place.ensures.parted c.args.range.nonempty c.requires.free in
-    let spare : c.self.inside.spare ≡ c.args.self.now.spare = ap (λ (s : SpaceState). s.spare) c.self.view_is in
-    let less : length c.take_out.new.free.items + (c.self.inside.spare - 1) ≤ length c.self.inside.free.items + c.self.inside.spare =
-    omega (arith, spare, c.take_out.ensures.len, c.take_out.new.free.ok.0, c.self.inside.free.ok.0, c.requires.spare) in
-    record {
-      ascending = rw (c.take_out.ensures.items blank) (left_ascends c.self.inside.free.items c.count_ended-place.result c.args.range.lo c.args.range.hi blank c.self.invariant.ascending at);
-      room = omega (arith, less, c.take_out.ensures.capacity, c.self.invariant.room);
-      measured = c.take_out.ensures.measured;
-      run_room = omega (arith, less, c.take_out.ensures.runs, c.self.invariant.run_room);
-    }
+    let blocks = c.self.inside.blocks.items in
+    let spare = vec_len c.self.inside.blank in
+    let number = c.blocks_ended-number.result in
+    let lo = c.args.range.lo in
+    let hi = c.args.range.hi in
+    let parted = parted_as blocks c.deref.result.now lo c.from-lo.result number c.deref.ensures.value c.from-lo.ensures c.blocks_ended-number.ensures.parted in
+    let place = c.count_ended-place.result in
+    let block = c.index.result.now in
+    let same = c.deref-2.ensures.value ∙ ap (λ (b : Block). b.ranges.items) c.index.ensures in
+    let ended = ended_as (get_or blocks number block).ranges.items c.deref-2.result.now lo c.from-lo.result place same c.from-lo.ensures c.count_ended-place.ensures.parted in
+    let at = stands_at blocks c.args.self.now spare number lo hi c.self.view_is c.self.invariant.0 c.args.range.nonempty c.requires.free parted place block ended in (
+      rw (c.take_out.ensures.items blank) (left_ascends (flat blocks) (begin blocks number + place) lo hi blank c.self.invariant.0 at.taken),
+      omega (arith, c.take_out.ensures.room, c.take_out.ensures.capacity, c.self.invariant.1),
+    )
 
 pub returns-clause-free : goal.returns-clause-free
 returns-clause-free c =
-    let at = taken_here c.self.inside.free.items c.deref.result.now c.args.self.now c.self.inside.spare c.count_ended-place.result c.from.result c.args.range.lo c.args.range.hi c.self.view_is c.deref.ensures.value c.from.ensures c.self.invariant.ascending c.count_ended-place.ensures.parted c.args.range.nonempty c.requires.free in
-    taken_out c.self.inside.free.items c.take_out.new.free.items c.args.self.now c.self.inside.spare c.count_ended-place.result c.args.range.lo c.args.range.hi blank c.self.view_is c.self.invariant.ascending at (c.take_out.ensures.items blank)
+    let blocks = c.self.inside.blocks.items in
+    let spare = vec_len c.self.inside.blank in
+    let number = c.blocks_ended-number.result in
+    let lo = c.args.range.lo in
+    let hi = c.args.range.hi in
+    let parted = parted_as blocks c.deref.result.now lo c.from-lo.result number c.deref.ensures.value c.from-lo.ensures c.blocks_ended-number.ensures.parted in
+    let place = c.count_ended-place.result in
+    let block = c.index.result.now in
+    let same = c.deref-2.ensures.value ∙ ap (λ (b : Block). b.ranges.items) c.index.ensures in
+    let ended = ended_as (get_or blocks number block).ranges.items c.deref-2.result.now lo c.from-lo.result place same c.from-lo.ensures c.count_ended-place.ensures.parted in
+    let at = stands_at blocks c.args.self.now spare number lo hi c.self.view_is c.self.invariant.0 c.args.range.nonempty c.requires.free parted place block ended in
+    taken_out (flat blocks) (flat c.take_out.new.blocks.items) c.args.self.now spare (begin blocks number + place) lo hi blank c.self.view_is c.self.invariant.0 at.taken (c.take_out.ensures.items blank)

@@ -94,10 +94,18 @@ def report(length: int) -> bytes:
     return b"\n".join(rows)
 
 
+ZEROS = "".join(f"{name} {2 * (name == 'flags'):016x}\n" for name in REGISTERS)
+
+
 def script(further: bytes = b"") -> bytes:
     """A world script whose registers are 0, and these lines behind them."""
-    registers = "".join(f"{name} {2 * (name == 'flags'):016x}\n" for name in REGISTERS)
-    return f"e9world 1\n{registers}".encode() + further + b"end\n"
+    return f"e9world 1\n{ZEROS}".encode() + further + b"end\n"
+
+
+def due(step: int, rip: int, addr: int = 0, written: str = "") -> str:
+    """A delivery of a world script behind so many steps: registers that are 0, where it leads, and bytes that it writes."""
+    write = f"mem {addr:016x} {written}\n" if written else ""
+    return f"due {step:016x}\n{ZEROS}rip {rip:016x}\n{write}"
 
 
 def told_run(steps: int, outside: int, rip: int, rax: int, world: int = 0) -> bytes:

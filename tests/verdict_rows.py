@@ -1,8 +1,9 @@
-"""Rows that tables give: what breaks each rule of a sound image, as `check` reports it, and what keeps `step` from a step."""
+"""Rows that tables give: what breaks each rule of a sound image, as `check` reports it, what keeps `step` from a step, and
+scripts with deliveries."""
 from collections.abc import Iterator
 from struct import pack
 
-from limit_files import PAGE, TEXT, TRAMP, script, told_run
+from limit_files import PAGE, TEXT, TRAMP, due, script, told_run
 from made_rows import ONE_MOV, Row, cover_event, entry, file_of, files_in
 
 Files = dict[str, bytes]
@@ -138,6 +139,24 @@ STOPS: list[tuple[str, bytes, bytes, str, int, int]] = [
     ("another answer for flags", IMUL, ANSWER, "WorldDiffers", TEXT, 1),
 ]
 
+# a text that loads eax from 0x600000, which holds 0 and where deliveries may write, and then ends; its starts
+LOAD, DATA, END = b"\x8b\x04\x25\0\0\x60\0\xf4", 0x600000, TEXT + 7
+REGION, BOTH, FIRST = b"zero 0000000000600000 0000000000601000 rw-\n", b"401000\n401007\n", b"401000\n"
+# deliveries, the starts, how many steps are asked for and are made, how many deliveries are made, and eax at the end
+DELIVERIES: list[tuple[str, str, bytes, int, int, int, int]] = [
+    ("before the first step", due(0, TEXT, DATA, "2a"), BOTH, 1, 1, 1, 0x2A),
+    ("between steps", due(1, TEXT, DATA, "2a"), BOTH, 2, 2, 1, 0x2A),
+    ("two at once, in order", due(0, TEXT, DATA, "2a") + due(0, TEXT, DATA, "2b"), BOTH, 1, 1, 2, 0x2B),
+    ("none behind the last step", due(1, TEXT), BOTH, 1, 1, 0, 0),
+]
+# deliveries that don't fit, the starts, how many steps are made, and the address
+UNFIT: list[tuple[str, str, bytes, int, int]] = [
+    ("it leads to no start", due(0, TEXT + 1), BOTH, 0, TEXT + 1),
+    ("it comes at no start", due(1, TEXT), FIRST, 1, END),
+    ("it writes a missing byte", due(0, TEXT, DATA - 1, "2a"), BOTH, 0, DATA - 1),
+    ("it writes a byte of code", due(0, TEXT, END, "90"), BOTH, 0, END),
+]
+
 
 def unsound_rows() -> Iterator[Row]:
     for why, changed, told in UNSOUND:
@@ -153,6 +172,22 @@ def stop_rows() -> Iterator[Row]:
         yield Row(f"step stops, {stop}, {why}", b"step F S W 1".split(), inputs, 8, told)
 
 
+def delivery_inputs(dues: str, starts: bytes) -> Files:
+    return {"F": file_of(64, 1, LOAD), "S": starts, "W": f"e9world 2\n{dues}".encode() + script(REGION)}
+
+
+def delivery_rows() -> Iterator[Row]:
+    for why, dues, starts, most, steps, made, eax in DELIVERIES:
+        told = told_run(steps, steps + 1, END, eax).replace(b"stop", b"deliveries %d\nstop" % made)
+        yield Row(f"step delivers, {why}", f"step F S W {most}".encode().split(), delivery_inputs(dues, starts), 0, told)
+    for why, dues, starts, steps, addr in UNFIT:
+        told = told_run(steps, 1, END if steps else TEXT, 0).replace(b"stop none", b"deliveries 0\nstop NoFit %016x" % addr)
+        if starts == FIRST:  # the run ends at no start
+            told = told.replace(b"quiet yes", b"quiet no")
+        yield Row(f"step stops, NoFit, {why}", b"step F S W 2".split(), delivery_inputs(dues, starts), 8, told)
+
+
 def verdict_rows() -> Iterator[Row]:
     yield from unsound_rows()
     yield from stop_rows()
+    yield from delivery_rows()

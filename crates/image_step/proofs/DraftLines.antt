@@ -40,7 +40,7 @@ pub record Grown (d : Draft) (x : Line) (e : Draft) : Type 0 where
 
 -- ---- lists of lines that grow
 
-values_push : (k : ℕ) (vs : List ℕ) (v : ℕ) → value_lines k (vs ++ v ∷ []) ≡ value_lines k vs ++ line.Value (k + length vs) v ∷ []
+pub values_push : (k : ℕ) (vs : List ℕ) (v : ℕ) → value_lines k (vs ++ v ∷ []) ≡ value_lines k vs ++ line.Value (k + length vs) v ∷ []
 values_push k [] v = let e : k ≡ k + 0 = omega arith in ap (λ (j : ℕ). line.Value j v ∷ []) e
 values_push k (u ∷ vs) v =
     let e : k + 1 + length vs ≡ k + suc (length vs) = omega arith in

@@ -18,6 +18,14 @@ nineteen {X} xs d h =
     let whole : drop 16 xs ≡ get_or xs 16 d ∷ get_or xs 17 d ∷ get_or xs 18 d ∷ [] = rw (e16, e17, e18, e19) refl in
     ap (λ (l : List X). take 16 xs ++ l) (sym whole) ∙ take-append-drop 16 xs
 
+-- A list of nineteen by its parts.
+pub nineteen_of : (vs regs : List ℕ) (a b c : ℕ) → length vs ≡ 19 → regs ≡ take 16 vs → a ≡ get_or vs 16 0 → b ≡ get_or vs 17 0 → c ≡ get_or vs 18 0
+    → vs ≡ regs ++ (a ∷ b ∷ c ∷ [])
+nineteen_of vs regs a b c h e p q r =
+    sym (ap (λ (l : List ℕ). l ++ (a ∷ b ∷ c ∷ [])) e ∙ (ap (λ (n : ℕ). take 16 vs ++ (n ∷ b ∷ c ∷ [])) p
+    ∙ (ap (λ (n : ℕ). take 16 vs ++ (get_or vs 16 0 ∷ n ∷ c ∷ [])) q ∙ (ap (λ (n : ℕ). take 16 vs ++ (get_or vs 16 0 ∷ get_or vs 17 0 ∷ n ∷ [])) r
+    ∙ nineteen vs 0 h))))
+
 -- A script's value by its parts.
 pub value_of_parts : (vs regs : List ℕ) (a b c : ℕ) (rs qs : List Region) (es fs : List EntryValue) → length vs ≡ 19 → regs ≡ take 16 vs
     → a ≡ get_or vs 16 a → b ≡ get_or vs 17 b → c ≡ get_or vs 18 c → rs ≡ qs → es ≡ fs
@@ -26,10 +34,7 @@ value_of_parts vs regs a b c rs qs es fs h e p q r s t =
     let pa : a ≡ get_or vs 16 0 = p ∙ get_or_default_zero vs 16 a (omega arith) in
     let pb : b ≡ get_or vs 17 0 = q ∙ get_or_default_zero vs 17 b (omega arith) in
     let pc : c ≡ get_or vs 18 0 = r ∙ get_or_default_zero vs 18 c (omega arith) in
-    let same : vs ≡ regs ++ (a ∷ b ∷ c ∷ []) =
-    sym (ap (λ (l : List ℕ). l ++ (a ∷ b ∷ c ∷ [])) e ∙ (ap (λ (n : ℕ). take 16 vs ++ (n ∷ b ∷ c ∷ [])) pa
-    ∙ (ap (λ (n : ℕ). take 16 vs ++ (get_or vs 16 0 ∷ n ∷ c ∷ [])) pb ∙ (ap (λ (n : ℕ). take 16 vs ++ (get_or vs 16 0 ∷ get_or vs 17 0 ∷ n ∷ [])) pc
-    ∙ nineteen vs 0 h)))) in
+    let same : vs ≡ regs ++ (a ∷ b ∷ c ∷ []) = nineteen_of vs regs a b c h e pa pb pc in
     let regions : qs ≡ rs = sym s in
     let entries : fs ≡ es = sym t in
     λ i. record { values = same i; regions = regions i; entries = entries i }

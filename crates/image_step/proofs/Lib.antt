@@ -18,3 +18,9 @@ pub mod AccessesAndStarts
 pub mod RunnerSteps
 pub mod RegionsOutsideImages
 pub mod InstructionByteSearch
+pub mod Languages
+pub mod ScenarioLines
+pub mod ScenarioDrafts
+pub mod ScenarioLanguage
+pub mod ScenarioTexts
+pub mod PlainScenarios

@@ -223,7 +223,7 @@ left (body vs rs) = line.End ∷ []
 left (asked vs rs es e) = line.End ∷ []
 left (done vs rs es) = []
 
-values_append : (k : ℕ) (vs ws : List ℕ) → value_lines k (vs ++ ws) ≡ value_lines k vs ++ value_lines (k + length vs) ws
+pub values_append : (k : ℕ) (vs ws : List ℕ) → value_lines k (vs ++ ws) ≡ value_lines k vs ++ value_lines (k + length vs) ws
 values_append k [] ws = let e : k ≡ k + 0 = omega arith in ap (λ (j : ℕ). value_lines j ws) e
 values_append k (v ∷ vs) ws =
     let e : k + 1 + length vs ≡ k + suc (length vs) = omega arith in
@@ -251,7 +251,7 @@ completed_lines (asked vs rs es e) =
     ∙ regroup_asked line.Version (value_lines 0 vs) (map line.Region rs) (flat_map entry_lines es) (entry_lines e) (line.End ∷ [])
 completed_lines (done vs rs es) = sym (append-nil _)
 
-zero_lines : (k n : ℕ) → k + n ≤ 19 → AllByRecursion LineHolds (value_lines k (replicate n 0))
+pub zero_lines : (k n : ℕ) → k + n ≤ 19 → AllByRecursion LineHolds (value_lines k (replicate n 0))
 zero_lines k zero h = tt
 zero_lines k (suc n) h = (record { fits = grind (arith, nat_tests); numbers = omega arith }, zero_lines (k + 1) n (omega arith))
 

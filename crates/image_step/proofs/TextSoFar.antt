@@ -251,7 +251,7 @@ some_left d rest h v is e = h (ap (length {A = ℕ}) e)
 pub not_done : (d : Draft) (rest : List ℕ) → script_in d ≡ None → Unended d rest
 not_done d rest h v is e = let both : ◌≡◌ {A = Option ScriptValue} (script_in (done v.values v.regions v.entries)) None = ap script_in (sym is) ∙ h in cc
 
-done_is : (d : Draft) (v : ScriptValue) → script_in d ≡ Some v → d ≡ done v.values v.regions v.entries
+pub done_is : (d : Draft) (v : ScriptValue) → script_in d ≡ Some v → d ≡ done v.values v.regions v.entries
 done_is blank v h = absurd cc
 done_is (heads vs) v h = absurd cc
 done_is (body vs rs) v h = absurd cc

@@ -13,3 +13,7 @@ pub mod Fitting
 pub mod Starting
 pub mod Running
 pub mod Scheduled
+pub mod ScenarioText
+pub mod ScenarioReading
+pub mod ScenarioViews
+pub mod ScenarioAnswers

@@ -1,5 +1,6 @@
 -- What a runner shows of a run with deliveries, and which deliveries are due in it. Theorems cite it.
 use Rattle.std.specs.Prelude.{◌≡◌, ◌↔◌, ℕ, ◌+◌, ◌<◌, Bool, true, ◌&&◌, nat_le, nat_lt, count_by, List, [], ◌∷◌, ◌++◌, length, map, Option, Some, None, Result, Ok, Err}
+use Rattle.start_entries.specs.declared.entry.StartEntry.{StartEntry}
 use Rattle.insn_form.specs.Machine.{Machine}
 use Rattle.insn_form.specs.Step.{Step}
 use Rattle.cpu_step.specs.declared.stop.Stop.{Stop}
@@ -64,12 +65,17 @@ halted_by None = None
 halted_by (Some stop) = Some (NoStep stop)
 
 -- Why a run of at most n steps ended, where these deliveries are left: all steps were made, and what is left is due behind
--- them at the earliest; or no step leads on, and what is left is due later; or the first of them is due and doesn't fit.
+-- them at the earliest; or no step leads on, and what is left is due later; or the first of them is due and doesn't fit. The
+-- run ended in this state, with k steps in all, of which these were made.
+abbrev pub HaltsBy : Option Halted → List StartEntry → Machine → ℕ → List Due → ℕ → ℕ → Type 0
+HaltsBy None listed last k left made n = (made ≡ n) × (rise k left ≡ true)
+HaltsBy (Some (NoStep stop)) listed last k left made n = (made < n) × IsStopped last stop × (rise (k + 1) left ≡ true)
+HaltsBy (Some (NoFit e)) listed last k [] made n = ⊥
+HaltsBy (Some (NoFit e)) listed last k (d ∷ ds) made n = (made < n) × (d.step ≡ k) × IsUnfit listed last d.delivery e.addr
+
+-- So a runner's run ended.
 abbrev pub EndsBy : Option Halted → Runner → List Due → ℕ → ℕ → Type 0
-EndsBy None r left made n = (made ≡ n) × (rise r.steps left ≡ true)
-EndsBy (Some (NoStep stop)) r left made n = (made < n) × IsStopped (machine_in r) stop × (rise (r.steps + 1) left ≡ true)
-EndsBy (Some (NoFit e)) r [] made n = ⊥
-EndsBy (Some (NoFit e)) r (d ∷ ds) made n = (made < n) × (d.step ≡ r.steps) × IsUnfit r.starts (machine_in r) d.delivery e.addr
+EndsBy halted r left made n = HaltsBy halted r.starts (machine_in r) r.steps left made n
 
 -- A runner went up to a delivery and made it; or no step leads on before; or it is due and doesn't fit.
 abbrev pub GoesUpTo : Runner → Runner → Due → Result (Unit {0}) Halted → Type 0

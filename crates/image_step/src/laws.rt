@@ -1,10 +1,10 @@
-//! What the definitions promise of lines, of two files that start under one script, and of deliveries.
+//! What the definitions promise of lines and scripts, of two files that start under one script, and of deliveries.
 ghost use Rattle.std.specs.Prelude.{◌≡◌, [], None};
 ghost use Rattle.cpu_state.specs.Processor.{IsProcessorCore};
 ghost use Rattle.elf_read.specs.Entries.{entry_of};
 ghost use Rattle.elf_read.specs.Image.{image_of};
 ghost use Rattle.image_step.specs.Fitting.{FitsWhereOpen};
-ghost use Rattle.image_step.specs.Laws.{LinesAreRead, LinesAreSpelled};
+ghost use Rattle.image_step.specs.Laws.{LinesAreRead, LinesAreSpelled, ScriptsAreRefusedAlike, ScriptsAreScenarios};
 ghost use Rattle.image_step.specs.Quiet.{IsStartPair};
 ghost use Rattle.image_step.specs.Scheduled.{PlainRunsAreShown};
 ghost use Rattle.image_step.specs.Starting.{least_met_of, start_machine};
@@ -22,6 +22,17 @@ pub fn lines_are_spelled()
 /// The text of a line within its bounds is read as that line.
 pub fn lines_are_read()
     ensures { LinesAreRead }
+{}
+
+/// The text of a script is that of the script without deliveries, and of no other one.
+pub fn scripts_are_scenarios()
+    ensures { ScriptsAreScenarios }
+{}
+
+/// A text that doesn't begin with the second version is refused at the same line, read as a script or as one that may have
+/// deliveries.
+pub fn scripts_are_refused_alike()
+    ensures { ScriptsAreRefusedAlike }
 {}
 
 /// The registers, flags and bases at the start under a script.

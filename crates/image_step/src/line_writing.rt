@@ -14,7 +14,7 @@ use std::alloc::{AllocError, Global};
 
 /// Appends sixteen hexadecimal digits.
 #[tactic(auto, unfolding(crate::specs::Spelling::hex16))]
-fn push_number(alloc: Global, out: &mut Vec<u8>, number: u64) -> Result<(), AllocError>
+pub(crate) fn push_number(alloc: Global, out: &mut Vec<u8>, number: u64) -> Result<(), AllocError>
     ensures { OnOk result (out.new.items ≡ out.old.items ++ hex16 number) }
 {
     let digits = hex::encode(alloc, number.to_be_bytes())?;

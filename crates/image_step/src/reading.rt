@@ -1,8 +1,10 @@
 //! The script of a text.
-ghost use Rattle.std.specs.Prelude.{◌≡◌, ◌-◌, ◌^◌, ◌<◌, IfOk, IfSome, length, option_map};
+ghost use Rattle.std.specs.Prelude.{◌≡◌, ◌-◌, ◌^◌, ◌<◌, true, IfOk, IfSome, length, option_map};
+ghost use Rattle.cpu_state.specs.Script.{are_regions};
 ghost use Rattle.image_step.specs.Answers.{ReadsScript, ReadsAs};
 ghost use Rattle.image_step.specs.Reading.{read_one};
 ghost use Rattle.image_step.specs.Taking.{script_in};
+ghost use Rattle.image_step.specs.Values.{script_value};
 ghost use Rattle.image_step.specs.Views.{draft_value, parts_value};
 
 use crate::draft::Draft;
@@ -48,7 +50,7 @@ fn read_one<'a>(
 }
 
 /// The parts of a draft with its last line.
-fn parts_of(draft: Draft) -> Option<Parts>
+pub(crate) fn parts_of(draft: Draft) -> Option<Parts>
     ensures { option_map parts_value result ≡ script_in (draft_value draft) }
 {
     match draft {
@@ -83,16 +85,15 @@ fn read_parts(alloc: Global, text: &[u8]) -> Result<Parts, ScriptError>
     }
 }
 
-/// The script of a text: registers, flags word, bases of fs and gs, regions, and entries of its world.
-/// A text in no script's words is refused with the first line that no script with the lines before it has.
-pub fn read_world(alloc: Global, text: &[u8]) -> Result<Script, ScriptError>
-    requires { length text.now < 2 ^ 32 - 1 }
-    ensures { ReadsScript text.now result }
+/// The script that these parts make.
+pub(crate) fn script_of(parts: Parts) -> Script
+    requires values { length parts.values.items ≡ 19 }
+    requires regions { are_regions parts.regions.items ≡ true }
+    ensures { script_value result ≡ parts_value parts }
 {
-    let parts = read_parts(alloc, text)?;
     let mut regs = [0; 16];
     regs.copy_from_slice(&parts.values[..16]);
-    Ok(Script {
+    Script {
         regs,
         flags: parts.values[16],
         fs: parts.values[17],
@@ -102,5 +103,15 @@ pub fn read_world(alloc: Global, text: &[u8]) -> Result<Script, ScriptError>
             entries: Entries::from_vec(parts.entries),
             place: 0,
         },
-    })
+    }
+}
+
+/// The script of a text: registers, flags word, bases of fs and gs, regions, and entries of its world.
+/// A text in no script's words is refused with the first line that no script with the lines before it has.
+pub fn read_world(alloc: Global, text: &[u8]) -> Result<Script, ScriptError>
+    requires { length text.now < 2 ^ 32 - 1 }
+    ensures { ReadsScript text.now result }
+{
+    let parts = read_parts(alloc, text)?;
+    Ok(script_of(parts))
 }

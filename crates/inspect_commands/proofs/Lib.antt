@@ -1,2 +1,3 @@
 pub mod StepVerdicts
 pub mod CheckVerdicts
+pub mod PlainRuns

@@ -1,5 +1,7 @@
+pub mod StepTallies
 pub mod StepText
 pub mod StepAnswers
+pub mod StepLaws
 pub mod Stepping
 pub mod CheckAnswers
 pub mod Checking

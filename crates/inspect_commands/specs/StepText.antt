@@ -7,7 +7,10 @@ use Rattle.cpu_state.specs.declared.state.Core.{Core}
 use Rattle.cpu_step.specs.declared.stop.Stop.{Stop}
 use Rattle.cpu_step.specs.declared.stop.Stop.TheVariants as stop
 use Rattle.image_step.specs.Spelling.{hex16, name_at}
-use Rattle.guest_findings.specs.Tallies.{Tally}
+use Rattle.image_step.specs.declared.delivery.Due.{Due}
+use Rattle.image_step.specs.declared.delivery.Halted.{Halted}
+use Rattle.image_step.specs.declared.delivery.Halted.TheVariants.{NoStep, NoFit}
+use Rattle.inspect_commands.specs.StepTallies.{StepTally}
 
 -- The name of a reason to stop.
 abbrev pub stop_name : Stop → List ℕ
@@ -33,10 +36,25 @@ count_line word n = word ++ (32 ∷ (decimal n ++ (10 ∷ [])))
 abbrev pub value_line : List ℕ → ℕ → List ℕ
 value_line word n = word ++ (32 ∷ (hex16 n ++ (10 ∷ [])))
 
--- The line of the reason for which a run stopped, or of none.
-abbrev pub stop_line : Option Stop → List ℕ
-stop_line None = codes "stop none\n"
-stop_line (Some s) = codes "stop " ++ value_line (stop_name s) (stop_address s)
+-- The name of what a run goes no further for.
+abbrev pub halted_name : Halted → List ℕ
+halted_name (NoStep s) = stop_name s
+halted_name (NoFit e) = codes "NoFit"
+
+-- The address that it tells.
+abbrev pub halted_address : Halted → ℕ
+halted_address (NoStep s) = stop_address s
+halted_address (NoFit e) = e.addr
+
+-- The line of the reason for which a run goes no further, or of none.
+abbrev pub halted_line : Option Halted → List ℕ
+halted_line None = codes "stop none\n"
+halted_line (Some h) = codes "stop " ++ value_line (halted_name h) (halted_address h)
+
+-- How many deliveries were made, of a script that has some.
+abbrev pub deliveries_line : List Due → ℕ → List ℕ
+deliveries_line [] made = []
+deliveries_line (d ∷ ds) made = count_line (codes "deliveries") made
 
 -- Whether the run is quiet.
 abbrev pub quiet_line : Bool → List ℕ
@@ -57,14 +75,14 @@ core_lines c =
     register_lines 0 c.regs ++ (value_line (codes "flags") (packed c.flags) ++ (value_line (codes "fs") c.fs
     ++ value_line (codes "gs") c.gs))
 
--- The lines that `step` prints.
-abbrev pub step_text : Tally → List ℕ
-step_text t =
-    count_line (codes "steps") t.steps ++ (stop_line t.stop ++ (quiet_line t.quiet ++ (count_line (codes "outside") t.outside
-    ++ (value_line (codes "rip") t.last.rip ++ (core_lines t.last.core
-    ++ count_line (codes "world") (length t.last.world))))))
+-- The lines that `step` prints, of a script with these deliveries.
+abbrev pub step_text : List Due → StepTally → List ℕ
+step_text dues t =
+    count_line (codes "steps") t.steps ++ (deliveries_line dues t.made ++ (halted_line t.halted ++ (quiet_line t.quiet
+    ++ (count_line (codes "outside") t.outside ++ (value_line (codes "rip") t.last.rip ++ (core_lines t.last.core
+    ++ count_line (codes "world") (length t.last.world)))))))
 
 -- 0 where all steps were made, 8 where there were fewer.
-abbrev pub stop_status : Option Stop → ℕ
-stop_status None = 0
-stop_status (Some s) = 8
+abbrev pub step_status : Option Halted → ℕ
+step_status None = 0
+step_status (Some h) = 8

@@ -7,5 +7,6 @@ pub mod check;
 mod check_text;
 pub mod gen_command;
 mod gen_text;
+pub mod laws;
 pub mod step;
 mod step_text;

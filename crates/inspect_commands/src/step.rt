@@ -2,7 +2,7 @@
 ghost use Rattle.std.specs.Prelude.{◌≡◌, ◌≤◌, length, IfOk};
 ghost use Rattle.command_words.specs.Named.{step_names_of};
 ghost use Rattle.command_io.specs.Failing.{Gathers, Answers, Judges, seen_as, told_of};
-ghost use Rattle.inspect_commands.specs.StepText.{stop_status};
+ghost use Rattle.inspect_commands.specs.StepText.{step_status};
 ghost use Rattle.inspect_commands.specs.StepAnswers.{step_inputs, IsStepStatus, StepRefuses, StepTells};
 ghost use Rattle.inspect_commands.specs.Stepping.{step_texts};
 ghost use Rattle.command_words.specs.Words.{most_steps};
@@ -13,10 +13,10 @@ use command_io::failures::{file_failure, list_failure, runner_failure, script_fa
 use command_io::inputs::read_input;
 use command_io::status;
 use command_words::words::StepNames;
-use cpu_step::stop::Stop;
 use elf_read::elf::{Elf, read_written};
-use image_step::reading::read_world;
+use image_step::delivery::Halted;
 use image_step::runner::Runner;
+use image_step::scenario_reading::read_scenario;
 use list_text::lists::read_starts;
 use pun_base::desk::Desk;
 use std::alloc::Global;
@@ -29,7 +29,7 @@ struct StepInputs {
     world: Vec<u8>,
 }
 
-/// Makes at most `count` steps of FILE under the script of WORLD.
+/// Makes at most `count` steps of FILE under the script of WORLD, and each of its deliveries that is due before one of them.
 pub fn step<'a, D: Desk>(
     alloc: Global,
     names: &StepNames<'a>,
@@ -66,7 +66,7 @@ fn read_inputs<'a, D: Desk>(
     })
 }
 
-/// Judges STARTS, WORLD and FILE in this order, and makes the steps.
+/// Judges STARTS, WORLD and FILE in this order, and makes the steps and deliveries.
 #[tactic(auto, using(crate::proofs::StepVerdicts::file_refused, crate::proofs::StepVerdicts::region_refused))]
 fn run_inputs<'a>(alloc: Global, inputs: &StepInputs, count: u64) -> Result<Told, Failure<'a>>
     requires few_bytes { length inputs.now.world.items ≤ 268435456 }
@@ -78,33 +78,33 @@ fn run_inputs<'a>(alloc: Global, inputs: &StepInputs, count: u64) -> Result<Told
         Ok(starts) => starts,
         Err(error) => return Err(list_failure(Input::Starts, error)),
     };
-    let script = match read_world(alloc, &inputs.world) {
-        Ok(script) => script,
+    let scenario = match read_scenario(alloc, &inputs.world) {
+        Ok(scenario) => scenario,
         Err(error) => return Err(script_failure(error)),
     };
     let elf = match read_written(alloc, &inputs.file) {
         Ok(elf) => elf,
         Err(error) => return Err(file_failure(Input::File, error)),
     };
-    let mut runner = match Runner::new(alloc, &elf, &script, &starts) {
+    let mut runner = match Runner::new(alloc, &elf, &scenario.script, &starts) {
         Ok(runner) => runner,
         Err(error) => return Err(runner_failure(error)),
     };
-    let end = runner.run(count);
-    match run_text(alloc, &runner, &end) {
+    let end = runner.run_due(&scenario.dues, count);
+    match run_text(alloc, &runner, &scenario.dues, &end) {
         Ok(text) => Ok(Told {
             text,
-            status: stop_status(&end.stop),
+            status: step_status(&end.halted),
         }),
         Err(_) => Err(Failure::Memory),
     }
 }
 
 /// Whether all steps were made, as a status.
-fn stop_status(stop: &Option<Stop>) -> u8
-    ensures { result ≡ stop_status stop.now }
+fn step_status(halted: &Option<Halted>) -> u8
+    ensures { result ≡ step_status halted.now }
 {
-    match stop {
+    match halted {
         None => status::DONE,
         Some(_) => status::FEWER,
     }

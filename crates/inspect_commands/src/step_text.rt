@@ -1,13 +1,14 @@
 //! What `step` prints of a run.
 ghost use Rattle.std.specs.Prelude.{◌≡◌, ◌<◌, ◌++◌, OnOk, IfOk};
 ghost use Rattle.cpu_state.specs.Parts.{core_of};
-ghost use Rattle.inspect_commands.specs.StepText.{count_line, value_line, register_lines, register_name, core_lines, stop_line, stop_name, stop_address, quiet_line, step_text};
-ghost use Rattle.guest_findings.specs.Tallies.{tally_of};
+ghost use Rattle.inspect_commands.specs.StepText.{count_line, value_line, register_lines, register_name, core_lines, deliveries_line, halted_address, halted_line, halted_name, stop_name, stop_address, quiet_line, step_text};
+ghost use Rattle.inspect_commands.specs.StepTallies.{step_tally_of};
 
 use cpu_alu::pack;
 use cpu_state::state::State;
 use cpu_step::stop::Stop;
-use image_step::runner::{RunEnd, Runner};
+use image_step::delivery::{Due, DueEnd, Halted};
+use image_step::runner::Runner;
 use std::alloc::{AllocError, Global};
 
 /// Appends a line of a name and a decimal number.
@@ -64,16 +65,52 @@ fn stop_address(stop: &Stop) -> u64
     }
 }
 
-/// Appends the line of the stop.
-fn push_stop(alloc: Global, out: &mut Vec<u8>, stop: &Option<Stop>) -> Result<(), AllocError>
-    ensures { OnOk result (out.new.items ≡ out.old.items ++ stop_line stop.now) }
+/// The name of what a run goes no further for.
+fn halted_name(halted: &Halted) -> &'static str
+    ensures { result.now ≡ halted_name halted.now }
 {
-    match stop {
+    match halted {
+        Halted::NoStep(stop) => stop_name(stop),
+        Halted::NoFit(_) => "NoFit",
+    }
+}
+
+/// The address that it tells.
+fn halted_address(halted: &Halted) -> u64
+    ensures { result ≡ halted_address halted.now }
+{
+    match halted {
+        Halted::NoStep(stop) => stop_address(stop),
+        Halted::NoFit(unfit) => unfit.addr,
+    }
+}
+
+/// Appends the line of what a run goes no further for.
+fn push_halted(alloc: Global, out: &mut Vec<u8>, halted: &Option<Halted>) -> Result<(), AllocError>
+    ensures { OnOk result (out.new.items ≡ out.old.items ++ halted_line halted.now) }
+{
+    match halted {
         None => out.extend_from_slice(b"stop none\n"),
-        Some(stop) => {
+        Some(halted) => {
             out.extend_from_slice(b"stop ")?;
-            push_value(alloc, out, stop_name(stop), stop_address(stop))
+            push_value(alloc, out, halted_name(halted), halted_address(halted))
         }
+    }
+}
+
+/// Appends how many deliveries were made, of a script that has some.
+fn push_deliveries(
+    alloc: Global,
+    out: &mut Vec<u8>,
+    dues: &[Due],
+    made: usize,
+) -> Result<(), AllocError>
+    ensures { OnOk result (out.new.items ≡ out.old.items ++ deliveries_line dues.now made) }
+{
+    if dues.is_empty() {
+        Ok(())
+    } else {
+        push_count(alloc, out, "deliveries", made as u64)
     }
 }
 
@@ -130,13 +167,20 @@ fn push_core(alloc: Global, out: &mut Vec<u8>, state: &State) -> Result<(), Allo
     push_value(alloc, out, "gs", state.gs)
 }
 
-/// What is printed of a runner's run, which ended so.
-pub fn run_text(alloc: Global, runner: &Runner<'_>, end: &RunEnd) -> Result<Vec<u8>, AllocError>
-    ensures { IfOk result (λ text. text.items ≡ step_text (tally_of runner.now end.now)) }
+/// What is printed of a runner's run with these deliveries, which ended so.
+pub fn run_text(
+    alloc: Global,
+    runner: &Runner<'_>,
+    dues: &[Due],
+    end: &DueEnd,
+) -> Result<Vec<u8>, AllocError>
+    ensures { IfOk result (λ text. text.items
+        ≡ step_text dues.now (step_tally_of runner.now end.now)) }
 {
     let mut out = Vec::new(alloc);
     push_count(alloc, &mut out, "steps", end.steps)?;
-    push_stop(alloc, &mut out, &end.stop)?;
+    push_deliveries(alloc, &mut out, dues, end.made)?;
+    push_halted(alloc, &mut out, &end.halted)?;
     push_quiet(&mut out, runner.quiet())?;
     push_count(alloc, &mut out, "outside", runner.outside())?;
     push_value(alloc, &mut out, "rip", runner.state().rip)?;

@@ -11,6 +11,8 @@ mod guests;
 #[cfg(test)]
 mod runs;
 #[cfg(test)]
+mod scenarios;
+#[cfg(test)]
 mod scripts;
 #[cfg(test)]
 mod steps;

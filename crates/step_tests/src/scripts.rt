@@ -1,4 +1,5 @@
 //! Scripts whose values and whose first refused lines are known from elsewhere.
+use crate::scenarios;
 use cpu_state::script::Script;
 use cpu_state::script_regions::RegionBody;
 use image_step::error::ScriptError;
@@ -288,6 +289,12 @@ fn hostile(rt: HostRuntime) -> Result<(), Fail> {
         let (front, back) = rich.split_once(*old).unwrap_or(("", ""));
         let text = format!(in rt.alloc(); "{front}{new}{back}")?;
         assert_eq!(rt; refusal(rt.alloc(), text.as_bytes()), *line, "{text}");
+        let line_too = if *new == "e9world 2" { 2 } else { *line };
+        assert_eq!(rt;
+            scenarios::refusal(rt.alloc(), text.as_bytes()),
+            line_too,
+            "{text}"
+        );
     }
     for text in ["", "e9world 1", "\n", "rax 0000000000000000\n"] {
         assert_eq!(rt; refusal(rt.alloc(), text.as_bytes()), 1, "{text}");

@@ -1,0 +1,7 @@
+//! What the definitions promise of scripts without deliveries.
+ghost use Rattle.inspect_commands.specs.StepLaws.{PlainRunsAreTold};
+
+/// Of a script without deliveries `step` tells the tally of the run that it has alone.
+pub fn plain_runs_are_told()
+    ensures { PlainRunsAreTold }
+{}

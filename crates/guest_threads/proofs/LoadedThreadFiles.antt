@@ -39,7 +39,7 @@ use Rattle.guest_threads.specs.FromTurns.{IsForThreads, thread_scene, threading_
 use Rattle.guest_threads.proofs.LineSize.{instruction, code_with, size_is}
 use Rattle.guest_threads.proofs.JumpsAfterTurns.{turns_for_threads, counters_have_room}
 use Rattle.guest_threads.proofs.ThreadSoundness.{folded_is_thread_sound}
-use Rattle.thread_runs.proofs.ThreadsTheorem.{threads_followed}
+use Rattle.thread_runs.proofs.ThreadsTheorem.{threads_followed, threads_followed_with}
 
 module _ (g : Scene) (t : State) (m : Bytes) (j : Job) (A : AreEntries g.image g.entries) (f : IsFolded g t) (T : IsForThreads g) (J : AllByRecursion (IsOneJump g t) (done_by t).lines)
     (counters : HaveCounters g (done_by t).lines) (is : IsJob j) (shown : Shows j m) (o : IsThreadJobOf g t j) where
@@ -138,7 +138,8 @@ shown_is_threaded g taken sites choices m j A T count h is shown o =
     let c = counters_have_room g taken sites choices private h.turns in
     let sound = folded_is_thread_sound g t m (entry_of j.orig) A f T q.0 q.1 (loaded g t m j A f T q.0 c is shown o) in
     let r = threads_followed (threading_of g t m (entry_of j.orig)) A sound in
-    record { sound = sound; followed = r.0; out = r.1; entry = λ few. (layout_loads j is few).entry }
+    let d = threads_followed_with (threading_of g t m (entry_of j.orig)) A sound in
+    record { sound = sound; followed = r.0; out = r.1; followed_with = d.0; out_with = d.1; entry = λ few. (layout_loads j is few).entry }
 
 -- the file written for the turns of a file's sites is sound for threads, followed, and starts where the original does
 pub written_is_threaded : WrittenIsThreaded

@@ -128,7 +128,7 @@ module _ (a : Asked) (t : Turns) (p : PlannedState) (call : IsCall a t p) where
               private_is = ap extent_of (v ∙ of.private) ∙ call.planned.turned.private;
               rows_are = ap (map row_value) (r ∙ of.rows) ∙ call.planned.turned.rows;
               holds = emitted.1;
-              followed = record { entry = th.entry emitted.0; sound = th.sound; followed = th.followed; out = th.out };
+              followed = record { entry = th.entry emitted.0; sound = th.sound; followed = th.followed; out = th.out; followed_with = th.followed_with; out_with = th.out_with };
             },
           )
 

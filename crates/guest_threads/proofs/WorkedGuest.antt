@@ -1,5 +1,5 @@
 -- The premises are met by a guest of two threads.
-use Rattle.std.proofs.Common.{◌≡◌, ◌≢◌, ◌⊎◌, inl, inr, ℕ, zero, suc, ◌^◌, ◌<◌, true, false, List, [], ◌∷◌, replicate, slice_index, Option, Some, None, refl, sym, ap, ◌∙◌, subst, arith, true≢false}
+use Rattle.std.proofs.Common.{◌≡◌, ◌≢◌, ◌⊎◌, inl, inr, ℕ, zero, suc, ◌^◌, ◌<◌, true, false, List, [], ◌∷◌, ◌++◌, map, replicate, slice_index, Option, Some, None, refl, sym, ap, ◌∙◌, subst, arith, true≢false}
 use Rattle.std.specs.Prelude.{slice_get}
 use Rattle.std.specs.Int.Count.{ones}
 use Rattle.std.specs.List.{flat_map}
@@ -15,7 +15,7 @@ use Rattle.insn_form.specs.Classes.{template}
 use Rattle.insn_form.specs.Filling.{filled}
 use Rattle.insn_form.specs.Conditions.{is_met}
 use Rattle.insn_form.specs.Meaning.{effect}
-use Rattle.insn_form.specs.Machine.{leaves}
+use Rattle.insn_form.specs.Machine.{leaves, avoids_writes}
 use Rattle.insn_form.specs.Step.{next_after}
 use Rattle.insn_form.specs.Runs.{nowhere}
 use Rattle.insn_form.specs.Moved.{rel_bytes}
@@ -38,8 +38,11 @@ use Rattle.thread_runs.specs.ThreadSteps.{thread_task, ThreadStepsBy}
 use Rattle.thread_runs.specs.Threading.{Threading, is_hidden, is_new, in_event, saves, has_saved, is_saved}
 use Rattle.thread_runs.specs.Watching.{Watched, Watch, stale_after, is_effect, watched_after, Watches}
 use Rattle.guest_threads.specs.WorkedFile.{row_text, row_entry, row_value, row_threading}
-use Rattle.guest_threads.specs.WorkedGuest.{stack, start_flags, counted_flags, added_flags, core_with, thread_with, guest_on, waiting, schedule, started, ThreadsMeet, IsThreadsReal}
+use Rattle.guest_threads.specs.WorkedGuest.{stack, start_flags, counted_flags, added_flags, core_with, thread_with, guest_on, waiting, schedule, started, ThreadsMeet, entered, DeliveryMeets, IsThreadsReal}
+use Rattle.thread_runs.specs.GuestDeliveries.{Goes, Takes}
+use Rattle.thread_runs.specs.WatchedDeliveries.{WatchWith, watched_given, IsGiven}
 use Rattle.thread_runs.proofs.EventCode.{fields_at, spelled_at}
+use Rattle.thread_runs.proofs.PlainGuests.{plain, plain_run, run_then}
 use Rattle.guest_threads.proofs.WorkedFile.{itself_is, itself_stands, original_path, entries_are_row, listed_are, row_is_threaded}
 use Rattle.guest_threads.proofs.WorkedImage.{row_image, patched_path, entry_is, none_at_stacks}
 
@@ -373,6 +376,37 @@ can_go = record {
 met : ThreadsMeet counting watches
 met = record { start = are_started; run = proper; one = refl; two = refl; effects = refl; back = refl; goes = can_go }
 
+-- the watched guest after the delivery
+abbrev given_at_last : WatchWith
+given_at_last = record { watch = watched_given 1 (waiting 0x602000) entered w14; made = Goes 1 ∷ Takes 1 entered ∷ [] }
+
+-- the delivery meets the premises
+is_given : IsGiven counting 1 entered (plain w14) given_at_last
+is_given = record {
+  one = waiting 0x602000;
+  there = refl;
+  fits = record { here = refl; there = refl; core = record { count = refl; small = λ r. small_entered r }; held = refl; apart = refl };
+  old = refl;
+  apart = λ j o n g h. of_two (pick 0 w14) (pick 1 w14) (λ j o. j ≢ 1 → avoids_writes (is_saved o.now.core) entered.writes ≡ true) (λ n. refl) (λ n. absurd (n refl)) j o g n;
+  after = refl;
+  made = refl;
+}
+  where
+    small_entered : (r : ℕ) → slice_index (9 ∷ 0 ∷ 0 ∷ 0 ∷ 0x601f78 ∷ replicate 11 0) r < 2 ^ 64
+    small_entered zero = omega arith
+    small_entered (suc zero) = omega arith
+    small_entered (suc (suc zero)) = omega arith
+    small_entered (suc (suc (suc zero))) = omega arith
+    small_entered (suc (suc (suc (suc zero)))) = omega arith
+    small_entered (suc (suc (suc (suc (suc r))))) = small_zeros 11 r
+
+-- a delivery is made after fourteen steps
+delivered : DeliveryMeets counting (map plain watches ++ given_at_last ∷ [])
+delivered = record {
+  run = run_then counting (map Goes schedule) (plain w0) (map plain watches) (Takes 1 entered) given_at_last (plain_run counting schedule w0 watches proper) is_given (refl, (refl, tt));
+  made = refl;
+}
+
 -- the rewriting that is counted is that of the row's files
 is_row : counting ≡ row_threading
 is_row = λ i. record {
@@ -390,4 +424,5 @@ threads_are_real = record {
   listed = listed_are;
   sound = row_is_threaded.followed.sound;
   met = subst (λ (r : Threading). (ws : List Watch) × ThreadsMeet r ws) is_row (watches, met);
+  delivered = subst (λ (r : Threading). (xs : List WatchWith) × DeliveryMeets r xs) is_row (map plain watches ++ given_at_last ∷ [], delivered);
 }

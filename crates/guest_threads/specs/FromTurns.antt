@@ -29,6 +29,7 @@ use Rattle.site_turns.specs.Jobs.{patch_of, AreTurnsOf}
 use Rattle.thread_runs.specs.ThreadCode.{thread_code}
 use Rattle.site_turns.specs.Modes.{can_in_threads}
 use Rattle.thread_runs.specs.Theorem.{AreFollowed, GetOut}
+use Rattle.thread_runs.specs.TheoremWithDeliveries.{AreFollowedWith, GetOutWith}
 use Rattle.thread_runs.specs.Threading.{ThreadSite, Threading, IsThreadSound}
 
 -- The scene is one whose turns go by the rules for threads.
@@ -115,11 +116,12 @@ CountersHaveRoom = (g : Scene) (taken : List Extent) (sites : List StartEntry) (
     → IsTurns g single (first_state g) sites choices → HaveCounters g (done_by (state_after g (first_state g) sites choices)).lines
 
 -- Once what the turns have done is loaded, the patched guest runs as the original does and counts,
--- and its threads get out of the trampolines.
+-- and its threads get out of the trampolines, with deliveries and without.
 abbrev pub TurnsAreThreaded : Type 0
 TurnsAreThreaded = (g : Scene) (sites : List StartEntry) (choices : List Choice) (patched : Bytes) (entry : ℕ) → AreEntries g.image g.entries → IsForThreads g → AreSites g sites
     → IsTurns g single (first_state g) sites choices → IsThreadLoaded g (state_after g (first_state g) sites choices) patched
     → AreFollowed (threading_of g (state_after g (first_state g) sites choices) patched entry) × GetOut (threading_of g (state_after g (first_state g) sites choices) patched entry)
+    × AreFollowedWith (threading_of g (state_after g (first_state g) sites choices) patched entry) × GetOutWith (threading_of g (state_after g (first_state g) sites choices) patched entry)
 
 -- The job writes the original with the runs, the private range, and the code of threads for each line.
 pub record IsThreadJobOf (g : Scene) (t : State) (j : Job) : Type 0 where
@@ -140,6 +142,9 @@ pub record IsThreaded (g : Scene) (t : State) (m : Bytes) (j : Job) : Type 0 whe
   pub sound : IsThreadSound (threading_of g t m (entry_of j.orig))
   pub followed : AreFollowed (threading_of g t m (entry_of j.orig))
   pub out : GetOut (threading_of g t m (entry_of j.orig))
+  -- the same where something is delivered to threads that stand outside
+  pub followed_with : AreFollowedWith (threading_of g t m (entry_of j.orig))
+  pub out_with : GetOutWith (threading_of g t m (entry_of j.orig))
   pub entry : count j ≤ 1024 → entry_of (layout j) ≡ entry_of j.orig
 
 -- Each memory that shows the job of a file's turns runs with any number of threads as the original

@@ -29,6 +29,7 @@ use Rattle.guest_threads.specs.declared.rewriting.ThreadError.TheVariants as thr
 use Rattle.guest_threads.specs.declared.rewriting.ThreadReport.{ThreadReport}
 use Rattle.guest_threads.specs.FromTurns.{site_of}
 use Rattle.thread_runs.specs.Theorem.{AreFollowed, GetOut}
+use Rattle.thread_runs.specs.TheoremWithDeliveries.{AreFollowedWith, GetOutWith}
 use Rattle.thread_runs.specs.Threading.{Threading, IsThreadSound}
 use Rattle.guest_threads.specs.ThreadPlanning.{IsThreadPlanned}
 
@@ -103,6 +104,9 @@ pub record IsFollowedInThreads (file starts patched : List ℕ) (private : Exten
   pub followed : AreFollowed (threading_for file starts patched private rows)
   -- a thread that runs alone gets out of a trampoline
   pub out : GetOut (threading_for file starts patched private rows)
+  -- with deliveries to threads that stand outside, each run that meets the premises is followed and counted, too
+  pub followed_with : AreFollowedWith (threading_for file starts patched private rows)
+  pub out_with : GetOutWith (threading_for file starts patched private rows)
 
 -- The input is judged to be a job for which P holds.
 abbrev pub HasJob : Asked → (ThreadJob → Type 0) → Type 0

@@ -1,5 +1,5 @@
 -- Two threads that run the written file of the first worked row: the premises of the theorem are met. Worked examples alone cite it.
-use Rattle.std.specs.Prelude.{◌≡◌, ℕ, true, false, List, [], ◌∷◌, replicate, take, Some, slice_get}
+use Rattle.std.specs.Prelude.{◌≡◌, ℕ, true, false, List, [], ◌∷◌, ◌++◌, map, replicate, take, Some, slice_get}
 use Rattle.pun_base.specs.Memory.{Bytes, joined}
 use Rattle.cpu_alu.specs.declared.flag_word.Flags.{Flags}
 use Rattle.cpu_state.specs.declared.state.Core.{Core}
@@ -12,6 +12,9 @@ use Rattle.thread_runs.specs.Threading.{Threading, IsThreadSound}
 use Rattle.thread_runs.specs.Watching.{Watched, Watch, watch_of}
 use Rattle.thread_runs.specs.Premises.{IsProperRun}
 use Rattle.thread_runs.specs.Theorem.{AreStartGuests, CanGo, last_watch}
+use Rattle.image_step.specs.declared.delivery.Delivery.{Delivery}
+use Rattle.thread_runs.specs.GuestDeliveries.{GuestItem, Goes, Takes}
+use Rattle.thread_runs.specs.WatchedDeliveries.{WatchWith, watch_with, IsProperRunWith, last_with}
 use Rattle.guest_threads.specs.WorkedFile.{row_threading}
 
 -- one region for both stacks
@@ -69,8 +72,24 @@ pub record ThreadsMeet (r : Threading) (ws : List Watch) : Type 0 where
   -- the premises of getting out of the trampoline are met at the start
   pub goes : CanGo r (started r) (waiting 0x601000) (guest_on r.original)
 
+-- A handler is entered: the interrupted address is pushed over the bytes in which an event of thread 1
+-- has saved rax.
+abbrev pub entered : Delivery
+entered = record {
+  core = core_with 9 0x601f78 start_flags;
+  rip = 0x401000;
+  writes = record { addr = 0x601f78; bytes = 0x00 ∷ 0x10 ∷ 0x40 ∷ 0x00 ∷ 0x00 ∷ 0x00 ∷ 0x00 ∷ 0x00 ∷ [] } ∷ [];
+}
+
+-- After the fourteen steps thread 1, which stands outside, takes this delivery, while thread 0 stands
+-- in its event: the original's run is the effect step and the delivery.
+pub record DeliveryMeets (r : Threading) (xs : List WatchWith) : Type 0 where
+  pub run : IsProperRunWith r (map Goes schedule ++ Takes 1 entered ∷ []) (watch_with (guest_on r.patched)) xs
+  pub made : (last_with (watch_with (guest_on r.patched)) xs).made ≡ Goes 1 ∷ Takes 1 entered ∷ []
+
 -- All premises of the theorem are met by the row's original and its written file.
 pub record IsThreadsReal : Type 0 where
   pub listed : AreEntries row_threading.original row_threading.listed
   pub sound : IsThreadSound row_threading
   pub met : (ws : List Watch) × ThreadsMeet row_threading ws
+  pub delivered : (xs : List WatchWith) × DeliveryMeets row_threading xs

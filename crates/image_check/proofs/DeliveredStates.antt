@@ -19,7 +19,7 @@ use Rattle.image_check.proofs.LoadedCode.{same_none}
 use Rattle.image_check.proofs.RelatedStates.{hidden_at, Related}
 
 -- writes that are held with W leave what can't be written
-written_code : (m w : Bytes) (ws : List MemWrite) → lacking_writes w ws ≡ None → SameCode m w → SameCode m (put_all w ws)
+pub written_code : (m w : Bytes) (ws : List MemWrite) → lacking_writes w ws ≡ None → SameCode m w → SameCode m (put_all w ws)
 written_code m w ws h c x a b =
     let e = c x a b in
     put_all_keeps (λ y. not (allows 2 (w y))) w ws x

@@ -1,7 +1,6 @@
 -- A step of one thread keeps the relation between the watched guest and the original's.
 use Rattle.std.proofs.Common.{◌≡◌, ◌≢◌, inl, inr, ℕ, zero, suc, ◌+◌, ◌*◌, ◌%◌, ◌^◌, ◌<◌, Bool, true, false, cond, eqb, List, [], ◌∷◌, ◌++◌, map, Some, refl, sym, ap, ap₂, ◌∙◌, subst, arith}
 use Rattle.std.specs.Prelude.{Contains, count_by, slice_get, slice_set}
-use Rattle.std.proofs.lemmas.List.{map-append}
 use Rattle.std.proofs.lemmas.Bool.{cond-true, cond-false, cases_eq, and_parts, or_left, or_right, eq-eqb}
 use Rattle.pun_base.specs.Memory.{Bytes}
 use Rattle.length_decode.specs.Spelling.{Fields}
@@ -14,7 +13,10 @@ use Rattle.insn_form.specs.Laws.{Keeps}
 use Rattle.insn_form.proofs.TouchedMemory.{keeps_permissions, guarded, unwritten, read_and_write}
 use Rattle.thread_runs.specs.ThreadSteps.{thread_task, ThreadStepsBy}
 use Rattle.relocate_insn.proofs.FixedCode.{SameCode}
-use Rattle.thread_runs.specs.Guest.{Thread, Guest, machine_of, thread_of, Moves, IsInterleaved, last_guest}
+use Rattle.start_entries.specs.declared.entry.StartEntry.{StartEntry}
+use Rattle.thread_runs.specs.Guest.{Thread, Guest, machine_of, thread_of, Moves, last_guest}
+use Rattle.thread_runs.specs.GuestDeliveries.{GuestItem, Goes, LeadsBy, IsInterleavedWith}
+use Rattle.thread_runs.specs.WatchedDeliveries.{made_after}
 use Rattle.thread_runs.specs.ThreadCode.{counter_at, slot}
 use Rattle.thread_runs.specs.Event.{Point, offset, HasSaved}
 use Rattle.thread_runs.specs.Event.Point.{At0, At7}
@@ -34,14 +36,15 @@ use Rattle.thread_runs.proofs.ThreadPlaces.{part_true}
 use Rattle.thread_runs.proofs.WatchedRelation.{ThreadKept, HasRoom, Related, Changes, Made}
 
 -- runs that grow at the end
-run_more : (ks : List ℕ) (g : Guest) (gs : List Guest) (k : ℕ) (h : Guest) → IsInterleaved ks g gs → Moves k (last_guest g gs) h → IsInterleaved (ks ++ k ∷ []) g (gs ++ h ∷ [])
-run_more [] g [] k h r m = (m, tt)
-run_more [] g (x ∷ xs) k h r m = absurd r
-run_more (j ∷ ks) g [] k h r m = absurd r
-run_more (j ∷ ks) g (x ∷ xs) k h r m = (r.0, run_more ks x xs k h r.1 m)
+pub run_more : (listed : List StartEntry) (is : List GuestItem) (g : Guest) (gs : List Guest) (i : GuestItem) (h : Guest) → IsInterleavedWith listed is g gs
+    → LeadsBy listed i (last_guest g gs) h → IsInterleavedWith listed (is ++ i ∷ []) g (gs ++ h ∷ [])
+run_more listed [] g [] i h r m = (m, tt)
+run_more listed [] g (x ∷ xs) i h r m = absurd r
+run_more listed (j ∷ is) g [] i h r m = absurd r
+run_more listed (j ∷ is) g (x ∷ xs) i h r m = (r.0, run_more listed is x xs i h r.1 m)
 
 -- a run with one more guest ends in that guest
-last_more : (g : Guest) (gs : List Guest) (h : Guest) → last_guest g (gs ++ h ∷ []) ≡ h
+pub last_more : (g : Guest) (gs : List Guest) (h : Guest) → last_guest g (gs ++ h ∷ []) ≡ h
 last_more g [] h = refl
 last_more g (x ∷ xs) h = last_more x xs h
 
@@ -125,8 +128,8 @@ module _ (r : Threading) (S : IsThreadSound r) (H : HoldsSlot) where
           any_at (is_part 1 32 one.now.rip) r.sites i.0 s i.1 (part_true 1 32 one.now.rip s (omega (arith, e, n)) (omega (arith, e, l)))
 
   -- the whole relation after a step
-  module _ (a : Guest) (w : Watch) (k : ℕ) (one : Watched) (there : slice_get w.threads k ≡ Some one) (f : Fields) (to : Machine)
-      (steps : ThreadStepsBy f (machine_of w.mem one.now) to) (R : Related r S a w) where
+  module _ (a : Guest) (made : List GuestItem) (w : Watch) (k : ℕ) (one : Watched) (there : slice_get w.threads k ≡ Some one) (f : Fields) (to : Machine)
+      (steps : ThreadStepsBy f (machine_of w.mem one.now) to) (R : Related r S a made w) where
     -- the thread after the step
     abbrev one' : Watched
     one' = record { now = thread_of to; projected = projection r one w.mem to }
@@ -160,11 +163,11 @@ module _ (r : Threading) (S : IsThreadSound r) (H : HoldsSlot) where
 
     -- a step that leaves what is due and touches none of the bytes that others saved keeps the relation, if its projection is at a start
     pub kept_by : (m' : Bytes) → LeavesSaved r w k f (machine_of w.mem one.now) → is_start r.listed one'.projected.rip ≡ true
-        → Made r S (stale_after r w.stale one f (machine_of w.mem one.now)) R.end.mem m' one w.mem to → Related r S a v
+        → Made r S (stale_after r w.stale one f (machine_of w.mem one.now)) R.end.mem m' one w.mem to → Related r S a (made_after r k one made) v
     kept_by m' free start M = elim M.went [
-      | inl q ↦ (let log : v.log ≡ w.log = cond-false (is_effect r one.now.rip) _ _ q.0 in record {
+      | inl q ↦ record {
         states = R.states;
-        run = subst (λ (z : List EffectStep). IsInterleaved (map (λ e. e.thread) z) a R.states) (sym log) R.run;
+        run = subst (λ (z : List GuestItem). IsInterleavedWith r.listed z a R.states) (sym (cond-false (is_effect r one.now.rip) _ _ q.0)) R.run;
         end = R.end;
         last = R.last;
         threads = R.threads ∙ sym (map_same (λ (t : Watched). t.projected) w.threads k one one' there q.2);
@@ -174,9 +177,8 @@ module _ (r : Threading) (S : IsThreadSound r) (H : HoldsSlot) where
         room = room;
         counted = counted;
         each = each;
-      })
-      | inr q ↦ (let log : v.log ≡ w.log ++ record { thread = k; at = one.projected.rip } ∷ [] = cond-true (is_effect r one.now.rip) _ _ q.is in
-          let h : Guest = record { threads = slice_set R.end.threads k (thread_of q.to); mem = q.to.mem } in
+      }
+      | inr q ↦ (let h : Guest = record { threads = slice_set R.end.threads k (thread_of q.to); mem = q.to.mem } in
           let move : Moves k R.end h = record {
             thread = one.projected;
             there = ap (λ (l : List Thread). slice_get l k) R.threads ∙ get_map (λ (t : Watched). t.projected) w.threads k one there;
@@ -185,8 +187,8 @@ module _ (r : Threading) (S : IsThreadSound r) (H : HoldsSlot) where
             after = refl;
           } in record {
             states = R.states ++ h ∷ [];
-            run = subst (λ (z : List ℕ). IsInterleaved z a (R.states ++ h ∷ [])) (sym (ap (map (λ (e : EffectStep). e.thread)) log ∙ map-append (λ (e : EffectStep). e.thread) w.log _))
-                (run_more (map (λ e. e.thread) w.log) a R.states k h R.run (subst (λ (z : Guest). Moves k z h) (sym R.last) move));
+            run = subst (λ (z : List GuestItem). IsInterleavedWith r.listed z a (R.states ++ h ∷ [])) (sym (cond-true (is_effect r one.now.rip) _ _ q.is))
+                (run_more r.listed made a R.states (Goes k) h R.run (subst (λ (z : Guest). Moves k z h) (sym R.last) move));
             end = h;
             last = last_more a R.states h;
             threads = ap₂ (λ (l : List Thread) t. slice_set l k t) R.threads (sym q.thread) ∙ sym (map_set (λ (t : Watched). t.projected) w.threads k one');

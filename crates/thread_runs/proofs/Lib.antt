@@ -21,7 +21,9 @@ pub mod ThreadEventSteps
 pub mod LoneThreadEvent
 pub mod DisplacedSteps
 pub mod WatchedSteps
+pub mod GivenGuests
 pub mod WayOut
+pub mod PlainGuests
 pub mod ThreadsTheorem
 pub mod WorkSize
 pub mod WatchedRuns

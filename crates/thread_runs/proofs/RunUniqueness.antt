@@ -12,12 +12,12 @@ use Rattle.thread_runs.specs.ThreadSteps.{ThreadStep}
 use Rattle.thread_runs.specs.ThreadJudging.{thread_judgement}
 use Rattle.thread_runs.specs.Guest.{Thread, Guest, machine_of, Moves, IsInterleaved, last_guest}
 use Rattle.thread_runs.specs.Running.{Leads, HasNoThread, HasStopped, EndsAt, Runs, RunsOneWay}
-use Rattle.thread_runs.proofs.WayOut.{runs_same}
+use Rattle.thread_runs.proofs.PlainGuests.{runs_plain}
 use Rattle.thread_runs.proofs.ScheduledSteps.{leads_none}
 
 -- a schedule leads from one guest to one guest
 leads_one : (ks : List ℕ) (g h i : Guest) → Leads ks g h → Leads ks g i → h ≡ i
-leads_one ks g h i a b = a.last ∙ ap (last_guest g) (runs_same ks g a.states b.states a.run b.run) ∙ sym b.last
+leads_one ks g h i a b = a.last ∙ ap (last_guest g) (runs_plain ks g a.states b.states a.run b.run) ∙ sym b.last
 
 -- the step that a run makes at a place
 record StepAt (ks : List ℕ) (g : Guest) (place k : ℕ) : Type 0 where

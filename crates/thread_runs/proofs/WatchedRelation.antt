@@ -9,7 +9,8 @@ use Rattle.thread_runs.specs.ThreadSteps.{ThreadStep}
 use Rattle.insn_form.specs.Alike.{AreAlike}
 use Rattle.relocate_insn.proofs.FixedCode.{SameCode}
 use Rattle.image_step.specs.Listed.{is_start}
-use Rattle.thread_runs.specs.Guest.{Thread, Guest, machine_of, thread_of, IsInterleaved, last_guest}
+use Rattle.thread_runs.specs.Guest.{Thread, Guest, machine_of, thread_of, last_guest}
+use Rattle.thread_runs.specs.GuestDeliveries.{GuestItem, IsInterleavedWith}
 use Rattle.thread_runs.specs.ThreadCode.{counter_at}
 use Rattle.thread_runs.specs.Work.{Tail, left, InTail}
 use Rattle.thread_runs.specs.Threading.{ThreadSite, Threading, is_hidden, is_counted, IsThreadSound}
@@ -51,10 +52,10 @@ pub record Base (r : Threading) (S : IsThreadSound r) (m : Bytes) (stale : ℕ �
   pub numbers : (s : ThreadSite) → Contains r.sites s → (n : ℕ) × (number_at u (counter_at r.private s.number) 8 ≡ n % 2 ^ 64)
   pub kept : ThreadKept r S u one
 
--- what each step keeps of a watched guest: its log is a run of the original, with equal threads and memory but for hidden and stale bytes
-pub record Related (r : Threading) (S : IsThreadSound r) (a : Guest) (w : Watch) : Type 0 where
+-- what each item keeps of a watched guest: what was made so far is a run of the original, with equal threads and memory but for hidden and stale bytes
+pub record Related (r : Threading) (S : IsThreadSound r) (a : Guest) (made : List GuestItem) (w : Watch) : Type 0 where
   pub states : List Guest
-  pub run : IsInterleaved (map (λ e. e.thread) w.log) a states
+  pub run : IsInterleavedWith r.listed made a states
   pub end : Guest
   pub last : last_guest a states ≡ end
   pub threads : end.threads ≡ map (λ t. t.projected) w.threads
@@ -94,8 +95,8 @@ pub record Made (r : Threading) (S : IsThreadSound r) (stale' : ℕ → Bool) (m
   pub phase : Phase r S to.mem (thread_of to) (projection r one u to)
 
 -- the relation, seen from one thread
-pub base_of : (r : Threading) (S : IsThreadSound r) (a : Guest) (w : Watch) (R : Related r S a w) (k : ℕ) (one : Watched) → slice_get w.threads k ≡ Some one → Base r S R.end.mem w.stale w.mem one
-base_of r S a w R k one e = record {
+pub base_of : (r : Threading) (S : IsThreadSound r) (a : Guest) (made : List GuestItem) (w : Watch) (R : Related r S a made w) (k : ℕ) (one : Watched) → slice_get w.threads k ≡ Some one → Base r S R.end.mem w.stale w.mem one
+base_of r S a made w R k one e = record {
   alike = R.alike;
   own = R.own;
   other = R.other;

@@ -1,4 +1,4 @@
--- One step of the watched guest, and whole runs: each keeps the relation, which shows what the theorem says.
+-- One step of the watched guest keeps the relation, which shows what the theorem says and holds at the start.
 use Rattle.std.proofs.Common.{◌≡◌, ◌⊎◌, inl, inr, ℕ, zero, suc, ◌+◌, ◌*◌, ◌^◌, ◌<◌, ◌≤◌, Bool, true, false, not, ◌&&◌, cond, leb, ltb, List, [], ◌∷◌, map, Option, Some, None, refl, sym, ap, ap₂, ◌∙◌, subst, arith}
 use Rattle.std.specs.Prelude.{Contains, slice_get, slice_set, count_by}
 use Rattle.std.specs.Option.{is_some}
@@ -18,9 +18,12 @@ use Rattle.thread_runs.specs.Event.{Point, offset, is_inside, Holds, HasSaved}
 use Rattle.thread_runs.specs.Event.Point.{At0, At1, At2, At3, At4, At5, At6, At7}
 use Rattle.thread_runs.specs.Threading.{ThreadSite, Threading, is_new, is_hidden, is_site, is_kept, is_counted, relocated_at, is_code_of, IsThreadSound}
 use Rattle.thread_runs.specs.Watching.{Watched, Watch, watch_of, projection, stale_after, watched_after, Watches}
-use Rattle.thread_runs.specs.Premises.{StandAtStarts, IsProper, IsProperRun}
+use Rattle.thread_runs.specs.Premises.{StandAtStarts, IsProper}
 use Rattle.thread_runs.specs.Relation.{next_of, work_at, has_rax, Outside, AtEvent, BehindEffect, IsBeside}
-use Rattle.thread_runs.specs.Theorem.{AreStartGuests, IsGuestFollowed, AreCounted, last_watch}
+use Rattle.thread_runs.specs.Theorem.{AreStartGuests, AreCounted}
+use Rattle.thread_runs.specs.GuestDeliveries.{GuestItem}
+use Rattle.thread_runs.specs.WatchedDeliveries.{WatchWith, made_after}
+use Rattle.thread_runs.specs.TheoremWithDeliveries.{IsGuestFollowedWith}
 use Rattle.thread_runs.specs.StepLaws.{StepLaws}
 use Rattle.patch_report.proofs.ListPlaces.{any_at, place_of, some_is, all_in, all_from, count_cons}
 use Rattle.image_check.proofs.RelatedStates.{allowed_some}
@@ -66,12 +69,12 @@ map_back_all (t ∷ ts) = ap (λ l. t ∷ l) (map_back_all ts)
 
 module _ (r : Threading) (A : AreEntries r.original r.listed) (S : IsThreadSound r) (L : StepLaws) where
   -- one step keeps the relation
-  pub stepped : (a : Guest) (k : ℕ) (w v : Watch) → Related r S a w → (m : Watches r k w v) → IsProper r k w v m → Related r S a v
-  stepped a k w v R m P =
-      subst (λ (z : Watch). Related r S a z) (sym m.after) (by_phase kept.phase)
+  pub stepped : (a : Guest) (made : List GuestItem) (k : ℕ) (w v : Watch) → Related r S a made w → (m : Watches r k w v) → IsProper r k w v m → Related r S a (made_after r k m.one made) v
+  stepped a made k w v R m P =
+      subst (λ (z : Watch). Related r S a (made_after r k m.one made) z) (sym m.after) (by_phase kept.phase)
     where
       B : Base r S R.end.mem w.stale w.mem m.one
-      B = base_of r S a w R k m.one m.there
+      B = base_of r S a made w R k m.one m.there
 
       kept : ThreadKept r S w.mem m.one
       kept = R.each k m.one m.there
@@ -85,10 +88,10 @@ module _ (r : Threading) (A : AreEntries r.original r.listed) (S : IsThreadSound
           (subst (λ (z : Watch). StandAtStarts r z.threads) m.after P.stand)
           (k, set_here w.threads k m.one (record { now = thread_of m.to; projected = projection r m.one w.mem m.to }) m.there)
 
-      done : (m' : Bytes) → Made r S (stale_after r w.stale m.one m.fields (machine_of w.mem m.one.now)) R.end.mem m' m.one w.mem m.to → Related r S a (watched_after r k w m.one m.fields m.to)
-      done m' M = kept_by r S L.slots a w k m.one m.there m.fields m.to m.steps R m' P.apart stand M
+      done : (m' : Bytes) → Made r S (stale_after r w.stale m.one m.fields (machine_of w.mem m.one.now)) R.end.mem m' m.one w.mem m.to → Related r S a (made_after r k m.one made) (watched_after r k w m.one m.fields m.to)
+      done m' M = kept_by r S L.slots a made w k m.one m.there m.fields m.to m.steps R m' P.apart stand M
 
-      outside : Outside r m.one.now m.one.projected → (b : Bool) → is_site r m.one.now.rip ≡ b → Related r S a (watched_after r k w m.one m.fields m.to)
+      outside : Outside r m.one.now m.one.projected → (b : Bool) → is_site r m.one.now.rip ≡ b → Related r S a (made_after r k m.one made) (watched_after r k w m.one m.fields m.to)
       outside o true e = done R.end.mem (made_displaced r A S L R.end.mem w m.one m.fields m.to m.steps B o e)
       outside o false e =
           let is : is_kept r m.one.now.rip ≡ true = and_from (is_start r.listed m.one.now.rip) (not (is_site r m.one.now.rip)) o.start (not_from_false (is_site r m.one.now.rip) e) in
@@ -97,13 +100,13 @@ module _ (r : Threading) (A : AreEntries r.original r.listed) (S : IsThreadSound
 
       event : (site : ThreadSite) → Contains r.sites site → (p : Point) → is_inside p ≡ true → m.one.now.rip ≡ site.place + offset p → m.one.projected.rip ≡ site.entry.addr
           → Holds p m.one.projected.core m.one.now.core → m.one.now.world ≡ m.one.projected.world → HasSaved p m.one.projected.core w.mem
-          → (has_rax p ≡ true → avoids (is_new r) (slot m.one.projected.core) 8 ≡ true) → Related r S a (watched_after r k w m.one m.fields m.to)
+          → (has_rax p ≡ true → avoids (is_new r) (slot m.one.projected.core) 8 ≡ true) → Related r S a (made_after r k m.one made) (watched_after r k w m.one m.fields m.to)
       event site listed p i e at core world saved old =
           done R.end.mem (made_event r A S L R.end.mem w m.one m.fields m.to m.steps B P.saved site listed p i e at core world saved old)
 
       by_point : (site : ThreadSite) → Contains r.sites site → (p : Point) → m.one.now.rip ≡ site.place + offset p → m.one.projected.rip ≡ site.entry.addr
           → Holds p m.one.projected.core m.one.now.core → m.one.now.world ≡ m.one.projected.world → HasSaved p m.one.projected.core w.mem
-          → (has_rax p ≡ true → avoids (is_new r) (slot m.one.projected.core) 8 ≡ true) → Related r S a (watched_after r k w m.one m.fields m.to)
+          → (has_rax p ≡ true → avoids (is_new r) (slot m.one.projected.core) 8 ≡ true) → Related r S a (made_after r k m.one made) (watched_after r k w m.one m.fields m.to)
       by_point site listed At7 e at core world saved old =
           let c = in_code r A S L.long site listed m.one.now.rip (omega (arith, e)) (omega (arith, e)) in
           let calm = kept_not r A S L.long site listed m.one.now.rip c in
@@ -121,7 +124,7 @@ module _ (r : Threading) (A : AreEntries r.original r.listed) (S : IsThreadSound
       by_point site listed At5 e at core world saved old = event site listed At5 refl e at core world saved old
       by_point site listed At6 e at core world saved old = event site listed At6 refl e at core world saved old
 
-      by_phase : Phase r S w.mem m.one.now m.one.projected → Related r S a (watched_after r k w m.one m.fields m.to)
+      by_phase : Phase r S w.mem m.one.now m.one.projected → Related r S a (made_after r k m.one made) (watched_after r k w m.one m.fields m.to)
       by_phase (inl o) = outside o (is_site r m.one.now.rip) refl
       by_phase (inr (inl q)) = by_point q.site q.listed q.point q.here q.there q.core q.world q.saved q.old
       by_phase (inr (inr q)) = done R.end.mem (made_tail r A S L q.site q.listed R.end.mem w m.one m.fields m.to m.steps B q.tail q.more q.there q.world)
@@ -169,35 +172,27 @@ module _ (r : Threading) (A : AreEntries r.original r.listed) (S : IsThreadSound
   beside m one K = record { processor = K.processor; words = K.words; start = K.start; place = beside_at m one.now one.projected K.phase }
 
   -- the relation shows that the guest is followed, and that each counter has its number
-  pub shown : (a : Guest) (w : Watch) → Related r S a w → IsGuestFollowed r a w × AreCounted r w
-  shown a w R = (
+  pub shown : (a : Guest) (x : WatchWith) → Related r S a x.made x.watch → IsGuestFollowedWith r a x × AreCounted r x.watch
+  shown a x R = let w = x.watch in (
     record {
       states = R.states;
       run = R.run;
-      threads = ap (λ (g : Guest). g.threads) R.last ∙ R.threads;
-      memory = λ x h s. ap (λ (g : Guest). g.mem x) R.last ∙ R.alike.bytes x h s;
-      permissions = λ x h. ap (λ (g : Guest). perms_at g.mem x) R.last ∙ R.alike.perms x h;
-      outside = all_from (λ (t : Watched). is_start r.listed t.now.rip ≡ true → t.now ≡ t.projected) w.threads (λ t i. phase_outside w.mem t.now t.projected R.other (R.each i.0 t i.1).phase);
-      each = all_from (λ (t : Watched). IsBeside r w.mem t) w.threads (λ t i. beside w.mem t (R.each i.0 t i.1));
-      own = λ x e n. ap (λ (g : Guest). g.mem x) R.last ∙ R.own x e n;
-      other = R.other;
-      counters = λ s c. ((R.room s c).read, (R.room s c).written);
+      beside = record {
+        threads = ap (λ (g : Guest). g.threads) R.last ∙ R.threads;
+        memory = λ x h s. ap (λ (g : Guest). g.mem x) R.last ∙ R.alike.bytes x h s;
+        permissions = λ x h. ap (λ (g : Guest). perms_at g.mem x) R.last ∙ R.alike.perms x h;
+        outside = all_from (λ (t : Watched). is_start r.listed t.now.rip ≡ true → t.now ≡ t.projected) w.threads (λ t i. phase_outside w.mem t.now t.projected R.other (R.each i.0 t i.1).phase);
+        each = all_from (λ (t : Watched). IsBeside r w.mem t) w.threads (λ t i. beside w.mem t (R.each i.0 t i.1));
+        own = λ x e n. ap (λ (g : Guest). g.mem x) R.last ∙ R.own x e n;
+        other = R.other;
+        counters = λ s c. ((R.room s c).read, (R.room s c).written);
+      };
     },
     R.counted,
   )
 
-  -- along a proper run each guest is followed and counted, and the last one keeps the relation
-  pub along : (a : Guest) (schedule : List ℕ) (w : Watch) (ws : List Watch) → Related r S a w → IsProperRun r schedule w ws
-      → AllByRecursion (λ v. IsGuestFollowed r a v × AreCounted r v) (w ∷ ws) × Related r S a (last_watch w ws)
-  along a [] w [] R P = ((shown a w R, tt), R)
-  along a [] w (v ∷ vs) R P = absurd P
-  along a (k ∷ ks) w [] R P = absurd P
-  along a (k ∷ ks) w (v ∷ vs) R P =
-      let q = along a ks v vs (stepped a k w v R P.1.0 P.1.1) P.2 in
-      ((shown a w R, q.0), q.1)
-
   -- guests that start together are in the relation
-  pub started : (a b : Guest) → AreStartGuests r a b → StandAtStarts r (watch_of b).threads → Related r S a (watch_of b)
+  pub started : (a b : Guest) → AreStartGuests r a b → StandAtStarts r (watch_of b).threads → Related r S a [] (watch_of b)
   started a b G stand = record {
     states = [];
     run = tt;

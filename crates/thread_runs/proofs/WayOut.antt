@@ -15,7 +15,7 @@ use Rattle.insn_form.specs.declared.form.Target.TheVariants.{Rel}
 use Rattle.insn_form.specs.Operands.{word_of}
 use Rattle.insn_form.specs.Instruction.{insn_of}
 use Rattle.insn_form.specs.Meaning.{effect}
-use Rattle.insn_form.specs.Machine.{Machine, Task, act, avoids_span, leaves}
+use Rattle.insn_form.specs.Machine.{Machine, Task, act, avoids_span, leaves, put_all}
 use Rattle.insn_form.specs.Step.{IsAt, next_after, question_of}
 use Rattle.insn_form.specs.Touched.{perms_at, reads_avoid}
 use Rattle.thread_runs.specs.ThreadSteps.{thread_task, ThreadStepsBy, ThreadStep}
@@ -26,9 +26,11 @@ use Rattle.insn_form.proofs.UniqueSteps.{one_next}
 use Rattle.thread_runs.proofs.ThreadSteps.{made, unlocked_task}
 use Rattle.relocate_insn.proofs.FixedCode.{fixed_stands, fixed_on}
 use Rattle.relocate_insn.proofs.PieceSteps.{gone_to}
+use Rattle.start_entries.specs.declared.entry.StartEntry.{StartEntry}
 use Rattle.start_entries.specs.Standing.{AreEntries}
 use Rattle.image_step.specs.Listed.{is_start, is_known_start}
-use Rattle.thread_runs.specs.Guest.{Thread, Guest, machine_of, thread_of, Moves, IsInterleaved}
+use Rattle.thread_runs.specs.Guest.{Thread, Guest, machine_of, thread_of}
+use Rattle.thread_runs.specs.GuestDeliveries.{GuestItem, Goes, Takes, given, LeadsBy, IsInterleavedWith}
 use Rattle.thread_runs.specs.ThreadCode.{counter_at, slot}
 use Rattle.thread_runs.specs.Event.{Point, offset, following, is_inside, Holds, HasSaved, InEvent, CanCount}
 use Rattle.thread_runs.specs.Event.Point.{At0, At1, At2, At3, At4, At5, At6, At7}
@@ -433,11 +435,11 @@ module _ (r : Threading) (A : AreEntries r.original r.listed) (S : IsThreadSound
       }
 
   -- a thread that can go from a listed start gets out, whether the start is kept or displaced
-  pub gets_out : (a : Guest) (w : Watch) (one : Watched) (R : Related r S a w) → slice_get w.threads k ≡ Some one → (C : CanGo r w one R.end) → GetsOut r k w one C.to
-  gets_out a w one R e C = done (by_start (is_site r one.now.rip) refl)
+  pub gets_out : (a : Guest) (made : List GuestItem) (w : Watch) (one : Watched) (R : Related r S a made w) → slice_get w.threads k ≡ Some one → (C : CanGo r w one R.end) → GetsOut r k w one C.to
+  gets_out a made w one R e C = done (by_start (is_site r one.now.rip) refl)
     where
       B : Base r S R.end.mem w.stale w.mem one
-      B = base_of r S a w R k one e
+      B = base_of r S a made w R k one e
 
       same : one.now ≡ one.projected
       same = phase_outside r A S L w.mem one.now one.projected R.other (R.each k one e).phase C.stands
@@ -464,21 +466,24 @@ module _ (r : Threading) (A : AreEntries r.original r.listed) (S : IsThreadSound
       by_start false is = wider w _ _ _ 1 12 (omega arith) (kept_out R.end.mem w one C.fields C.to C.steps same C.quiet C.ends C.fresh e B
           (and_from (is_start r.listed one.now.rip) (not (is_site r one.now.rip)) C.stands (not_from_false (is_site r one.now.rip) is)))
 
--- a guest has at most one run over a schedule
-moves_same : (k : ℕ) (g h h' : Guest) → Moves k g h → Moves k g h' → h ≡ h'
-moves_same k g h h' m m' =
+-- an item leads from a guest to one guest at most
+one_after : (listed : List StartEntry) (i : GuestItem) (g h h' : Guest) → LeadsBy listed i g h → LeadsBy listed i g h' → h ≡ h'
+one_after listed (Goes k) g h h' m m' =
     let e : m'.thread ≡ m.thread = some_is m'.thread m.thread (sym m'.there ∙ m.there) in
     let st = subst (λ (t : Thread). ThreadStep (machine_of g.mem t) m'.to) e m'.steps in
     let z : m.to ≡ m'.to = one_next thread_task nowhere nowhere (machine_of g.mem m.thread) m.to m'.to m.steps st in
     m.after ∙ ap (λ (y : Machine). record { threads = slice_set g.threads k (thread_of y); mem = y.mem }) z ∙ sym m'.after
+one_after listed (Takes k d) g h h' m m' =
+    let e : m.thread ≡ m'.thread = some_is m.thread m'.thread (sym m.there ∙ m'.there) in
+    m.after ∙ ap (λ (t : Thread). record { threads = slice_set g.threads k (given d t); mem = put_all g.mem d.writes }) e ∙ sym m'.after
 
--- over a schedule a guest has one run at most
-pub runs_same : (ks : List ℕ) (g : Guest) (gs hs : List Guest) → IsInterleaved ks g gs → IsInterleaved ks g hs → gs ≡ hs
-runs_same [] g [] [] p q = refl
-runs_same [] g [] (h ∷ hs) p q = absurd q
-runs_same [] g (h ∷ hs) hs' p q = absurd p
-runs_same (k ∷ ks) g [] hs p q = absurd p
-runs_same (k ∷ ks) g (h ∷ hs) [] p q = absurd q
-runs_same (k ∷ ks) g (h ∷ hs) (h' ∷ hs') p q =
-    let e = moves_same k g h h' p.0 q.0 in
-    ap₂ (λ x (l : List Guest). x ∷ l) e (runs_same ks h hs hs' p.1 (subst (λ (z : Guest). IsInterleaved ks z hs') (sym e) q.1))
+-- by the items of a list a guest has one run at most
+pub runs_same : (listed : List StartEntry) (is : List GuestItem) (g : Guest) (gs hs : List Guest) → IsInterleavedWith listed is g gs → IsInterleavedWith listed is g hs → gs ≡ hs
+runs_same listed [] g [] [] p q = refl
+runs_same listed [] g [] (h ∷ hs) p q = absurd q
+runs_same listed [] g (h ∷ hs) hs' p q = absurd p
+runs_same listed (i ∷ is) g [] hs p q = absurd p
+runs_same listed (i ∷ is) g (h ∷ hs) [] p q = absurd q
+runs_same listed (i ∷ is) g (h ∷ hs) (h' ∷ hs') p q =
+    let e = one_after listed i g h h' p.0 q.0 in
+    ap₂ (λ x (l : List Guest). x ∷ l) e (runs_same listed is h hs hs' p.1 (subst (λ (z : Guest). IsInterleavedWith listed is z hs') (sym e) q.1))

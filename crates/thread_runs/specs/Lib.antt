@@ -11,6 +11,9 @@ pub mod Alone
 pub mod StepLaws
 pub mod Relation
 pub mod Theorem
+pub mod GuestDeliveries
+pub mod WatchedDeliveries
+pub mod TheoremWithDeliveries
 pub mod EachRun
 pub mod LockedSpelling
 pub mod ThreadJudging

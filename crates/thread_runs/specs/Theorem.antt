@@ -27,22 +27,26 @@ pub record AreStartGuests (r : Threading) (a b : Guest) : Type 0 where
   pub original : a.mem ≡ joined r.original further
   pub patched : b.mem ≡ joined r.patched further
 
--- The effect steps so far are an interleaved run of the original, in the same order: its threads
--- are the projected ones, and memory is equal but for listed instructions, new bytes and stale
--- bytes, and stale bytes have equal permissions, too. A thread at a listed start is its projection;
--- one inside a trampoline stands in an event or after its effect step. Both codes and the counters
--- stay.
+-- How a guest of the original lies beside a watched one: its threads are the projected ones, and
+-- memory is equal but for listed instructions, new bytes and stale bytes, and stale bytes have equal
+-- permissions, too. A thread at a listed start is its projection; one inside a trampoline stands in
+-- an event or after its effect step. Both codes and the counters stay.
+pub record LiesBeside (r : Threading) (g : Guest) (w : Watch) : Type 0 where
+  pub threads : g.threads ≡ map (λ t. t.projected) w.threads
+  pub memory : (x : ℕ) → is_hidden r x ≡ false → w.stale x ≡ false → g.mem x ≡ w.mem x
+  pub permissions : (x : ℕ) → is_hidden r x ≡ false → perms_at g.mem x ≡ perms_at w.mem x
+  pub outside : AllByRecursion (λ t. is_start r.listed t.now.rip ≡ true → t.now ≡ t.projected) w.threads
+  pub each : AllByRecursion (λ t. IsBeside r w.mem t) w.threads
+  pub own : KeepsCode r.original g.mem
+  pub other : KeepsCode r.patched w.mem
+  pub counters : KeepsCounters r w.mem
+
+-- The effect steps so far are an interleaved run of the original, in the same order, which ends in a
+-- guest that lies beside the watched one.
 pub record IsGuestFollowed (r : Threading) (a : Guest) (w : Watch) : Type 0 where
   pub states : List Guest
   pub run : IsInterleaved (map (λ e. e.thread) w.log) a states
-  pub threads : (last_guest a states).threads ≡ map (λ t. t.projected) w.threads
-  pub memory : (x : ℕ) → is_hidden r x ≡ false → w.stale x ≡ false → (last_guest a states).mem x ≡ w.mem x
-  pub permissions : (x : ℕ) → is_hidden r x ≡ false → perms_at (last_guest a states).mem x ≡ perms_at w.mem x
-  pub outside : AllByRecursion (λ t. is_start r.listed t.now.rip ≡ true → t.now ≡ t.projected) w.threads
-  pub each : AllByRecursion (λ t. IsBeside r w.mem t) w.threads
-  pub own : KeepsCode r.original (last_guest a states).mem
-  pub other : KeepsCode r.patched w.mem
-  pub counters : KeepsCounters r w.mem
+  pub beside : LiesBeside r (last_guest a states) w
 
 -- The counter of each site is the number of the site's effect steps and of the threads between its
 -- LOCK INC and its effect step, modulo 2^64.

@@ -4,6 +4,7 @@ ghost use Rattle.thread_runs.specs.Alone.{EventCountsAlone};
 ghost use Rattle.thread_runs.specs.ThreadSteps.{IsThreadStep};
 ghost use Rattle.thread_runs.specs.Work.{IsEffectStep, IsTailStep};
 ghost use Rattle.thread_runs.specs.Theorem.{ThreadsAreFollowed};
+ghost use Rattle.thread_runs.specs.TheoremWithDeliveries.{ThreadsAreFollowedWith};
 ghost use Rattle.thread_runs.specs.LockedSpelling.{LockedIsSpelled, LockIsUntested};
 ghost use Rattle.thread_runs.specs.EachRun.{EachRunIsWatched};
 ghost use Rattle.thread_runs.specs.Running.{RunsOneWay};
@@ -63,6 +64,12 @@ pub fn each_run()
 /// In each interleaved run that meets the premises the patched guest runs as the original does, and counts.
 pub fn threads_step()
     ensures { ThreadsAreFollowed }
+{}
+
+/// The same holds where something is delivered to threads that stand outside: the original's run
+/// takes each delivery at the same moment.
+pub fn threads_step_with_deliveries()
+    ensures { ThreadsAreFollowedWith }
 {}
 
 /// LOCK INC, the instruction that interleaved runs don't ask the world about, is recognized by its

@@ -1,0 +1,129 @@
+-- A delivery that meets the premises keeps the relation between the watched guest and the original's.
+use Rattle.std.proofs.Common.{◌≡◌, ◌≢◌, inl, inr, ℕ, ◌+◌, ◌%◌, ◌^◌, Bool, true, false, cond, eqb, List, [], ◌∷◌, ◌++◌, length, map, Some, None, refl, sym, ap, ap₂, ◌∙◌, subst, arith}
+use Rattle.std.specs.Prelude.{Contains, count_by, slice_get, slice_set}
+use Rattle.std.proofs.lemmas.Bool.{cases_eq, and_parts, cond-false}
+use Rattle.pun_base.specs.Memory.{Bytes}
+use Rattle.cpu_state.specs.declared.world.MemWrite.{MemWrite}
+use Rattle.cpu_state.specs.Bytes.{avoids, number_at}
+use Rattle.insn_form.specs.Plan.{or_first, lacking_writes}
+use Rattle.insn_form.specs.Machine.{put_all, avoids_writes}
+use Rattle.insn_form.specs.Alike.{AreAlike, still}
+use Rattle.insn_form.proofs.AlikeMemories.{lacking_in_alike, carried_alike}
+use Rattle.insn_form.proofs.FrameRule.{put_all_keeps}
+use Rattle.insn_form.proofs.TouchedMemory.{writes_both, put_all_perms}
+use Rattle.start_entries.specs.Standing.{AreEntries}
+use Rattle.image_step.specs.declared.delivery.Delivery.{Delivery}
+use Rattle.image_step.specs.Listed.{is_start, is_listed_byte}
+use Rattle.image_check.proofs.DeliveredStates.{written_code}
+use Rattle.thread_runs.specs.Guest.{Thread, Guest, machine_of}
+use Rattle.thread_runs.specs.ThreadCode.{counter_at}
+use Rattle.thread_runs.specs.Threading.{ThreadSite, Threading, is_new, is_hidden, is_saved, has_saved, is_counted, IsThreadSound}
+use Rattle.thread_runs.specs.Watching.{Watched, Watch}
+use Rattle.thread_runs.specs.StepLaws.{StepLaws}
+use Rattle.thread_runs.specs.GuestDeliveries.{Takes, given, LeadsBy, Receives}
+use Rattle.thread_runs.specs.WatchedDeliveries.{WatchWith, writes_byte, watched_given, IsGiven}
+use Rattle.patch_report.proofs.ListPlaces.{some_is}
+use Rattle.thread_runs.proofs.ListUpdates.{set_here, set_away, map_set, get_map, count_set}
+use Rattle.thread_runs.proofs.KeptRelation.{run_more, last_more, lacking_on, other_kept}
+use Rattle.thread_runs.proofs.StandingCode.{counter_kept}
+use Rattle.thread_runs.proofs.OutsideSteps.{start_uncounted}
+use Rattle.thread_runs.proofs.WatchedRelation.{HasRoom, ThreadKept, Related}
+use Rattle.thread_runs.proofs.WatchedSteps.{phase_outside}
+
+-- writes that leave the hidden set alone are held in both memories or in neither
+held_alike : (hidden stale : ℕ → Bool) (m w : Bytes) → AreAlike hidden stale m w → (ws : List MemWrite) → avoids_writes hidden ws ≡ true → lacking_writes m ws ≡ lacking_writes w ws
+held_alike hidden stale m w e [] h = refl
+held_alike hidden stale m w e (v ∷ ws) h =
+    let q = and_parts (avoids hidden v.addr (length v.bytes)) (avoids_writes hidden ws) h in
+    ap₂ or_first (lacking_in_alike hidden stale m w e 2 (Some (record { addr = v.addr; size = length v.bytes })) q.0) (held_alike hidden stale m w e ws q.1)
+
+module _ (r : Threading) (A : AreEntries r.original r.listed) (S : IsThreadSound r) (L : StepLaws)
+    (a : Guest) (k : ℕ) (d : Delivery) (x y : WatchWith) (R : Related r S a x.made x.watch) (D : IsGiven r k d x y) where
+  abbrev w : Watch
+  w = x.watch
+
+  abbrev one : Watched
+  one = D.one
+
+  -- the thread and its projection after the delivery
+  abbrev one' : Watched
+  one' = record { now = given d one.now; projected = given d one.projected }
+
+  abbrev v : Watch
+  v = watched_given k one d w
+
+  kept : ThreadKept r S w.mem one
+  kept = R.each k one D.there
+
+  -- the thread is its projection
+  same : one.now ≡ one.projected
+  same = phase_outside r A S L w.mem one.now one.projected R.other kept.phase D.fits.here
+
+  -- no hidden byte is written
+  unseen : avoids_writes (is_hidden r) d.writes ≡ true
+  unseen = writes_both (is_listed_byte r.listed) (is_new r) d.writes D.fits.apart D.old
+
+  -- the delivery can be made in the original too
+  held : lacking_writes R.end.mem d.writes ≡ None
+  held = held_alike (is_hidden r) w.stale R.end.mem w.mem R.alike d.writes unseen ∙ D.fits.held
+
+  -- the original's guest after the delivery
+  abbrev h : Guest
+  h = record { threads = slice_set R.end.threads k (given d one.projected); mem = put_all R.end.mem d.writes }
+
+  received : Receives r.listed k d R.end h
+  received = record {
+    thread = one.projected;
+    there = ap (λ (l : List Thread). slice_get l k) R.threads ∙ get_map (λ (t : Watched). t.projected) w.threads k one D.there;
+    fits = record { here = kept.start; there = D.fits.there; core = D.fits.core; held = held; apart = D.fits.apart };
+    after = refl;
+  }
+
+  -- what a new byte holds stays
+  news : (z : ℕ) → is_new r z ≡ true → v.mem z ≡ w.mem z
+  news z e = put_all_keeps (is_new r) w.mem d.writes z D.old e
+
+  -- what is kept of each thread
+  each : (j : ℕ) (other : Watched) → slice_get v.threads j ≡ Some other → ThreadKept r S v.mem other
+  each j other e = elim (cases_eq j k) [
+    | inl q ↦ subst (λ (z : Watched). ThreadKept r S v.mem z)
+        (some_is one' other (sym (set_here w.threads k one one' D.there) ∙ subst (λ (z : ℕ). slice_get v.threads z ≡ Some other) q e))
+        (record { processor = D.fits.core; words = kept.words; start = D.fits.there; phase = inl (record { same = ap (given d) same; start = D.fits.there }) })
+    | inr n ↦ (let g = sym (set_away w.threads k j one' n) ∙ e in
+        other_kept r S L.slots w.mem v.mem other (λ t z s. put_all_keeps (is_saved other.now.core) w.mem d.writes z (D.apart j other n g t) s) (R.each j other g))
+  ]
+
+  -- the number of each counter
+  counted : (s : ThreadSite) → Contains r.sites s
+      → number_at v.mem (counter_at r.private s.number) 8 ≡ (count_by (λ e. eqb e.at s.entry.addr) v.log + count_by (λ t. is_counted s t.now.rip) v.threads) % 2 ^ 64
+  counted s c =
+      let n = counter_kept r A S s c w.mem v.mem news in
+      let p = count_set (λ (t : Watched). is_counted s t.now.rip) w.threads k one one' D.there in
+      let before : is_counted s one.now.rip ≡ false = start_uncounted r A S L one.now.rip s c D.fits.here in
+      let after : is_counted s d.rip ≡ false = start_uncounted r A S L d.rip s c D.fits.there in
+      omega (arith, n, R.counted s c, unchanged p before after)
+    where
+      unchanged : {m n : ℕ} → n + cond (is_counted s one.now.rip) 1 0 ≡ m + cond (is_counted s d.rip) 1 0 → is_counted s one.now.rip ≡ false → is_counted s d.rip ≡ false → n ≡ m
+      unchanged q b c =
+          let e : ◌≡◌ {A = ℕ} (cond (is_counted s one.now.rip) 1 0) 0 = cond-false (is_counted s one.now.rip) 1 0 b in
+          let f : ◌≡◌ {A = ℕ} (cond (is_counted s d.rip) 1 0) 0 = cond-false (is_counted s d.rip) 1 0 c in
+          omega (arith, q, e, f)
+
+  -- the relation after the delivery
+  pub given_kept : Related r S a (x.made ++ Takes k d ∷ []) v
+  given_kept = record {
+    states = R.states ++ h ∷ [];
+    run = run_more r.listed x.made a R.states (Takes k d) h R.run (subst (λ (z : Guest). LeadsBy r.listed (Takes k d) z h) (sym R.last) received);
+    end = h;
+    last = last_more a R.states h;
+    threads = ap (λ (l : List Thread). slice_set l k (given d one.projected)) R.threads ∙ sym (map_set (λ (t : Watched). t.projected) w.threads k one');
+    alike = carried_alike (is_hidden r) w.stale (writes_byte d) R.end.mem w.mem d.writes R.alike (λ z. refl);
+    own = written_code r.original R.end.mem d.writes held R.own;
+    other = written_code r.patched w.mem d.writes D.fits.held R.other;
+    room = λ s c. let m = R.room s c in record {
+      read = lacking_on 4 w.mem v.mem (counter_at r.private s.number) 8 (put_all_perms w.mem d.writes) ∙ m.read;
+      written = lacking_on 2 w.mem v.mem (counter_at r.private s.number) 8 (put_all_perms w.mem d.writes) ∙ m.written;
+    };
+    counted = counted;
+    each = each;
+  }

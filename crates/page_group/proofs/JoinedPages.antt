@@ -9,7 +9,7 @@ use Rattle.page_group.specs.declared.offsets.Offsets.{Offsets}
 use Rattle.page_group.specs.Pages.{is_occupied}
 use Rattle.pun_base.specs.Least.{IsLeast}
 use Rattle.page_group.specs.Occupancy.{has, ShareOffset}
-use Rattle.page_group.specs.Joining.{IsOpenAt, IsAddedTo, bound_of}
+use Rattle.page_group.specs.Joining.{IsOpenAt, IsAddedTo, IsStart, bound_of}
 
 -- an offset shared with a set of a list is shared whatever stands past the list's end
 pub share_at : (groups : List Offsets) (i : ℕ) (d e offsets : Offsets) → i < length groups
@@ -155,6 +155,81 @@ joining_next pieces pages joined groups new offsets group h next f a =
       few = omega arith;
       union = union_next pieces pages joined groups new offsets group h next a;
     }
+
+-- before a page has joined there is no group
+pub joining_none : (pieces : List (ℕ × ℕ)) (pages joined : List ℕ) (groups : List Offsets) → length joined ≡ 0 → length groups ≡ 0
+    → Joining pieces pages joined groups
+joining_none pieces pages joined groups j g = record {
+  first = λ place l. absurd (omega arith);
+  below = λ place l. absurd (omega arith);
+  few = omega arith;
+  union = λ group k d l. absurd (omega arith);
+}
+
+-- each group below a page's own has an offset of the page
+abbrev pub AreMet : List Offsets → List ℕ → List Offsets → Type 0
+AreMet sets joined groups =
+    (place group : ℕ) (d e : Offsets) → place < length joined → group < get_or joined place 0
+    → ShareOffset (get_or groups group d) (get_or sets place e)
+
+-- what a group shares it still shares when a page has joined
+still_met : (groups new : List Offsets) (offsets some : Offsets) (group other : ℕ) (d : Offsets) → IsAddedTo group offsets groups new
+    → other < length groups → ShareOffset (get_or groups other d) some → ShareOffset (get_or new other d) some
+still_met groups new offsets some group other d a l m =
+    let size = a.size in
+    let was : Bool = nat_lt other (length groups) && has (get_or groups other d) m.0 in
+    let adds : Bool = other == group && has offsets m.0 in
+    let held : was ≡ true = and_from (nat_lt other (length groups)) (has (get_or groups other d) m.0) (lt-ltb other (length groups) l) m.1 in
+    (m.0, a.added other m.0 d (omega arith) ∙ or_left was adds held, m.2)
+
+-- the groups below each page's own have an offset of it when the next page has joined
+pub met_next : (sets : List Offsets) (joined : List ℕ) (groups new : List Offsets) (offsets : Offsets) (group : ℕ)
+    → AreMet sets joined groups → ((place : ℕ) → place < length joined → get_or joined place 0 < length groups)
+    → ((e : Offsets) → get_or sets (length joined) e ≡ offsets) → IsFirst groups offsets group → IsAddedTo group offsets groups new
+    → AreMet sets (joined ++ group ∷ []) new
+met_next sets joined groups new offsets group h below is f a place other d e l m =
+    let more = length_push joined group in
+    elim (cases_lt place (length joined)) [
+      | inl n ↦ (
+          let kept = get_or_append_left joined (group ∷ []) 0 place n in
+          let low : other < get_or joined place 0 = subst (λ (g : ℕ). other < g) kept m in
+          let b = below place n in
+          still_met groups new offsets (get_or sets place e) group other d a (omega arith) (h place other d e n low)
+          )
+      | inr n ↦ (
+          let here : place ≡ length joined = omega arith in
+          let last : get_or (joined ++ group ∷ []) place 0 ≡ group =
+          ap (λ (p : ℕ). get_or (joined ++ group ∷ []) p 0) here ∙ get_or_push joined group 0 (length joined) refl in
+          let low : other < group = subst (λ (g : ℕ). other < g) last m in
+          let within = f.within in
+          let own : offsets ≡ get_or sets place e = sym (ap (λ (p : ℕ). get_or sets p e) here ∙ is e) in
+          still_met groups new offsets (get_or sets place e) group other d a (omega arith)
+          (subst (λ (o : Offsets). ShareOffset (get_or groups other d) o) own (f.met other d low))
+          )
+    ]
+
+-- the groups before the one that is tried first have an offset of the page
+pub start_met : (sets : List Offsets) (joined : List ℕ) (groups : List Offsets) (offsets : Offsets) (start : ℕ)
+    → AreMet sets joined groups → IsStart sets joined offsets start → (group : ℕ) (d : Offsets) → group < start
+    → ShareOffset (get_or groups group d) offsets
+start_met sets joined groups offsets start h s group d l = elim s [
+  | inl z ↦ absurd (omega arith)
+  | inr e ↦ (
+      let low : group < get_or joined e.0 0 = subst (λ (g : ℕ). group < g) e.3 l in
+      let blank : Offsets = record { words = [] } in
+      let m = h e.0 group d blank e.1 low in
+      (m.0, m.1, e.2 blank m.0 m.2)
+      )
+]
+
+-- that group is one of the groups, or the first
+pub start_within : (sets : List Offsets) (joined : List ℕ) (groups : List Offsets) (offsets : Offsets) (start : ℕ)
+    → ((place : ℕ) → place < length joined → get_or joined place 0 < length groups) → IsStart sets joined offsets start
+    → start ≤ length groups
+start_within sets joined groups offsets start below s = elim s [
+  | inl z ↦ omega arith
+  | inr e ↦ (let b = below e.0 e.1 in let is = e.3 in omega arith)
+]
 
 -- the least number above each of some numbers and one more
 bound_push : (xs : List ℕ) (x : ℕ) → bound_of (xs ++ x ∷ []) ≡ max (bound_of xs) (x + 1)

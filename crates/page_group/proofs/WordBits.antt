@@ -1,9 +1,9 @@
 -- Words of 64 bits, bit by bit.
 use Rattle.std.proofs.Common.{◌≡◌, ◌≢◌, ℕ, ◌+◌, ◌*◌, ◌/◌, ◌%◌, ◌^◌, ◌<◌, ◌≤◌, max, min, true, false, ◌||◌, ◌==◌, List, length, get_or, set, replicate, bit_or, bit_and, w64, ap, sym, ◌∙◌, inl, inr, arith, eq-eqb, get_or-set_other, get_or-set_same}
 use mir.Val.{bits, Fits}
-use Rattle.page_group.specs.Occupancy.{has_bit, ShareBit}
+use Rattle.page_group.specs.Occupancy.{has_bit, AreAmong, ShareBit}
 use Rattle.std.specs.Int.{bit_at, trailing_zeros}
-use Rattle.std.proofs.lemmas.Bool.{cases_eq, cases_lt, eqb-true, both_ways, or_from}
+use Rattle.std.proofs.lemmas.Bool.{cases_eq, cases_lt, eqb-true, both_ways, or_from, or_left}
 use Rattle.std.proofs.lemmas.Bool.Decides.{nat_tests}
 use Rattle.std.proofs.lemmas.List.{length-replicate, get_or-replicate, get_or_past}
 use Rattle.std.proofs.lemmas.Nat.{and_le_l}
@@ -117,12 +117,75 @@ past_end : (words : List ℕ) (k : ℕ) → length words ≤ k / 64 → has_bit 
 past_end words k l =
     ap (λ (w : ℕ). bit_at w (k % 64) == 1) (get_or_past words (k / 64) 0 l) ∙ ap (λ (b : ℕ). b == 1) (bit_at-zero (k % 64))
 
--- lists that have nothing in common word by word share no bit
-pub no_shared_bit : (a b : List ℕ) (place : ℕ) → length a ≤ place
-    → ((i : ℕ) → i < place → bit_and (get_or a i 0) (get_or b i 0) ≡ 0) → ShareBit a b → ⊥
-no_shared_bit a b place l h m = elim (cases_lt (m.0 / 64) place) [
-  | inl n ↦ no_common_bit a b m.0 (h (m.0 / 64) n) m.1 m.2
-  | inr n ↦ both_ways (has_bit a m.0) (past_end a m.0 (omega arith)) m.1
+-- lists that have nothing in common where one has its bits share no bit
+pub no_shared_bit : (a b : List ℕ) (first end : ℕ) → AreAmong first end b
+    → ((i : ℕ) → first ≤ i → i < end → bit_and (get_or a i 0) (get_or b i 0) ≡ 0) → ShareBit a b → ⊥
+no_shared_bit a b first end among h m =
+    let at = among m.0 m.2 in
+    no_common_bit a b m.0 (h (m.0 / 64) at.0 at.1) m.1 m.2
+
+-- a word of zeros has no bit
+blank_word : (words : List ℕ) (k : ℕ) → get_or words (k / 64) 0 ≡ 0 → has_bit words k ≡ false
+blank_word words k e = ap (λ (w : ℕ). bit_at w (k % 64) == 1) e ∙ ap (λ (b : ℕ). b == 1) (bit_at-zero (k % 64))
+
+-- words of zeros at the front, and no others, have no bit
+pub none_set : (words : List ℕ) (index : ℕ) → length words ≤ index → ((i : ℕ) → i < index → get_or words i 0 ≡ 0)
+    → (k : ℕ) → has_bit words k ≡ true → ⊥
+none_set words index l h k t = elim (cases_lt (k / 64) index) [
+  | inl m ↦ both_ways (has_bit words k) (blank_word words k (h (k / 64) m)) t
+  | inr m ↦ both_ways (has_bit words k) (past_end words k (omega arith)) t
+]
+
+-- where the words from a count on are zeros, a bit lies before it
+pub before_blank : (words : List ℕ) (count : ℕ) → ((i : ℕ) → count ≤ i → get_or words i 0 ≡ 0)
+    → (k : ℕ) → has_bit words k ≡ true → k / 64 < count
+before_blank words count h k t = elim (cases_lt (k / 64) count) [
+  | inl m ↦ m
+  | inr m ↦ absurd (both_ways (has_bit words k) (blank_word words k (h (k / 64) m)) t)
+]
+
+-- the lowest bit of a word behind words of zeros is the least bit
+pub least_bit : (words : List ℕ) (index zeros : ℕ) → zeros ≡ trailing_zeros w64 (get_or words index 0) → get_or words index 0 ≢ 0
+    → Fits w64 (get_or words index 0) → ((i : ℕ) → i < index → get_or words i 0 ≡ 0) → (k : ℕ) → has_bit words k ≡ true
+    → 64 * index + zeros ≤ k
+least_bit words index zeros is some fits h k t =
+    let word : ℕ = get_or words index 0 in
+    let low = bit_at-trailing_zeros w64 word (omega arith) fits.fits in
+    let within : trailing_zeros w64 word < 64 = low.0 in
+    elim (cases_lt (k / 64) index) [
+      | inl m ↦ absurd (both_ways (has_bit words k) (blank_word words k (h (k / 64) m)) t)
+      | inr m ↦ elim (cases_eq (k / 64) index) [
+        | inr n ↦ omega arith
+        | inl e ↦ elim (cases_lt (k % 64) zeros) [
+          | inr n ↦ omega arith
+          | inl n ↦ (
+              let one : bit_at word (k % 64) ≡ 1 = (λ i. bit_at (get_or words (sym e i) 0) (k % 64)) ∙ eqb-true (bit_at (get_or words (k / 64) 0) (k % 64)) 1 t in
+              let none : bit_at word (k % 64) ≡ 0 = low.2 (k % 64) (omega arith) in
+              absurd (omega arith)
+              )
+        ]
+      ]
+    ]
+
+-- the lowest bit of a word that isn't 0 is 1
+pub lowest_bit : (words : List ℕ) (index zeros : ℕ) → zeros ≡ trailing_zeros w64 (get_or words index 0) → get_or words index 0 ≢ 0
+    → Fits w64 (get_or words index 0) → has_bit words (64 * index + zeros) ≡ true
+lowest_bit words index zeros is some fits =
+    let word : ℕ = get_or words index 0 in
+    let low = bit_at-trailing_zeros w64 word (omega arith) fits.fits in
+    let within : trailing_zeros w64 word < 64 = low.0 in
+    let k : ℕ = 64 * index + zeros in
+    let p : index ≡ k / 64 = omega arith in
+    let q : trailing_zeros w64 word ≡ k % 64 = omega arith in
+    eq-eqb (bit_at (get_or words (k / 64) 0) (k % 64)) 1 ((λ i. bit_at (get_or words (sym p i) 0) (sym q i)) ∙ low.1)
+
+-- where one list's words add nothing to another's, its bits are the other's too
+pub within_bits : (a b : List ℕ) (index : ℕ) → length a ≤ index
+    → ((i : ℕ) → i < index → bit_or (get_or a i 0) (get_or b i 0) ≡ get_or b i 0)
+    → (k : ℕ) → has_bit a k ≡ true → has_bit b k ≡ true
+within_bits a b index l h k t = elim (cases_lt (k / 64) index) [
+  | inl m ↦ joined_bit b a b k (sym (h (k / 64) m)) ∙ or_left (has_bit a k) (has_bit b k) t
+  | inr m ↦ absurd (both_ways (has_bit a k) (past_end a k (omega arith)) t)
 ]
 
 -- words that join two lists word by word have the bits of both

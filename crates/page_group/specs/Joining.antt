@@ -1,11 +1,11 @@
 -- The groups that pages join, in the order of the pages, and what is kept of them. Contracts of private functions alone cite it.
-use Rattle.std.specs.Prelude.{◌≡◌, ℕ, ◌+◌, ◌^◌, ◌<◌, ◌==◌, ◌&&◌, ◌||◌, nat_lt, max, List, [], ◌∷◌, length, slice_index}
+use Rattle.std.specs.Prelude.{◌≡◌, ℕ, ◌+◌, ◌^◌, ◌<◌, ◌⊎◌, ◌==◌, ◌&&◌, ◌||◌, nat_lt, max, List, [], ◌∷◌, length, slice_index}
 use Rattle.std.specs.List.{slice_index_or}
 use Rattle.page_group.specs.declared.offsets.Offsets.{Offsets}
 use Rattle.page_group.specs.Pages.{IsPageList}
 use Rattle.pun_base.specs.Least.{IsLeast}
 use Rattle.page_group.specs.Grouping.{Meet}
-use Rattle.page_group.specs.Occupancy.{has}
+use Rattle.page_group.specs.Occupancy.{has, IsWithin}
 
 -- No page of a group that stands before a page has an occupied offset in common with it.
 abbrev pub IsOpenAt : List (ℕ × ℕ) → List ℕ → List ℕ → ℕ → ℕ → Type 0
@@ -18,6 +18,12 @@ pub record AreJoined (pieces : List (ℕ × ℕ)) (pages groups : List ℕ) : Ty
   pub size : length groups ≡ length pages
   pub first : (place : ℕ) → place < length groups
       → IsLeast (IsOpenAt pieces pages groups place) (slice_index groups place)
+
+-- A place to begin the search for a page's group: the first group, or that of an earlier page whose offsets the page has too.
+abbrev pub IsStart : List Offsets → List ℕ → Offsets → ℕ → Type 0
+IsStart sets joined offsets start =
+    (start ≡ 0) ⊎ ((earlier : ℕ) × (earlier < length joined) × ((d : Offsets) → IsWithin (slice_index_or sets earlier d) offsets)
+    × (start ≡ slice_index joined earlier))
 
 -- The offsets of a page are added to those of a group, which may be the one behind the last.
 pub record IsAddedTo (group : ℕ) (offsets : Offsets) (old new : List Offsets) : Type 0 where

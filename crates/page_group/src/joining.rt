@@ -4,24 +4,42 @@ ghost use Rattle.std.specs.List.{slice_index_or};
 ghost use Rattle.page_group.specs.declared.offsets.Offsets.{Offsets as OffsetsState};
 ghost use Rattle.page_group.specs.Pages.{ends_of, IsPageList};
 ghost use Rattle.page_group.specs.Occupancy.{ShareOffset};
-ghost use Rattle.page_group.specs.Joining.{AreJoined, IsAddedTo, bound_of};
+ghost use Rattle.page_group.specs.Joining.{AreJoined, IsAddedTo, IsStart, bound_of};
 
 use crate::occupancy::occupied_offsets;
 use crate::offsets::Offsets;
+use pun_base::limits::PAGE_LEN;
 use pun_base::range::Range;
 use std::alloc::{AllocError, Global};
 
+/// Where the search for the group of a page begins: at the group of an earlier page whose offsets
+/// this page has too, and else at the first group.
+fn first_tried(sets: &[Offsets], joined: &[u32], earlier: usize, offsets: &Offsets) -> usize
+    requires { length joined.now ≤ length sets.now }
+    ensures { IsStart sets.now joined.now offsets.now result }
+{
+    if earlier < joined.len() && sets[earlier].is_within(offsets) {
+        joined[earlier] as usize
+    } else {
+        0
+    }
+}
+
 /// The first group whose pages have none of a page's offsets; the one behind the last where there
-/// is none.
-fn first_open(groups: &[Offsets], offsets: &Offsets) -> usize
+/// is none. Each group before `start` has one of them.
+fn first_open(groups: &[Offsets], offsets: &Offsets, start: usize) -> usize
+    requires start { start ≤ length groups.now }
+    requires met { (group : ℕ) (d : OffsetsState) → group < start
+        → ShareOffset (slice_index_or groups.now group d) offsets.now }
     ensures within { result ≤ length groups.now }
     ensures open { (d : OffsetsState) → result < length groups.now
         → ShareOffset (slice_index_or groups.now result d) offsets.now → ⊥ }
     ensures met { (group : ℕ) (d : OffsetsState) → group < result
         → ShareOffset (slice_index_or groups.now group d) offsets.now }
 {
-    for (group, taken) in groups.iter().enumerate() {
-        if !taken.meets(offsets) {
+    let (first, end) = offsets.span();
+    for group in start..groups.len() {
+        if !groups[group].meets(offsets, first, end) {
             return group;
         }
     }
@@ -54,9 +72,14 @@ pub(crate) fn join_pages(
     let sets = occupied_offsets(alloc, pieces, pages)?;
     let mut groups = Vec::new(alloc);
     let mut joined = Vec::with_capacity(alloc, pages.len())?;
+    // by its least offset, the last page
+    let mut latest = vec![in alloc; 0u32; PAGE_LEN as usize]?;
     for offsets in &sets {
-        let group = first_open(&groups, offsets);
+        let least = offsets.lowest();
+        let start = first_tried(&sets, &joined, latest[least] as usize, offsets);
+        let group = first_open(&groups, offsets, start);
         add_to(&mut groups, group, offsets)?;
+        latest[least] = joined.len() as u32;
         joined.push(group as u32)?;
     }
     Ok(joined)

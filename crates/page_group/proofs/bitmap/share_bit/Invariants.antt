@@ -1,5 +1,5 @@
-use Rattle.std.proofs.Common.{◌≡◌, ℕ, ◌<◌, bit_and, get_or}
+use Rattle.std.proofs.Common.{◌≡◌, ℕ, ◌<◌, ◌≤◌, bit_and, get_or}
 use Rattle.page_group.proofs.bitmap.share_bit.Given as goal
 
-abbrev pub invariant-loop-place : goal.invariant-loop-place
-invariant-loop-place l = (k : ℕ) → k < l.place → bit_and (get_or l.words k 0) (get_or l.others k 0) ≡ 0
+abbrev pub invariant-loop-index : goal.invariant-loop-index
+invariant-loop-index l = (k : ℕ) → l.first ≤ k → k < l.index → bit_and (get_or l.words k 0) (get_or l.others k 0) ≡ 0

@@ -1,4 +1,4 @@
-//! Trampolines: code that records an event, does the work of the displaced instruction and goes back behind it.
+//! Trampolines: code that records an event, does the work of the displaced instruction, and jumps back to the instruction after it.
 //!
 //! Stands on `cond_action` and `relocate_insn`; `image_check` and `site_turns` stand on it.
 #![tactic(auto)]

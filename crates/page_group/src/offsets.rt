@@ -45,7 +45,10 @@ impl Offsets {
         ensures within { result.1 ≤ 64 }
         ensures among { AreAmong result.0 result.1 self.now.words }
     {
-        (bitmap::lowest(&self.words) / 64, bitmap::filled(&self.words))
+        (
+            bitmap::lowest(&self.words) / 64,
+            bitmap::filled(&self.words),
+        )
     }
 
     /// Whether an offset is in both sets: those of the second lie in the words from `first` up to

@@ -84,6 +84,21 @@ __attribute__((noinline)) static void write_key(struct writer *it)
     it->column++;
 }
 
+/* The code behind the call is that of all ways out of the loop's body, `continue;` has none. */
+__attribute__((noinline)) static int fit(struct writer *it, int rounds)
+{
+    int fitting = 0;
+    for (int round = 0; round < rounds; round++) {
+        if (it->column > 1000) {
+            puts("far too wide");
+            continue;
+        }
+        if (it->column < round + 13)
+            fitting += table[round & 7];
+    }
+    return fitting;
+}
+
 int main(int count, char **words)
 {
     (void)words;
@@ -94,6 +109,7 @@ int main(int count, char **words)
     for (int key = 0; key < count * 3; key++)
         write_key(&writer);
     printf("%d %d\n", writer.column, writer.rows);
+    printf("%d\n", fit(&writer, 7));
     printf("%d %d\n", count_of("", 'e'), count_of("three e", 'e'));
     return state.now < 0;
 }

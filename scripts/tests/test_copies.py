@@ -37,13 +37,14 @@ MOVED = {
     12: (5, None, NO_TRACE),
     14: (5, None, NO_TRACE),
     16: (5, 1, NO_TRACE),
-    35: (1, 2, IF_CONVERTED),
     38: (1, 2, IF_CONVERTED),
     39: (None, 2, RETURNS),
     45: (None, 1, RETURNS),
     49: (None, 2, RETURNS),
     59: (2, 1, RETURNS),
     60: (None, 2, RETURNS),
+    94: (0, None, "no code is left of `continue;`, and the call before it was never made"),
+    100: (None, 1, RETURNS),
 }
 # Two units that have one function, of which the linker keeps the first's.
 UNITS = {

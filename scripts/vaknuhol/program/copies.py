@@ -3,16 +3,16 @@ one around the code.
 
 Of a function's first block, the line of its head has the count, and what stands with the opening brace belongs to no
 line. The closing brace of a function that returns a value, of which only the way out is left, has no code either. Rows
-of no length are traces of lines whose code was merged with that of others: such a line has the block there, in the
-copy, going outwards, of the function whose head is the nearest above the line.
+of no length are traces of lines whose code was merged with that of others: such a line has the block there, or the one
+before which it ends (`endings`), in the copy, going outwards, of the function whose head is the nearest above the line.
 """
 import array
 import bisect
-from collections.abc import Sequence
-from collections.abc import Iterator
+from collections.abc import Callable, Iterator, Sequence
 
 from vaknuhol.program.blocks import Span
 from vaknuhol.program.debug_info import ARTIFICIAL, INLINED, RETURNS_VALUE, DebugInfo
+from vaknuhol.program.endings import Endings, Statement
 from vaknuhol.program.frame_code import is_way_out
 from vaknuhol.program.program_file import Program
 
@@ -23,10 +23,12 @@ Blocks = dict[int, list[int]]  # by copies
 class Copies:
     """By lines: `own`, the blocks with code of the line, `traces`, those where it has rows of no length, and `begins`,
     those in which a statement of it begins; `first_line` and `last_line` have the copy and the line in which each block
-    begins and ends. Files are those that are wanted."""
+    begins and ends. Files are those that are wanted; `others` tells, of a block from which control always goes on to
+    another, what else leads there."""
 
-    def __init__(self, info: DebugInfo, rows: Sequence[Span], program: Program, wanted: set[int]) -> None:
-        self.info, self.rows, self.program, self.wanted = info, rows, program, wanted
+    def __init__(self, info: DebugInfo, rows: Sequence[Span], program: Program, wanted: set[int],
+                 others: Callable[[int, int], list[int] | None]) -> None:
+        self.info, self.rows, self.program, self.wanted, self.others = info, rows, program, wanted, others
         self.firsts = array.array("Q", (row.first for row in rows))
         self.own: dict[Key, Blocks] = {}
         self.traces: dict[Key, Blocks] = {}
@@ -41,6 +43,7 @@ class Copies:
             if info.kind[instance - 1] & INLINED and info.entry[instance - 1]:
                 self.calls_at.setdefault(info.entry[instance - 1], []).append(instance)
         self.braces = self.opening_braces()
+        self.endings = Endings(info, {Statement(*place) for _, *place in self.braces})
         self.take_heads()
         self.take_pieces()
         self.take_points()
@@ -58,7 +61,14 @@ class Copies:
 
     def line_within(self, block: int, copy: int) -> Key | None:
         """The line with which a block begins, as a copy has it: of a call that is inlined there, the call's."""
-        info, (inner, key) = self.info, self.first_line.get(block, (0, (0, 0)))
+        return self.as_within(copy, *self.first_line.get(block, (0, (0, 0))))
+
+    def last_within(self, block: int, copy: int) -> Key | None:
+        """The line with which a block ends, as a copy has it."""
+        return self.as_within(copy, *self.last_line.get(block, (0, (0, 0))))
+
+    def as_within(self, copy: int, inner: int, key: Key) -> Key | None:
+        info = self.info
         while inner and inner != copy:
             key, inner = (info.call_file[inner - 1], info.call_line[inner - 1]), info.parent[inner - 1]
         return key if inner else None
@@ -188,9 +198,9 @@ class Copies:
     def take_points(self) -> None:
         """Rows of no length that begin a statement."""
         info = self.info
-        for at, file, line, column, begins, view in zip(info.point_at, info.point_file, info.point_line,
-                                                        info.point_column,
-                                                        info.point_begins, info.point_view):
+        for point, (at, file, line, column, begins, view) in enumerate(zip(
+                info.point_at, info.point_file, info.point_line, info.point_column, info.point_begins,
+                info.point_view)):
             if not begins or not line or file not in self.wanted:
                 continue
             block = self.block_at(at)
@@ -199,10 +209,35 @@ class Copies:
             inner, key = info.instance_at(at), (file, line)
             if self.is_artificial(inner) or (inner, file, line, column) in self.braces:
                 continue
-            self.begin(key, inner, block)
             held = self.holder(info.around(at, view), file, line)
+            if self.firsts[block] == at and self.is_end_of_last(block, held, point):
+                block, inner = block - 1, held
+            self.begin(key, inner, block)
             if held:
                 self.take(self.traces, key, held, block)
                 self.begin(key, held, block)
             else:
                 self.merged.add(key)
+
+    def is_end_of_last(self, block: int, copy: int, point: int) -> bool:
+        """Whether a row of no length where a block begins is of a statement at the end of the block before, or of the
+        first of a function, of which that has the beginning."""
+        before, endings = block - 1, self.endings
+        if not copy or before < 0 or self.rows[before].end != self.firsts[block]:
+            return False
+        others, line = self.others(before, block), self.last_within(before, copy)
+        this = endings.of_point(point)
+        if others is None or endings.code_at(self.firsts[block])[:2] == this[:2]:
+            return False
+        lines = [self.last_within(other, copy) for other in others]
+        if line and line in lines or self.is_head(this, endings.behind(point), lines):
+            return False
+        last = endings.last_with_code(point)
+        is_first = not line and last in endings.first_rows and self.entries.get(copy) == before
+        return is_first or line == this[:2] or bool(last and last[:2] == line)
+
+    def is_head(self, this: Statement, behind: Statement, lines: list[Key | None]) -> bool:
+        """Whether a statement is the head of a loop: what stands behind it is deeper, and other ways come from there or
+        below."""
+        is_deeper = behind.file == this.file and behind.line > this.line and behind.column > this.column
+        return is_deeper and all(not it or it[0] != this.file or it[1] >= behind.line for it in lines)

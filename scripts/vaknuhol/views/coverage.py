@@ -53,7 +53,7 @@ class Coverage:
         self.wanted = chosen_files(self.info, source, everything)
         rows = [] if record.action.is_ring else record.rows
         self.flow = self.flow_of(rows)
-        self.copies = Copies(self.info, rows, self.program, self.wanted)
+        self.copies = Copies(self.info, rows, self.program, self.wanted, self.flow.others)
         self.instances = Instances(self.copies, self.flow)
         self.files: dict[str, dict[int, Line]] = LineCounts(self.copies, self.flow, self.instances).lines()
         progress("")

@@ -149,6 +149,14 @@ class Flow:
             return None
         return max(count - sum(edge for edge in inner if edge is not None), 0)
 
+    def others(self, block: int, target: int) -> list[int] | None:
+        """The other blocks that lead to one to which control always goes on from a block, as far as that is known; None
+        where it doesn't."""
+        graph, edges = self.graph, self.graph.out[block]
+        if [graph.target[edge] for edge in edges] != [target] or self.edges[edges[0]] not in (None, self.counts[block]):
+            return None
+        return [graph.source[edge] for edge in graph.into[target] if edge != edges[0]]
+
     def wrong_blocks(self) -> set[int]:
         """The blocks of a negative edge, and those whose count isn't that of a closed side, with the blocks there."""
         graph, wrong = self.graph, set()

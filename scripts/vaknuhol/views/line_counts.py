@@ -164,5 +164,5 @@ class LineCounts:
 
 
 def line_counts(info: DebugInfo, rows: Sequence[Span], program: Program, flow: Flow, wanted: set[int]) -> LineCounts:
-    copies = Copies(info, rows, program, wanted)
+    copies = Copies(info, rows, program, wanted, flow.others)
     return LineCounts(copies, flow, Instances(copies, flow))

@@ -99,6 +99,23 @@ __attribute__((noinline)) static int fit(struct writer *it, int rounds)
     return fitting;
 }
 
+/* The second loop's first test follows from the test before it where that is made. */
+__attribute__((noinline)) static int decimal(char *into, int value)
+{
+    char digits[12];
+    int length = 0;
+    while (value) {
+        digits[length++] = (char)('0' + value % 10);
+        value /= 10;
+    }
+    if (length == 0)
+        digits[length++] = '0';
+    while (length > 0)
+        *into++ = digits[--length];
+    *into = 0;
+    return 0;
+}
+
 int main(int count, char **words)
 {
     (void)words;
@@ -110,6 +127,9 @@ int main(int count, char **words)
         write_key(&writer);
     printf("%d %d\n", writer.column, writer.rows);
     printf("%d\n", fit(&writer, 7));
+    char text[12];
+    decimal(text, 0);
+    decimal(text, 4711);
     printf("%d %d\n", count_of("", 'e'), count_of("three e", 'e'));
     return state.now < 0;
 }

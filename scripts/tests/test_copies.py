@@ -45,6 +45,8 @@ MOVED = {
     60: (None, 2, RETURNS),
     94: (0, None, "no code is left of `continue;`, and the call before it was never made"),
     100: (None, 1, RETURNS),
+    111: (2, 1, "where the loop before goes round, the test isn't made: its outcome follows"),
+    117: (None, 2, RETURNS),
 }
 # Two units that have one function, of which the linker keeps the first's.
 UNITS = {

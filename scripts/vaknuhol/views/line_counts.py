@@ -12,11 +12,11 @@ A line whose own code wasn't executed, while a call inlined on it was, is execut
 no statement was executed where it begins, while a branch of it was, as often as that branch. A line that has no code,
 and of which nothing tells that it was executed, has no count: it is told as `no code`.
 """
-from collections.abc import Sequence
+from collections.abc import Iterable, Sequence
 
 from vaknuhol.program.blocks import Span
 from vaknuhol.program.copies import Copies, Key
-from vaknuhol.program.debug_info import INLINED, DebugInfo
+from vaknuhol.program.debug_info import INLINED, RETURNS_VALUE, DebugInfo
 from vaknuhol.program.flow_graph import OUTSIDE
 from vaknuhol.program.program_file import Program
 from vaknuhol.views.branches import Branch, branches_of
@@ -63,8 +63,10 @@ class LineCounts:
     def line(self, key: Key) -> Line | None:
         copies = self.copies
         own, traces = copies.own.get(key, {}), copies.traces.get(key, {})
-        counts = [self.copy_count(key, copy) for copy in {**traces, **own}]
-        count = self.joined(counts)
+        places = {**traces, **own}
+        if self.is_thunk(places.get(0, []), places):
+            del places[0]
+        count = self.joined([self.copy_count(key, copy) for copy in places])
         is_called = False
         if not count and key in self.calls:
             called = [self.called_count(its) for its in self.calls[key].values()]
@@ -77,6 +79,13 @@ class LineCounts:
         if not (own or traces or is_called or key in copies.merged):
             return None
         return Line(count, bool(own or count or is_called), blocks, branches)
+
+    def is_thunk(self, blocks: list[int], places: Iterable[int]) -> bool:
+        """Whether blocks outside of functions, with a line of some copies, only lead to one of these: the compiler made
+        them."""
+        graph, entries = self.flow.graph, self.copies.entries
+        targets = {graph.target[edge] for block in blocks for edge in graph.out[block]}
+        return bool(targets) and targets <= {entries.get(copy) for copy in places}
 
     def tests_made(self, branches: list[Branch]) -> int:
         """How often the test of a line was made: the greatest count of its branches."""
@@ -114,7 +123,9 @@ class LineCounts:
         """Whether a line that begins in some blocks goes on in one behind them that is of this line alone, and that
         leaves the function, to which its other returns lead."""
         graph, copies, place = self.flow.graph, self.copies, (copy, key)
-        behind = {graph.target[edge] for block in begins for edge in graph.out[block]}.difference(begins)
+        has_value = bool(copy and copies.info.kind[copy - 1] & RETURNS_VALUE)
+        ends = [block for block in begins if has_value or not graph.calls[block]]
+        behind = {graph.target[edge] for block in ends for edge in graph.out[block]}.difference(begins)
         return any(not graph.out[count] and copies.first_line.get(count) == copies.last_line.get(count) == place
                    for count in behind if count != OUTSIDE)
 
@@ -127,12 +138,12 @@ class LineCounts:
         return sorted(begins.intersection(blocks)), blocks
 
     def grown(self, begins: set[int], blocks: list[int]) -> list[int]:
-        """The blocks in which statements begin, and those of the line that only these lead to."""
-        graph, inside = self.flow.graph, set(begins)
-        more = {block for block in blocks if block not in inside and graph.into[block] and not graph.open_in[block]}
-        while found := {block for block in more if all(graph.source[edge] in inside for edge in graph.into[block])}:
-            inside |= found
-            more -= found
+        """The blocks in which statements begin, and those of the line to which control comes from these alone."""
+        graph, edges = self.flow.graph, self.flow.edges
+        inside = begins | {block for block in blocks if graph.into[block] and not graph.open_in[block]}
+        while wrong := {block for block in inside - begins if any(edges[edge] != 0 and graph.source[edge] not in inside
+                                                                  for edge in graph.into[block])}:
+            inside -= wrong
         return sorted(inside)
 
     def gone_to(self, inside: list[int], call: set[int]) -> set[int]:

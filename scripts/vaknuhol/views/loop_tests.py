@@ -57,21 +57,23 @@ class Tests:
     def entries(self, inside: list[int]) -> int:
         """How often the loops are entered, but from blocks of the line, which count by themselves, and in another loop
         of the line."""
-        graph, total, counted = self.flow.graph, 0, set(inside)
+        graph, total = self.flow.graph, 0
         for head, body in self.bodies.items():
-            if any(head in other for latch, other in self.bodies.items() if latch != head):
-                continue
-            for edge in graph.into[head]:
-                if graph.source[edge] not in body and not self.comes_from(graph.source[edge], counted):
-                    total += self.flow.edges[edge] or 0
+            if not any(head in other for latch, other in self.bodies.items() if latch != head):
+                seen = body.union(inside)
+                total += sum(self.uncounted(way, seen) for way in graph.into[head])
         return total
 
-    def comes_from(self, block: int, blocks: set[int]) -> bool:
-        """Whether control comes to a block from one of these alone, by ways without a fork."""
-        graph, seen = self.flow.graph, set()
-        while block not in blocks:
-            if graph.open_in[block] or len(graph.into[block]) != 1 or block in seen:
-                return False
-            seen.add(block)
-            block = graph.source[graph.into[block][0]]
-        return True
+    def uncounted(self, way: int, seen: set[int]) -> int:
+        """How often control comes by a way, but from blocks that were seen by ways without a fork."""
+        graph, total, work = self.flow.graph, 0, [way]
+        while work:
+            block = graph.source[way := work.pop()]
+            if block in seen:
+                continue
+            if graph.open_in[block] or not graph.into[block] or len(graph.out[block]) > 1:
+                total += self.flow.edges[way] or 0
+            else:
+                seen.add(block)
+                work += graph.into[block]
+        return total

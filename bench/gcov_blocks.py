@@ -7,7 +7,7 @@ import subprocess
 from typing import Iterable, Iterator, NamedTuple
 
 Key = tuple[str, int]  # a file and a line
-ENTRY, EXIT = 0, 1
+ENTRY, EXIT, FIRST = 0, 1, 2
 ON_TREE, FAKE = 1, 2
 FUNCTION = re.compile(r"FUNCTION ident=(\d+).*?`(.*)' (?:artificial )?(.*):(\d+):\d+-(\d+):\d+$")
 IDENT, COUNTS, WAY = re.compile(r"FUNCTION ident=(\d+)"), re.compile(r" {10,}\d+: ([\d ]+)$"), re.compile(r"(\d+):([0-9a-f]{4})")

@@ -110,9 +110,21 @@ def conditional(it: Difference, _: Others) -> bool:
 
 
 def decided(it: Difference, _: Others) -> bool:
-    """The line is a test, and is made less often."""
+    """The line is a test, or blocks that only lead to one of it, and is made less often."""
     blocks = [(function, block) for function, blocks in it.places.items() for block in blocks]
-    return it.less > 0 and bool(blocks) and all(is_fork(function, block) for function, block in blocks)
+    return it.less > 0 and bool(blocks) and all(
+        is_fork(function, block) or any(is_fork(function, way.target) and way.target in it.places[function] for way in function.out(block))
+        for function, block in blocks)
+
+
+def joined(it: Difference, _: Others) -> bool:
+    """The line has rows alone, where ways meet of which only some come by it."""
+    return it.less < 0 and not it.has_code() and it.theirs in sums(it.ways_in_binary()) | {0}
+
+
+def other_blocks(it: Difference, _: Others) -> bool:
+    """gcov's count is that of some of the program's blocks of the line; statements of it begin only in others."""
+    return it.theirs in sums(it.program.told.flow.counts[block] or 0 for block in it.binary())
 
 
 def several(it: Difference, _: Others) -> bool:
@@ -125,7 +137,7 @@ RULES: tuple[tuple[str, Callable[[Difference, Others], bool]], ...] = (
     ("entered again", entered_again), ("head", head_of_loop), ("unrolled", unrolled),
     ("converted", converted), ("first test", first_test), ("first test twice", first_test_twice), ("returns", of_returns),
     ("merged", merged), ("folded copies", folded), ("threaded", threaded), ("moved before", moved_before), ("conditional", conditional),
-    ("decided test", decided), ("call", of_call), ("remnant", remnant), ("several statements", several),
+    ("decided test", decided), ("call", of_call), ("remnant", remnant), ("several statements", several), ("joined", joined), ("other blocks", other_blocks),
 )
 LEFT = "unexplained"
 

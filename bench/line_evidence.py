@@ -13,9 +13,9 @@ sys.path.insert(0, os.path.join(os.path.dirname(HERE), "scripts"))
 from vaknuhol.program.flow_graph import OUTSIDE, Graph  # noqa: E402
 from vaknuhol.program.loops import body_of  # noqa: E402
 from vaknuhol.recording.record_file import Record  # noqa: E402
-from vaknuhol.views.coverage import Told  # noqa: E402
+from vaknuhol.views.coverage import Coverage  # noqa: E402
 from vaknuhol.views.cycles import cycle_count  # noqa: E402, its place is known only now
-from gcov_blocks import ENTRY, FAKE, Function, Key, Way, functions_of, grown, has_own, is_fork  # noqa: E402
+from gcov_blocks import ENTRY, FAKE, FIRST, Function, Key, Way, functions_of, grown, has_own, is_fork  # noqa: E402
 from lines_and_gcov import gcov  # noqa: E402
 
 MOST_WAYS, MOST_ADDED = 24, 3  # of sums that are tried
@@ -34,7 +34,7 @@ class Program:
     def __init__(self, folder: str) -> None:
         self.name = os.path.basename(os.path.normpath(folder))
         program, counted = os.path.join(folder, "program"), os.path.join(folder, "counted")
-        self.told = Told(program, Record(os.path.join(folder, "last.record")), None, False, folder)
+        self.told = Coverage(program, Record(os.path.join(folder, "last.record")), None, False, folder)
         theirs, _, _ = gcov(counted)
         self.theirs = {key: count for key, count in theirs.items() if not key[0].startswith("/usr/")}
         self.ours = {(os.path.realpath(file), number): line.count for file, lines in self.told.files.items()
@@ -126,8 +126,8 @@ class Difference:
                 and any(function.reaches(it, way.source) for it in blocks)]
 
     def heads(self) -> list[Function]:
-        """The functions whose head the line is."""
-        return [it for it in self.places if (it.head.file, it.head.first) == self.key]
+        """The functions whose head the line is, or in whose first block it is."""
+        return [it for it, blocks in self.places.items() if (it.head.file, it.head.first) == self.key or FIRST in blocks]
 
     def arms(self) -> list[tuple[int, int]]:
         """Of gcov's blocks of the line those with one way in, from a fork, and one out: the counts of the fork and of the block."""
@@ -160,6 +160,14 @@ class Difference:
 
     def binary(self) -> set[int]:
         return {block for blocks in self.copies.values() for block in blocks}
+
+    def has_code(self) -> bool:
+        return bool(self.program.told.copies.own.get((self.program.numbers.get(self.key[0], -1), self.key[1])))
+
+    def ways_in_binary(self) -> list[int]:
+        """The counts of the ways to the program's blocks of the line."""
+        flow = self.program.told.flow
+        return [flow.edges[edge] or 0 for block in self.binary() for edge in flow.graph.into[block]]
 
     def is_in_binary_loop(self) -> bool:
         """Whether control can come from a block of the line to it by blocks with no line outside of gcov's smallest loop of it."""
@@ -228,9 +236,15 @@ class Difference:
                 if function.lines.get(way.source) and is_fork(function, way.source)}
 
 
-def lines_of_loop(function: Function, block: int) -> set[Key]:
-    """The lines of the smallest loop around one of gcov's blocks."""
+@functools.lru_cache(maxsize=None)
+def loops_of(function: Function) -> list[set[int]]:
+    """The blocks of each of gcov's loops, the smallest first."""
     graph = flow_of(function).graph
     bodies = [body_of(graph, way.source, way.target) for way in function.ways if function.reaches(way.target, way.source)]
-    found = min((body for body in bodies if body and block in body), key=len, default=set())
+    return sorted(filter(None, bodies), key=len)
+
+
+def lines_of_loop(function: Function, block: int) -> set[Key]:
+    """The lines of the smallest loop around one of gcov's blocks."""
+    found = next((body for body in loops_of(function) if block in body), set())
     return {line for it in found for line in function.lines.get(it, [])}

@@ -1,10 +1,11 @@
 #!/usr/bin/env python3
 """Lines, functions and branches beside gcov's, of the programs of bench/lines and of others' from Debian's source packages:
 
-    lines_of_programs.py [--sources FOLDER] [--into FOLDER] [--level -O0] [NAME...]
+    lines_of_programs.py [--sources FOLDER] [--into FOLDER] [--level=-O0] [NAME...]
 
 FOLDER has what `apt-get source` unpacked there. Each program is built, run and compared by lines_and_gcov.py, and the sums of
-all are in the last row. Without --sources only those of bench/lines are compared.
+all are in the last row. Without --sources only those of bench/lines are compared. Addresses aren't randomized (`setarch -R`), since
+Lua hashes some.
 """
 import argparse
 import glob
@@ -30,7 +31,7 @@ class Program(NamedTuple):
 
 # By names of packages and the beginning of the folder that the package unpacks to.
 OTHERS = {
-    "lua5.4": Program("src/*.c -src/luac.c", "-I{lines}/debian -Dluai_makeseed(L)=1u -lm", "{lines}/program.lua"),
+    "lua5.4": Program("src/*.c -src/luac.c", "-I{lines}/debian -Dluai_makeseed(L)=1u -DSTRCACHE_N=1 -DSTRCACHE_M=2 -lm", "{lines}/program.lua"),
     "mujs": Program("main.c one.c", "-lm", "{lines}/program.js"),
     "zlib": Program("*.c test/minigzip.c", "-I{top} -DHAVE_UNISTD_H", "", "{top}/FAQ"),
     "lz4": Program("lib/*.c programs/*.c", "-I{top}/lib", "-9 -c {top}/NEWS"),
@@ -57,7 +58,7 @@ def files_of(top: str, patterns: str) -> list[str]:
 def compare(name: str, sources: list[str], program: Program, top: str, level: str, into: str) -> str:
     """The row of a program, and its differences below."""
     where = {"top": top, "lines": f"{HERE}/lines"}
-    words = [sys.executable, f"{HERE}/lines_and_gcov.py", "--differences", "--folder", os.path.join(into, name + level)]
+    words = ["setarch", "-R", sys.executable, f"{HERE}/lines_and_gcov.py", "--differences", "--folder", os.path.join(into, name + level)]
     words += ["--compiler", "g++" if sources[0].endswith(".cc") else "gcc", f"--words={program.words.format(**where)}"]
     words += ["--input", program.given.format(**where)] if program.given else []
     words += [f"{name} {level}", *sources, "--", level, *(it.format(**where) for it in program.flags.split())]

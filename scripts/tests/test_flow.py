@@ -1,5 +1,5 @@
 """The counts of blocks without a site, which follow from those of others."""
-from vaknuhol.program.flow_graph import FALL, JUMP, NEXT, RETURN, Graph
+from vaknuhol.program.flow_graph import FALL, JUMP, NEXT, OUTSIDE, RETURN, Graph
 from vaknuhol.views.flow_solving import Flow
 
 
@@ -29,3 +29,23 @@ def test_counts_that_contradict_each_other_solve_nothing() -> None:
 def test_coverage_says_of_each_way_whether_it_was_taken() -> None:
     flow = Flow(diamond(), [1, None, 0, None, 1], is_coverage=True)
     assert flow.counts == [1, 1, 0, 1, 1] and flow.edges[:4] == [1, 0, 1, 0], (flow.counts, flow.edges)
+
+
+def entered_loop(after: int | None) -> Flow:
+    """A loop of two blocks, to whose head control also comes from elsewhere, and what follows it."""
+    graph = Graph(3)
+    for source, target, kind in ((0, 1, NEXT), (1, 0, JUMP), (1, 2, FALL), (2, OUTSIDE, JUMP)):
+        graph.add(source, target, kind)
+    graph.open_in[0] = True
+    return Flow(graph, [10, 10, after])
+
+
+def test_what_comes_to_an_open_block_from_elsewhere_is_what_its_own_ways_leave() -> None:
+    flow = entered_loop(3)
+    assert flow.edges == [10, 7, 3, 3] and flow.coming(0, {0, 1}) == 3, flow.edges
+    assert flow.coming(0, {0}) == 10 and flow.coming(1, {1}) == 10 and flow.coming(1, {0, 1}) == 0
+
+
+def test_where_a_way_from_within_is_unknown_so_is_what_comes_from_elsewhere() -> None:
+    flow = entered_loop(None)
+    assert flow.edges[1] is None and flow.coming(0, {0, 1}) is None and flow.coming(0, {0}) == 10, flow.edges

@@ -1,4 +1,6 @@
 """Which blocks belong to source lines, and the counts of branches and lines in outputs, by tables that are made up."""
+from xml.etree import ElementTree
+
 import pytest
 
 import vaknuhol.program.source_lines
@@ -7,7 +9,7 @@ from vaknuhol.program.flow_graph import FALL, JUMP, NEXT, RETURN, Graph
 from vaknuhol.program.loops import body_of
 from vaknuhol.program.source_lines import with_lines
 from vaknuhol.views.branches import added_up, branches_of
-from vaknuhol.views.cobertura import rate, ways
+from vaknuhol.views.cobertura import add_file, rate, ways
 from vaknuhol.views.cycles import cycle_count
 from vaknuhol.views.drcov import parts_of
 from vaknuhol.views.flow_solving import Flow
@@ -133,6 +135,17 @@ def test_a_tracefile_has_each_line_function_and_branch():
 def test_rates_are_of_what_was_executed():
     assert (rate([1, 0, 5], "1.0"), rate([], "1.0"), rate([0], "0.0")) == ("0.6667", "1.0", "0.0000")
     assert ways(LINES.values()) == [1, 7, 0, 0]
+
+
+def test_a_class_has_the_rates_of_its_own_lines_and_branches_and_a_method_those_of_its_head():
+    top = ElementTree.Element("classes")
+    taken = {**LINES, 8: Line(4, True, 1, [(4, 0), (2, 2)])}
+    add_file(top, "/src/a.c", taken, {"main": (3, 2), "never": (6, 0)}, str.upper)
+    (one,) = top
+    rates = [(it.get("name"), it.get("line-rate"), it.get("branch-rate")) for it in (one, *one.iter("method"))]
+    assert rates == [("a_c", "0.7500", "0.6250"), ("MAIN", "1.0000", "0.0"), ("NEVER", "0.0000", "0.0")]
+    shares = {it.get("number"): it.get("condition-coverage") for it in one.iterfind("lines/line")}
+    assert shares == {"3": None, "5": "100% (2/2)", "6": "0% (0/2)", "8": "75% (3/4)"}
 
 
 def test_a_block_that_is_longer_than_drcov_allows_is_told_in_parts():

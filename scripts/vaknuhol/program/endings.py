@@ -17,7 +17,7 @@ class Statement(NamedTuple):
 
     def is_next(self, other: "Statement") -> bool:
         """Whether another statement stands behind this one."""
-        return other == self._replace(line=self.line + 1)
+        return other == Statement(self.file, self.line + 1, self.column)
 
 
 class Endings:

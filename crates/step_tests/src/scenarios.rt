@@ -143,6 +143,7 @@ fn values(rt: HostRuntime) -> Result<(), Fail> {
     let text = rich(rt.alloc())?;
     assert!(rt; text.len() < 1_000_000);
     let scenario = read_scenario(rt.alloc(), text.as_bytes())?;
+    let regs = scenario.script.regs;
     let dues = scenario.dues.as_slice();
     assert_eq!(rt; dues.len(), 3);
     let rows = [
@@ -159,12 +160,12 @@ fn values(rt: HostRuntime) -> Result<(), Fail> {
         );
         assert_eq!(rt; found, *row, "{place}");
         let core = due.delivery.core;
-        assert_eq!(rt; core.regs, scenario.script.regs);
+        assert_eq!(rt; core.regs, regs);
         assert_eq!(rt; (core.fs, core.gs), (0x1000, 0x2000));
         assert_eq!(rt; pack(core.flags), 0xad7);
     }
-    assert_eq!(rt; scenario.script.regs[4], 0x7fff_ffff_ffff_fff8);
-    assert_eq!(rt; scenario.script.regs[15], u64::MAX);
+    assert_eq!(rt; regs[4], 0x7fff_ffff_ffff_fff8);
+    assert_eq!(rt; regs[15], u64::MAX);
     assert_eq!(rt; scenario.script.flags, 0xad7);
     assert_eq!(rt; scenario.script.regions.as_slice().len(), 1);
     assert_eq!(rt; scenario.script.world.entries.as_slice().len(), 1);
@@ -177,8 +178,9 @@ fn plain(rt: HostRuntime) -> Result<(), Fail> {
     let text = format!(in rt.alloc(); "e9world 1\n{VALUES}{REST}")?;
     assert!(rt; text.len() < 1_000_000);
     let scenario = read_scenario(rt.alloc(), text.as_bytes())?;
+    let regs = scenario.script.regs;
     assert_eq!(rt; scenario.dues.as_slice().len(), 0);
-    assert_eq!(rt; scenario.script.regs[4], 0x7fff_ffff_ffff_fff8);
+    assert_eq!(rt; regs[4], 0x7fff_ffff_ffff_fff8);
     assert_eq!(rt; scenario.script.world.entries.as_slice().len(), 1);
     Ok(())
 }

@@ -14,8 +14,8 @@ pub new-requires : goal.new-requires
 new-requires c =
     rw c.deref-4.ensures.value ((lists_are_grammar 4194304 c.deref.result.now c.in-Ok.starts.items).0 c.in-Ok.ensures.list).ascending
 
-pub run_due-requires-clause-rising : goal.run_due-requires-clause-rising
-run_due-requires-clause-rising c = rw (c.in-Ok-new.ensures.shows.steps, c.deref-5.ensures.value) c.in-Ok-read_scenario.scenario.rising
+pub run_due-end-requires-clause-rising : goal.run_due-end-requires-clause-rising
+run_due-end-requires-clause-rising c = rw (c.in-Ok-new.ensures.shows.steps, c.deref-5.ensures.value) c.in-Ok-read_scenario.scenario.rising
 
 pub returns-in-Ok-run_text : goal.returns-in-Ok-run_text
 returns-in-Ok-run_text c =

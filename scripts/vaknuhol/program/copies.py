@@ -37,6 +37,7 @@ class Copies:
         self.first_line: dict[int, tuple[int, Key]] = {}
         self.last_line: dict[int, tuple[int, Key]] = {}
         self.columns: dict[int, tuple[int, int]] = {}  # of the code with which each block begins and ends
+        self.furthest: dict[tuple[int, int, int], int] = {}  # the last line that begins, by copy, file and block
         self.entries, self.heads = self.entry_blocks(), self.heads_of_files()
         self.calls_at: dict[int, list[int]] = {}
         for instance in info.instances():
@@ -133,6 +134,8 @@ class Copies:
 
     def begin(self, key: Key, copy: int, block: int) -> None:
         self.begins.setdefault(key, {}).setdefault(copy, set()).add(block)
+        place = (copy, key[0], block)
+        self.furthest[place] = max(self.furthest.get(place, 0), key[1])
 
     def take_heads(self) -> None:
         """The head of each function has its first block."""

@@ -22,6 +22,7 @@ from vaknuhol.program.program_file import Program
 from vaknuhol.views.branches import Branch, branches_of
 from vaknuhol.views.cycles import cycle_count
 from vaknuhol.views.flow_solving import Flow
+from vaknuhol.views.furthest_lines import FurthestLines
 from vaknuhol.views.instances import Instances
 from vaknuhol.views.loop_tests import Tests
 
@@ -41,6 +42,7 @@ class Line:
 class LineCounts:
     def __init__(self, copies: Copies, flow: Flow, instances: Instances) -> None:
         self.copies, self.flow, self.instances = copies, flow, instances
+        self.furthest = FurthestLines(copies)
         info = copies.info
         self.branches = branches_of(copies, flow)
         self.calls: dict[Key, dict[int, list[int]]] = {}
@@ -117,7 +119,8 @@ class LineCounts:
         count = self.entered(begins, self.grown(set(begins), blocks), called, tests) if begins else None
         if count is None or not count and self.goes_on(key, copy, begins):
             return self.entered(blocks, blocks, called, tests)
-        return count
+        own = self.furthest.blocks(key, copy, begins, blocks) if count and not tests.latches else []
+        return own and own != begins and self.entered(own, self.grown(set(own), own), called, tests) or count
 
     def goes_on(self, key: Key, copy: int, begins: list[int]) -> bool:
         """Whether a line that begins in some blocks goes on in one behind them that is of this line alone, and that

@@ -1,28 +1,30 @@
 /* Runs a static program one instruction after the other, and writes the run as a world script (docs/reference/formats.md).
 
-   usage: vaknuhol-record WORLD STATES EVERY LIMIT [--full] [--evex] PROGRAM [WORDS..]
+   usage: vaknuhol-record WORLD STATES PATH EVERY LIMIT [--full] [--evex] [--keep=NUMBERS] PROGRAM [WORDS..]
 
-   WORLD gets the registers at the entry point, the memory beside the file's, and the answers of the first LIMIT steps: an
-   entry for each instruction that asks, and for each exact one that leaves flags undefined, with what it changed. STATES
-   gets the processor's registers after each EVERY steps and at the end, in the lines that `step` prints, and how the run
-   ended. With --full each asked instruction is compared in all memory, as system calls are; without it where its operands
-   lie. CPUID hides AVX-512, unless --evex is there. */
+   WORLD gets the registers at the entry point, the memory beside the file's, the answers of the first LIMIT steps, and the
+   deliveries: an entry for each instruction that asks, and for each exact one that leaves flags undefined, with what it
+   changed, and a delivery for each handler that is entered or left. STATES gets the processor's registers after each EVERY
+   steps and at the end, in the lines that `step` prints, and how the run ended. PATH gets for each step eight bytes: the
+   address, and in the highest bit whether it led elsewhere than to the next instruction; and eight for each register that
+   --keep numbers, as it was before. With --full each asked instruction is compared in all memory, as system calls are;
+   without it where its operands lie. CPUID hides AVX-512, unless --evex is there. */
 #include <stdlib.h>
 #include <string.h>
 #include <sys/syscall.h>
 
+#include "record.h"
 #include "script.h"
 #include "shadow.h"
-#include "tracee.h"
 
 enum { KNOWN = 1 << 16, MOST_SCRIPT = 255 << 20 };
 
 static struct decoded *known;
 static ZydisDecoder decoder;
-static FILE *entries, *states;
+static struct record record;
+static FILE *states;
 static int is_full, keeps_evex;
-static uint64_t steps, asked, flags_alone;
-static long written;
+static long written, delivered;
 
 /* The instruction at an address, read and decoded once where it stands in the file's segments. */
 static const struct decoded *decode(uint64_t rip) {
@@ -84,7 +86,7 @@ static void refuse_rseq(struct user_regs_struct *regs) {
 }
 
 /* Makes an asked instruction and writes its entry. */
-static int make_asked(const struct decoded *insn, struct user_regs_struct *before, struct user_regs_struct *after) {
+static enum outcome make_asked(const struct decoded *insn, struct user_regs_struct *before, struct user_regs_struct *after) {
     struct span spans[MOST_SPANS];
     int all = enters_kernel(insn) || is_full, count = all ? 0 : spans_of(insn, before, spans);
     if (is_syscall(insn)) {
@@ -94,49 +96,64 @@ static int make_asked(const struct decoded *insn, struct user_regs_struct *befor
         refuse_rseq(before);
     }
     all ? take_all(0) : take_spans(spans, count, 0);
-    if (!make_step(insn, after))
-        return 0;
+    enum outcome outcome = make_step(insn, after);
+    if (outcome != MADE)
+        return outcome;
     put_right(insn, before, after);
-    write_question(entries, insn);
-    write_changes(entries, before, after);
-    all ? take_all(entries) : take_spans(spans, count, entries);
-    return 1;
+    write_question(record.entries, insn);
+    write_changes(record.entries, before, after);
+    all ? take_all(record.entries) : take_spans(spans, count, record.entries);
+    record.asked++;
+    return MADE;
 }
 
-static int make_exact(const struct decoded *insn, enum asking kind, struct user_regs_struct *after) {
-    if (!make_step(insn, after))
-        return 0;
-    if (kind == FLAGS_ALONE) {
-        write_question(entries, insn);
-        fprintf(entries, "set flags %016llx\n", after->eflags);
+static enum outcome make_exact(const struct decoded *insn, enum asking kind, struct user_regs_struct *after) {
+    enum outcome outcome = make_step(insn, after);
+    if (outcome == MADE && kind == FLAGS_ALONE) {
+        write_question(record.entries, insn);
+        fprintf(record.entries, "set flags %016llx\n", after->eflags);
+        record.flags_alone++;
     }
-    return 1;
+    return outcome;
 }
 
-/* Makes one instruction and writes its entry, if it has one. */
-static int make(const struct decoded *insn, struct user_regs_struct *before, struct user_regs_struct *after) {
+/* Makes one instruction and writes its entry, if it has one; or what comes before it. */
+static enum outcome make(const struct decoded *insn, struct user_regs_struct *before, struct user_regs_struct *after) {
+    if (is_return(insn, before))
+        return make_return(&record, insn, before, after);
     enum asking kind = kind_now(insn, before);
-    if (!(kind == ASKED ? make_asked(insn, before, after) : make_exact(insn, kind, after)))
-        return 0;
-    if (ftell(entries) > MOST_SCRIPT)
+    enum outcome outcome = kind == ASKED ? make_asked(insn, before, after) : make_exact(insn, kind, after);
+    if (outcome == CAME)
+        return deliver(&record, insn, before, after);
+    if (outcome == MADE)
+        count_step(&record, insn, before, after);
+    return outcome;
+}
+
+/* Whether the script has room for what was written last; else it is as if that had not been made. */
+static int has_room(const struct record *before) {
+    if (ftell(record.entries) + ftell(record.deliveries) > MOST_SCRIPT) {
+        record = *before;
         return ends_by("script");
-    written = ftell(entries);
-    asked += kind == ASKED;
-    flags_alone += kind == FLAGS_ALONE;
+    }
+    written = ftell(record.entries), delivered = ftell(record.deliveries);
     return 1;
 }
 
 static void run(struct user_regs_struct *regs, uint64_t every, uint64_t limit) {
     struct user_regs_struct after;
-    for (; steps < limit; steps++) {
-        if (steps % every == 0)
-            write_state(states, steps, regs);
+    record.arrived = *regs;
+    write_state(states, 0, regs);
+    while (record.steps < limit) {
+        const struct record before = record;
         const struct decoded *insn = decode(regs->rip);
-        if (!(insn ? make(insn, regs, &after) : ends_by("unreadable")))
+        if (insn ? make(insn, regs, &after) == ENDED || !has_room(&before) : !ends_by("unreadable"))
             break;
+        if (record.steps > before.steps && record.steps % every == 0)
+            write_state(states, record.steps, &record.arrived);
         *regs = after;
     }
-    write_state(states, steps, regs);
+    write_state(states, record.steps, &record.arrived);
 }
 
 /* The break goes to the next page where it lies in a page of the file. */
@@ -146,14 +163,22 @@ static void move_break(const struct user_regs_struct *regs) {
         call(regs, SYS_brk, (now + PAGE - 1) / PAGE * PAGE);
 }
 
+/* The registers that the path has. */
+static void read_kept(const char *numbers) {
+    for (char *end; *numbers && record.kept_count < MOST_KEPT; numbers = end + (*end == ','))
+        record.kept[record.kept_count++] = strtol(numbers, &end, 10) & 15;
+}
+
 static int read_words(int count, char **words) {
-    int at = 5;
+    int at = 6;
     for (; at < count && !strncmp(words[at], "--", 2); at++) {
         is_full |= !strcmp(words[at], "--full");
         keeps_evex |= !strcmp(words[at], "--evex");
+        if (!strncmp(words[at], "--keep=", 7))
+            read_kept(words[at] + 7);
     }
     if (at >= count) {
-        fprintf(stderr, "usage: vaknuhol-record WORLD STATES EVERY LIMIT [--full] [--evex] PROGRAM [WORDS..]\n");
+        fprintf(stderr, "usage: vaknuhol-record WORLD STATES PATH EVERY LIMIT [--full] [--evex] [--keep=NUMBERS] PROGRAM [WORDS..]\n");
         exit(2);
     }
     return at;
@@ -164,9 +189,11 @@ int main(int count, char **words) {
     int program = read_words(count, words);
     FILE *world = fopen(words[1], "w");
     states = fopen(words[2], "w");
-    entries = tmpfile();
+    record.path = fopen(words[3], "w");
+    record.entries = tmpfile();
+    record.deliveries = tmpfile();
     known = calloc(KNOWN, sizeof *known);
-    if (!world || !states || !entries || !known)
+    if (!world || !states || !record.path || !record.entries || !record.deliveries || !known)
         die("the outputs can't be written");
     ZydisDecoderInit(&decoder, ZYDIS_MACHINE_MODE_LONG_64, ZYDIS_STACK_WIDTH_64);
     read_segments(words[program]);
@@ -178,13 +205,13 @@ int main(int count, char **words) {
     set_regs(&first);
     struct stack stack = read_stack(first.rsp);
     regs = first;
-    run(&regs, strtoull(words[3], 0, 10), strtoull(words[4], 0, 10));
+    run(&regs, strtoull(words[4], 0, 10), strtoull(words[5], 0, 10));
     if (is_running())
         see_maps();
     end_tracee();
-    write_world(world, &first, &stack, entries, written);
-    fprintf(states, "asked %lu\nflags_alone %lu\nend %s\n", asked, flags_alone, ending());
-    if (fclose(states))
+    write_world(world, &first, &stack, (struct part){ record.deliveries, delivered }, (struct part){ record.entries, written });
+    fprintf(states, "asked %lu\nflags_alone %lu\nend %s\n", record.asked, record.flags_alone, ending());
+    if (fclose(states) || fclose(record.path))
         die("the states can't be written");
     return 0;
 }

@@ -33,11 +33,21 @@ void write_changes(FILE *entries, struct user_regs_struct *before, struct user_r
         fprintf(entries, "set gs %016llx\n", after->gs_base);
 }
 
+static void write_values(FILE *file, struct user_regs_struct *regs) {
+    for (int at = 0; at < 16; at++)
+        fprintf(file, "%s %016llx\n", NAMES[at], *slot(regs, at));
+    fprintf(file, "flags %016llx\nfs %016llx\ngs %016llx\n", regs->eflags, regs->fs_base, regs->gs_base);
+}
+
 void write_state(FILE *states, uint64_t steps, struct user_regs_struct *regs) {
     fprintf(states, "steps %lu\nrip %016llx\n", steps, regs->rip);
-    for (int at = 0; at < 16; at++)
-        fprintf(states, "%s %016llx\n", NAMES[at], *slot(regs, at));
-    fprintf(states, "flags %016llx\nfs %016llx\ngs %016llx\n", regs->eflags, regs->fs_base, regs->gs_base);
+    write_values(states, regs);
+}
+
+void write_due(FILE *deliveries, uint64_t steps, struct user_regs_struct *regs) {
+    fprintf(deliveries, "due %016lx\n", steps);
+    write_values(deliveries, regs);
+    fprintf(deliveries, "rip %016llx\n", regs->rip);
 }
 
 struct stack read_stack(uint64_t rsp) {
@@ -95,21 +105,26 @@ static void write_regions(FILE *world, uint64_t rsp, const struct stack *stack) 
     }
 }
 
-void write_world(FILE *world, struct user_regs_struct *regs, const struct stack *stack, FILE *entries, long written) {
+static void copy(FILE *world, struct part part) {
     static char buffer[1 << 16];
-    fputs("e9world 1\n", world);
-    for (int at = 0; at < 16; at++)
-        fprintf(world, "%s %016llx\n", NAMES[at], *slot(regs, at));
-    fprintf(world, "flags %016llx\nfs %016llx\ngs %016llx\n", regs->eflags, regs->fs_base, regs->gs_base);
-    write_regions(world, regs->rsp, stack);
-    rewind(entries);
-    for (long size; written > 0; written -= size) {
-        size = fread(buffer, 1, written < (long)sizeof buffer ? written : (long)sizeof buffer, entries);
+    rewind(part.file);
+    for (long size; part.count > 0; part.count -= size) {
+        size = fread(buffer, 1, part.count < (long)sizeof buffer ? part.count : (long)sizeof buffer, part.file);
         if (size <= 0)
             die("the entries can't be read");
         fwrite(buffer, 1, size, world);
     }
+}
+
+void write_world(FILE *world, struct user_regs_struct *regs, const struct stack *stack, struct part deliveries, struct part entries) {
+    if (deliveries.count > 0)
+        fputs("e9world 2\n", world);
+    copy(world, deliveries);
+    fputs("e9world 1\n", world);
+    write_values(world, regs);
+    write_regions(world, regs->rsp, stack);
+    copy(world, entries);
     fputs("end\n", world);
-    if (ferror(entries) || fclose(world))
+    if (ferror(entries.file) || ferror(deliveries.file) || fclose(world))
         die("the script can't be written");
 }

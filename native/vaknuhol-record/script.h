@@ -21,6 +21,15 @@ void write_changes(FILE *entries, struct user_regs_struct *before, struct user_r
 /* The lines that `step` prints of registers. */
 void write_state(FILE *states, uint64_t steps, struct user_regs_struct *regs);
 
-/* The whole script: registers and memory at the entry point, and so many bytes of the entries. */
-void write_world(FILE *world, struct user_regs_struct *regs, const struct stack *stack, FILE *entries, long written);
+/* The registers of a delivery, which is due after so many steps. */
+void write_due(FILE *deliveries, uint64_t steps, struct user_regs_struct *regs);
+
+/* The first bytes of a file. */
+struct part {
+    FILE *file;
+    long count;
+};
+
+/* The whole script: the deliveries, registers and memory at the entry point, and the entries. */
+void write_world(FILE *world, struct user_regs_struct *regs, const struct stack *stack, struct part deliveries, struct part entries);
 #endif

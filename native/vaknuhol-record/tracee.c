@@ -25,6 +25,10 @@ void end_tracee(void) {
         kill(child, SIGKILL);
 }
 
+pid_t tracee(void) {
+    return child;
+}
+
 int is_running(void) {
     return child > 0 && strcmp(why_ended, "exec");
 }
@@ -78,54 +82,42 @@ const char *ending(void) {
     return why_ended;
 }
 
-/* Whether a signal changes nothing: the program has no handler for insn, and it is ignored where there is none. */
-static int is_idle(int number) {
+uint64_t signals_of(const char *name) {
     char line[LINE];
-    uint64_t caught = ~0ul;
+    uint64_t set = 0;
+    size_t length = strlen(name);
     FILE *file = fopen(proc_path("status"), "r");
-    while (file && fgets(line, sizeof line, file))
-        sscanf(line, "SigCgt: %lx", &caught);
-    if (file)
-        fclose(file);
-    return (number == SIGCHLD || number == SIGURG || number == SIGWINCH || number == SIGCONT) && !(caught >> (number - 1) & 1);
+    if (!file)
+        die("the process's status can't be read");
+    while (fgets(line, sizeof line, file))
+        if (!strncmp(line, name, length) && line[length] == ':')
+            set = strtoull(line + length + 1, 0, 16);
+    fclose(file);
+    return set;
 }
 
-/* Why the process did not stop behind its instruction, if it did not. */
-static const char *ends_at_stop(int status) {
+void get_info(siginfo_t *info) {
+    if (ptrace(PTRACE_GETSIGINFO, child, 0, info))
+        die("the signal can't be read");
+}
+
+void set_info(const siginfo_t *info) {
+    if (ptrace(PTRACE_SETSIGINFO, child, 0, info))
+        die("the signal can't be sent");
+}
+
+int go_on(int number) {
     static char why[40];
-    int number = WIFSIGNALED(status) ? WTERMSIG(status) : WSTOPSIG(status);
+    int status;
+    if (ptrace(PTRACE_SINGLESTEP, child, 0, number) || waitpid(child, &status, 0) != child)
+        die("the program can't be stepped");
     if (WIFSTOPPED(status) && status >> 16 == PTRACE_EVENT_EXEC)
-        return "exec";
-    if (WIFSTOPPED(status) && number == SIGTRAP)
-        return 0;
-    if (!WIFSTOPPED(status))
-        child = 0;
-    snprintf(why, sizeof why, WIFEXITED(status) ? "exit %d" : "signal %d", WIFEXITED(status) ? WEXITSTATUS(status) : number);
-    return why;
-}
-
-/* A repeated instruction stops after each turn, and a system call that a signal interrupts is made again. */
-static int is_unfinished(const struct decoded *insn, const struct user_regs_struct *regs) {
-    int64_t answer = regs->rax;
-    int interrupted = -516 <= answer && answer <= -512;
-    return is_syscall(insn) ? interrupted || regs->rip == insn->rip : repeats_string(insn) && regs->rip == insn->rip;
-}
-
-int make_step(const struct decoded *insn, struct user_regs_struct *regs) {
-    int status, sent = 0;
-    for (;;) {
-        if (ptrace(PTRACE_SINGLESTEP, child, 0, sent) || waitpid(child, &status, 0) != child)
-            die("the program can't be stepped");
-        sent = WIFSTOPPED(status) && is_idle(WSTOPSIG(status)) ? WSTOPSIG(status) : 0;
-        if (sent)
-            continue;
-        const char *why = ends_at_stop(status);
-        if (why)
-            return ends_by(why);
-        get_regs(regs);
-        if (!is_unfinished(insn, regs))
-            return 1;
-    }
+        return ends_by("exec");
+    if (WIFSTOPPED(status))
+        return WSTOPSIG(status);
+    child = 0;
+    snprintf(why, sizeof why, WIFEXITED(status) ? "exit %d" : "signal %d", WIFEXITED(status) ? WEXITSTATUS(status) : WTERMSIG(status));
+    return ends_by(why);
 }
 
 void start(char **command) {

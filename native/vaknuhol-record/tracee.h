@@ -3,6 +3,7 @@
 #define TRACEE_H
 #include "asking.h"
 
+#include <signal.h>
 #include <stddef.h>
 
 enum { PAGE = 4096, TRAP_FLAG = 0x100 };
@@ -15,6 +16,9 @@ void start(char **command);
 
 /* Ends the process, if it runs. */
 void end_tracee(void);
+
+/* Its number. */
+pid_t tracee(void);
 
 /* Whether it runs the program that was started. */
 int is_running(void);
@@ -39,8 +43,16 @@ int ends_by(const char *why);
 /* Why the run ended. */
 const char *ending(void);
 
-/* Makes one instruction; whether the run goes on after it. */
-int make_step(const struct decoded *insn, struct user_regs_struct *regs);
+/* Goes on for one instruction, with a signal if it isn't 0; the signal of the next stop, SIGTRAP where one is made, or 0 where the run
+   ends. */
+int go_on(int number);
+
+/* The signals that a line of the process's status names: SigBlk, SigIgn, SigCgt. */
+uint64_t signals_of(const char *name);
+
+/* What is told of the signal of this stop. */
+void get_info(siginfo_t *info);
+void set_info(const siginfo_t *info);
 
 /* Makes a system call in the process, at its first instruction, and leaves all else as it was. */
 uint64_t call(const struct user_regs_struct *regs, uint64_t number, uint64_t argument);

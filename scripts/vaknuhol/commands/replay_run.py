@@ -3,9 +3,9 @@ of the patched file.
 
 It says in four lines what came out: how long the run is; whether it met the premises of the theorem, and else at which
 step it left them; whether processor and model agree; whether original and patched file look alike at the outside state
-of the same number. The program runs once, as it is, with its own input and output. Sites are all direct jumps, if
-nothing else is chosen; they are covered, or recorded as --count, --ring and --when say. Ends with 0 where all four are
-well, else with 1.
+of the same number. The program runs once, as it is, with its own input and output; handlers that its signals enter are
+entered and left again. Sites are all direct jumps, if nothing else is chosen; they are covered, or recorded as --count,
+--ring and --when say. Ends with 0 where all four are well, else with 1.
 """
 import argparse
 import os
@@ -18,9 +18,11 @@ from vaknuhol.messages import progress
 from vaknuhol.outputs import write_whole
 from vaknuhol.recording.action_options import action_of_words, add_action
 from vaknuhol.recording.block_choice import add_choices, read_program
+from vaknuhol.recording.patch_report import Report
 from vaknuhol.recording.patching import RESERVES, find_tool, list_text
-from vaknuhol.recording.replay import MOST_STEPS, Steps, agreement, likeness, premises
-from vaknuhol.recording.run_recorder import record, reserves
+from vaknuhol.recording.replay import MOST_STEPS, Steps, agreement, likeness, likeness_at, premises
+from vaknuhol.recording.run_path import PatchedSteps
+from vaknuhol.recording.run_recorder import RecordedRun, record, reserves, write_with_dues
 
 
 def parse() -> argparse.Namespace:
@@ -35,7 +37,8 @@ def parse() -> argparse.Namespace:
     parser.add_argument("--evex", action="store_true", help="let the program see AVX-512, where the processor has it")
     parser.add_argument("--full", action="store_true", help="compare all memory at each asked instruction (slow)")
     parser.add_argument("--keep", metavar="FOLDER",
-                        help="leave the files in this folder: world, states, starts, sites, patched, report")
+                        help="leave the files in this folder: world, states, path, starts, sites, patched, report, "
+                             "patched-world")
     words = parser.parse_args()
     words.action = action_of_words(parser, words)
     words.jumps = words.jumps or not (words.functions or words.blocks or words.symbols)
@@ -70,22 +73,37 @@ def patch(e9tool: str, words: argparse.Namespace, folder: str) -> tuple[int, int
     return int(counts[3]), int(counts[1])
 
 
+def compare(words: argparse.Namespace, folder: str, original: Steps, starts: frozenset[int], quiet: int,
+            recorded: RecordedRun, sites: tuple[int, int]) -> tuple[bool, str]:
+    """Whether original and patched file look alike at the end, and as the delivery in the middle comes, and the line
+    that says so."""
+    counts = PatchedSteps(words.program, words.action, Report(f"{folder}/report") if sites[0] else None)
+    made, world = counts.up_to(recorded.path, {quiet, *recorded.dues}), f"{folder}/world"
+    if recorded.dues:
+        world = f"{folder}/patched-world"
+        write_with_dues(f"{folder}/world", world, made)
+    patched = Steps(find_tool(), f"{folder}/patched", f"{folder}/starts", world, "patched file")
+    alike, looks = likeness(original, patched, starts, quiet, made[quiet], sites)
+    dues = [steps for steps in recorded.dues if steps < quiet]
+    if not alike or not dues:
+        return alike, looks
+    middle = len(dues) // 2
+    return likeness_at(original, patched, middle + 1, (dues[middle], made[dues[middle]]), looks)
+
+
 def replay(words: argparse.Namespace, folder: str) -> int:
     e9tool, starts = find_tool(), list_starts(words, folder)
     recorded = record(words.program, words, folder)
     ended, whole = recorded.how_it_ended()
     sites = patch(e9tool, words, folder)
-    listed, world = f"{folder}/starts", f"{folder}/world"
-    original = Steps(e9tool, words.program, listed, world, "original")
-    patched = Steps(e9tool, f"{folder}/patched", listed, world, "patched file")
+    original = Steps(e9tool, words.program, f"{folder}/starts", f"{folder}/world", "original")
     quiet, held = premises(words.program, starts, original, recorded)
     agree, agreed = agreement(original, recorded)
     alike, looks = False, "original and patched file: not compared"
     if quiet >= 0:
-        alike, looks = likeness(original, patched, starts, quiet, sites)
+        alike, looks = compare(words, folder, original, starts, quiet, recorded, sites)
     progress("")
-    asked, flags = recorded.ends["asked"], recorded.ends["flags_alone"]
-    print(f"run: {recorded.steps} steps, {asked} asked, {flags} leave flags undefined; {ended}")
+    print(f"run: {recorded.told()}; {ended}")
     print(held, agreed, looks, sep="\n")
     return 0 if whole and quiet == recorded.steps and agree and alike else 1
 

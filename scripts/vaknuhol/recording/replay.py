@@ -22,7 +22,8 @@ class Stop(NamedTuple):
 
     def differing(self, other: "Stop") -> list[str]:
         """The names of what another run has otherwise."""
-        found = [name for name in ("outside", "stop", "world") if self.lines[name] != other.lines[name]]
+        names = ("outside", "stop", "world", "deliveries")
+        found = [name for name in names if self.lines.get(name) != other.lines.get(name)]
         return found + ["state"] * (self.state != other.state)
 
 
@@ -59,18 +60,18 @@ def bytes_at(path: str, addr: int) -> str:
     return Program(path).read(addr, 15).hex(" ") or "no byte of the file"
 
 
-def why_loud(path: str, starts: Container[int], steps: Steps, count: int) -> str:
+def why_loud(path: str, starts: Container[int], steps: Steps, record: RecordedRun, count: int) -> str:
     """What the step of this number does that a quiet run does not."""
-    here = steps.after(count).lines["rip"]
+    here, at = steps.after(count).lines["rip"], record.path.address(count) if count else 0
     if int(here, 16) not in starts:
-        from_there = f", at {steps.after(count - 1).lines['rip']}," if count else ""
-        return f"step {count}{from_there} leads to {here}, which is no listed start"
-    at = steps.after(count - 1).lines["rip"]
-    return f"step {count}, at {at}, reads or writes a listed instruction as data ({bytes_at(path, int(at, 16))})"
+        return f"step {count}{f', at {at:016x},' if count else ''} leads to {here}, which is no listed start"
+    return f"step {count}, at {at:016x}, reads or writes a listed instruction as data ({bytes_at(path, at)})"
 
 
 def why_stopped(path: str, stop: Stop) -> str:
     name, addr = stop.lines["stop"].split()
+    if name == "NoFit":
+        return f"delivery {int(stop.lines['deliveries']) + 1}, behind step {stop.steps}, doesn't fit at {addr}"
     text = f"step {stop.steps + 1} is not made: {name} {addr}"
     if name == "UnknownInsn":
         code = bytes_at(path, int(addr, 16))
@@ -83,7 +84,7 @@ def premises(path: str, starts: Container[int], steps: Steps, record: RecordedRu
     stop = steps.after(record.steps)
     if stop.lines["quiet"] == "no":
         loud = first_loud(steps, stop.steps)
-        return loud - 1, f"premises: they hold for {loud - 1} steps; {why_loud(path, starts, steps, loud)}"
+        return loud - 1, f"premises: they hold for {loud - 1} steps; {why_loud(path, starts, steps, record, loud)}"
     if stop.steps < record.steps:
         return stop.steps, f"premises: they hold for {stop.steps} steps; {why_stopped(path, stop)}"
     return record.steps, "premises: they hold at each step (quiet yes)"
@@ -108,14 +109,14 @@ def agreement(steps: Steps, record: RecordedRun) -> tuple[bool, str]:
     return False, f"processor and model: THEY DIFFER between steps {counts[low]} and {counts[high]}: {differs}"
 
 
-def steps_to(patched: Steps, starts: Container[int], outside: int) -> int | None:
+def steps_to(patched: Steps, starts: Container[int], outside: int, guess: int = 0) -> int | None:
     """A number of steps after which the patched file stands at its outside state of this number; None where there is
     none.
 
-    The first try is far enough for any: it mostly ends soon behind the state, since there the world has no more
-    answers.
+    The first try is the guess; without one it is far enough for any: it mostly ends soon behind the state, since there
+    the world has no more answers.
     """
-    low, high, guess, rate = outside - 2, MOST_STEPS + 1, MOST_BETWEEN * outside, 1.5
+    low, high, guess, rate = outside - 2, MOST_STEPS + 1, guess or MOST_BETWEEN * outside, 1.5
     while high - low > 1:
         stop = patched.after(max(low + 1, min(guess, high - 1)))
         count, missing = stop.steps, outside - stop.outside
@@ -132,12 +133,13 @@ def steps_to(patched: Steps, starts: Container[int], outside: int) -> int | None
     return None
 
 
-def likeness(original: Steps, patched: Steps, starts: Container[int], quiet: int,
+def likeness(original: Steps, patched: Steps, starts: Container[int], quiet: int, guess: int,
              sites: tuple[int, int]) -> tuple[bool, str]:
-    """Whether original and patched file look alike where the premises hold, and the line that says so."""
+    """Whether original and patched file look alike where the premises hold, and the line that says so; the guess is of
+    the patched file's steps."""
     text, far = f"original and patched file ({sites[0]} of {sites[1]} sites patched): ", ""
     outside = original.after(quiet).outside
-    made = steps_to(patched, starts, outside)
+    made = steps_to(patched, starts, outside, guess)
     end = patched.after(MOST_STEPS) if made is None else None
     if end and end.steps < MOST_STEPS:
         return False, f"{text}THEY DIFFER: the patched file stops after {end.steps} steps, {end.lines['stop']}"
@@ -150,3 +152,14 @@ def likeness(original: Steps, patched: Steps, starts: Container[int], quiet: int
     if differs:
         return False, f"{text}THEY DIFFER after {quiet} and {made} steps, in {', '.join(differs)}{far}"
     return True, f"{text}they look alike after {quiet} steps of the original and {made} of the patched file{far}"
+
+
+def likeness_at(original: Steps, patched: Steps, number: int, before: tuple[int, int],
+                looks: str) -> tuple[bool, str]:
+    """The same of the states to which a delivery comes, and the line that says both; so many steps both make before
+    it."""
+    differs = original.after(before[0]).differing(patched.after(before[1]))
+    if differs:
+        text = f"THEY DIFFER as delivery {number} comes, after {before[0]} and {before[1]} steps, in "
+        return False, looks.partition("they look")[0] + text + ", ".join(differs)
+    return True, f"{looks}, and as delivery {number} comes"

@@ -6,60 +6,20 @@ import sys
 from typing import Any
 
 import pytest
-from filelock import FileLock
 
 from tests.calls import SCRIPTS, SOURCES, match, run
 from tests.doubles import double
-from tests.needs import need
+from tests.replaying import WELL, build, replay, share_recorder
 from vaknuhol.recording.replay import steps_to
-
-FLAGS = (
-    "-O1 -static -no-pie -nostdlib -fno-stack-protector -fcf-protection=none -mno-avx512f "
-    "-fno-tree-loop-distribute-patterns"
-)
-NUMBER = "([0-9]+)"
-WELL = [
-    rf"run: {NUMBER} steps, {NUMBER} asked, {NUMBER} leave flags undefined; there the program ends \(exit 7\)",
-    r"premises: they hold at each step \(quiet yes\)",
-    rf"processor and model: they agree after {NUMBER} steps, and at 3 states before",
-    rf"original and patched file \({NUMBER} of {NUMBER} sites patched\): they look alike after {NUMBER} steps "
-    rf"of the original and {NUMBER} of the patched file",
-]
-
 
 @pytest.fixture(autouse=True)
 def recorder(shared: str, monkeypatch: pytest.MonkeyPatch) -> None:
-    """The recorder of runs is built once, in a cache that all workers share."""
-    need("sed")
-    monkeypatch.setenv("XDG_CACHE_HOME", f"{shared}/cache")
-    with FileLock(f"{shared}/recorder.lock"):
-        if not os.path.isfile(f"{shared}/recorder"):
-            program, _ = build("NONE")
-            _, _, told = replay("--steps", "1", program)
-            assert "libzydis-dev" not in told and "ptrace is not allowed" not in told, told
-            os.link(program, f"{shared}/recorder")
+    share_recorder(shared, monkeypatch)
 
 
 @pytest.fixture
 def program() -> str:
     return build("NONE")[0]
-
-
-def build(name):
-    """The program that does what the macro says, and the address of its label `here`, if it has one."""
-    run("gcc", *FLAGS.split(), f"-D{name}", "-o", name, f"{SOURCES}/replay.c")
-    told = run("nm", name)
-    return f"./{name}", next((line.split()[0] for line in told.splitlines() if line.endswith(" here")), None)
-
-
-def replay(*words, tool=None):
-    """The status, the lines that are printed after the program's own, and what stands on standard error."""
-    given = {**os.environ, "E9TOOL": tool or os.environ["E9TOOL"]}
-    done = subprocess.run(
-        [sys.executable, f"{SCRIPTS}/replay_run.py", *words], capture_output=True, text=True, env=given
-    )
-    lines = done.stdout.splitlines()
-    return done.returncode, [line for line in lines if ": " in line], done.stderr
 
 
 def check_well(program, *words):
@@ -118,7 +78,7 @@ def test_the_step_that_leaves_the_premises_is_told(name, form):
 
 
 ENDS = {
-    "DIES": (1, "there it gets signal 11, of which the theorem does not speak"),
+    "DIES": (1, "there it gets signal 11, for which it has no handler"),
     "STARTS": (1, "there it starts a thread, of which the theorem does not speak"),
     "MAPS": (2, "the run needs 3[0-9] regions of memory; a script has at most 16"),
 }
@@ -217,5 +177,6 @@ def test_the_state_of_each_number_is_found_and_no_other():
         for behind in (0, 7, 23):
             patched: Any = Counted(set(outside), outside[-1] + behind)
             for number, at in enumerate(outside):
-                assert steps_to(patched, {1}, number + 1) == at, (apart, behind, number)
+                for guess in (0, at, at + 1, at // 2):
+                    assert steps_to(patched, {1}, number + 1, guess) == at, (apart, behind, number, guess)
             assert steps_to(patched, {1}, len(outside) + 1) is None

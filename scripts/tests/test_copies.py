@@ -113,7 +113,7 @@ def assert_known(theirs, ours, known):
 
 @pytest.fixture(scope="module")
 def sources(module_place: str) -> str:
-    for name in ("copies.c", "moved.c"):
+    for name in ("copies.c", "moved.c", "spread.c"):
         shutil.copyfile(f"{SOURCES}/{name}", f"{module_place}/{name}")
     return module_place
 
@@ -171,6 +171,17 @@ def test_moved_code_differs_from_gcov_as_it_is_known(sources):
         theirs, _, _ = of_gcov("-O1", "moved")
         ours, _, _, _ = of_ours("-O1", "moved")
     assert_known(theirs, ours, MOVED)
+
+
+def test_statements_over_several_lines_count_as_by_gcov_without_optimization(sources):
+    """Each line that both count, and there are no other differences."""
+    with inside(sources):
+        theirs, functions, _ = of_gcov("-O0", "spread")
+        ours, our_functions, _, _ = of_ours("-O0", "spread")
+    both = theirs.keys() & ours.keys()
+    wrong = {number: (theirs[number], ours[number]) for number in both if theirs[number] != ours[number]}
+    assert not wrong and len(both) > 45, f"gcov's and ours: {wrong}"
+    assert {name: it["execution_count"] for name, it in our_functions.items()} == functions, our_functions
 
 
 def test_a_function_that_two_units_have_counts_once():

@@ -14,10 +14,7 @@ from tests.calls import TOP, run
 from tests.command import call
 
 LINES = f"{TOP}/bench/lines"
-LEFT, BRACE, JUMPED, HEAD, LAST = (
-    "gcov counts a statement again that is left for a call inlined on it, or for an object's destructor, and entered "
-    "from there",
-    "the jump that ends a scope has the line of what the scope belongs to",
+JUMPED, HEAD, LAST = (
     "gcov's counts are wrong in functions that are left by longjmp, and behind setjmp",
     "gcov counts the first block of a function, which a loop or a label begins",
     "gcov counts a block on its last line alone",
@@ -34,11 +31,11 @@ PROGRAMS: dict[str, dict[int | str, tuple[int, int, str]]] = {
     "grid.c": {},
     "states.c": {},
     "strings.c": {},
-    "reader.c": {47: (16, 18, BRACE)},
+    "reader.c": {},
     "packing.c": {34: (10, 1, HEAD)},
     "machine.c": {"by_labels": (50, 1, HEAD)},
-    "leaving.c": {12: (0, 3, JUMPED), 45: (1, 4, JUMPED)},
-    "templates.cc": {12: (0, 1, LAST), 68: (3, 5, LEFT)},
+    "leaving.c": {12: (0, 3, JUMPED)},
+    "templates.cc": {12: (0, 1, LAST)},
 }
 # Of those with -O1, by lines. Among what is equal: a round by an inlined call, code at a call's entry, a call's ranges
 # with a hole.

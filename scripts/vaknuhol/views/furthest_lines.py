@@ -23,11 +23,10 @@ class FurthestLines:
     def blocks(self, key: Key, copy: int, begins: list[int], blocks: list[int]) -> list[int]:
         """Of the blocks of a line in a copy those of which it is the line furthest down: in which statements of it
         begin, or that are of it alone. None where all that is left of it there are jumps, as those into a loop."""
-        function = self.function_of(copy)
-        if not self.is_framed(function):
+        if not self.is_framed(self.function_of(copy)):
             return []
         found = [block for block in blocks if self.copies.furthest.get((copy, key[0], block), 0) <= key[1]
-                 and (self.is_new(function, block) if block in begins else self.is_whole(key, block))]
+                 and (block in begins or self.is_whole(key, block))]
         return found if any(not self.is_jump(*part) for block in found for part in self.parts(block, key)) else []
 
     def function_of(self, copy: int) -> int:
@@ -68,15 +67,6 @@ class FurthestLines:
         """Whether code is nothing but an indirect jump."""
         code = self.copies.program.read(low, high - low).removeprefix(NOTRACK) if high - low <= LONGEST else b""
         return len(code) > 1 and code[0] == INDIRECT and code[1] & OPERATION == OF_JUMP
-
-    def is_new(self, function: int, block: int) -> bool:
-        """Whether a block isn't a jump alone that has its place in the source from code before it, as the one that
-        leads back in a loop."""
-        row, low = self.copies.rows[block], self.info.piece_low
-        if not self.is_jump(row.first, row.end):
-            return True
-        first, piece = (bisect.bisect_right(low, at) - 1 for at in (self.info.entry[function - 1], row.first))
-        return all(self.place(other) != self.place(piece) for other in range(max(first, 0), piece))
 
     def is_whole(self, key: Key, block: int) -> bool:
         """Whether a block is of a line alone; the indirect jump that the tables of a function share is of none."""

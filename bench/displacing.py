@@ -1,4 +1,4 @@
-"""Lengths of instructions, and how many bytes the code has that does a displaced one's work, by the tables of docs/reference/formats.md alone.
+"""Lengths of instructions, and of the code that does a displaced one's work, by docs/reference/formats.md alone.
 
 It shares nothing with the crates: the programs here ask it in place of them.
 """
@@ -8,7 +8,7 @@ PREFIXES = {0x66, 0x67, 0xF0, 0xF2, 0xF3, 0x26, 0x2E, 0x36, 0x3E, 0x64, 0x65}
 LONGEST, LOW_END = 15, 1 << 31
 
 
-def spread(text):
+def spread(text: str) -> set[int]:
     """The numbers of `a-b c ..`."""
     ends = [[int(end, 16) for end in part.split("-")] for part in text.split()]
     return {n for part in ends for n in range(part[0], part[-1] + 1)}
@@ -39,12 +39,16 @@ TWO = {
 VEX_ONE = {("", ""): "77", ("m", "I8"): "70-73 c2 c4-c6", ("m", ""): "0-6f 74-76 78-c1 c3 c7-ff"}
 
 
-def by_opcode(table):
+Row = tuple[str, str]
+
+
+def by_opcode(table: dict[Row, str]) -> dict[int, Row]:
     return {opcode: row for row, text in table.items() for opcode in spread(text)}
 
 
 ALL = range(256)
-MAPS = [by_opcode(ONE), by_opcode(TWO), dict.fromkeys(ALL, ("m", "")), dict.fromkeys(ALL, ("m", "I8"))]
+MAPS: list[dict[int, Row]] = [by_opcode(ONE), by_opcode(TWO)]
+MAPS += [dict.fromkeys(ALL, ("m", "")), dict.fromkeys(ALL, ("m", "I8"))]
 MAPS += [by_opcode(VEX_ONE), dict.fromkeys(ALL, ("m", "")), dict.fromkeys(ALL, ("m", "I8"))]
 NOT_WITH_66 = spread("70-7f c2 c3 e0-e3 e8 e9 eb")
 ENDING = spread("6c-6f ca-cd cf e4-e7 ec-ef f1 f4 fa fb")
@@ -55,7 +59,7 @@ class Form(NamedTuple):
     """An instruction that was read."""
 
     length: int
-    prefixes: frozenset
+    prefixes: frozenset[int]
     rex: int
     map: int
     opcode: int
@@ -66,12 +70,12 @@ class Form(NamedTuple):
     rel: Optional[int]
 
     @property
-    def reg(self):
+    def reg(self) -> int:
         return (self.modrm or 0) >> 3 & 7
 
 
-def after_modrm(code, at):
-    """Where the ModRM byte, the SIB byte and the displacement end, and the displacement's size where it is of a RIP operand."""
+def after_modrm(code: bytes, at: int) -> tuple[int, bool]:
+    """Where the ModRM byte, the SIB byte and the displacement end, and whether that is of a RIP operand."""
     modrm = code[at]
     mod, rm, at = modrm >> 6, modrm & 7, at + 1
     if mod == 3:
@@ -82,14 +86,14 @@ def after_modrm(code, at):
     return at + (4 if mod == 2 or mod == 0 and rm == 5 else mod), mod == 0 and rm == 5
 
 
-def immediate_size(kind, prefixes, rex, reg):
+def immediate_size(kind: str, prefixes: frozenset[int], rex: int, reg: int) -> int:
     short = 2 if 0x66 in prefixes and not rex & 8 else 4
     sizes = {"": 0, "I8": 1, "I16": 2, "I16I8": 3, "Z": short, "V": 8 if rex & 8 else short, "Rel32": 4}
     sizes |= {"Moffs": 4 if 0x67 in prefixes else 8, "Group8": 1 if reg < 2 else 0, "GroupZ": short if reg < 2 else 0}
     return sizes[kind]
 
 
-def opcode_at(code, at, prefixes, rex):
+def opcode_at(code: bytes, at: int, prefixes: frozenset[int], rex: Optional[int]) -> Optional[tuple[int, int, int]]:
     """The map, the opcode and the place behind it; none where these bytes have no length."""
     byte = code[at]
     if byte in (0xC4, 0xC5):
@@ -105,15 +109,15 @@ def opcode_at(code, at, prefixes, rex):
     return 1, code[at + 1], at + 2
 
 
-def has_rex(codes):
+def has_rex(codes: bytes) -> bool:
     return any(0x40 <= byte <= 0x4F for byte in codes)
 
 
-def signed(code):
+def signed(code: bytes) -> int:
     return int.from_bytes(code, "little", signed=True)
 
 
-def read(window):
+def read(window: bytes) -> Optional[Form]:
     """The instruction at the front of these bytes; none where its length isn't known, or they end before it does."""
     try:
         form = read_whole(bytes(window[:LONGEST]))
@@ -122,7 +126,7 @@ def read(window):
     return form if form and form.length <= len(window[:LONGEST]) else None
 
 
-def read_whole(code):
+def read_whole(code: bytes) -> Optional[Form]:
     at = 0
     while code[at] in PREFIXES or 0x40 <= code[at] <= 0x4F:
         at += 1
@@ -139,7 +143,8 @@ def read_whole(code):
     reg, disp = (modrm or 0) >> 3 & 7, signed(code[at - 4:at]) if rip else None
     if which == 0 and opcode == 0x8F and reg:
         return None
-    branch = which == 0 and (opcode in NOT_WITH_66 or opcode == 0xFF and reg in (2, 4)) or which == 1 and 0x80 <= opcode <= 0x8F
+    is_short = which == 0 and (opcode in NOT_WITH_66 or opcode == 0xFF and reg in (2, 4))
+    branch = is_short or which == 1 and 0x80 <= opcode <= 0x8F
     if 0x66 in prefixes and branch:
         return None
     size = immediate_size(kind, prefixes, rex or 0, reg)
@@ -148,17 +153,18 @@ def read_whole(code):
     return Form(at + size, prefixes, rex or 0, which, opcode, modrm, at - first, disp, rel)
 
 
-def ends_a_run(form):
+def ends_a_run(form: Form) -> bool:
     """Whether it is of the instructions that end a run, but for branches."""
     few, (op, reg) = form.prefixes, (form.opcode, form.reg)
     if {0x64, 0x65} <= few or {0xF2, 0xF3} <= few or 0x67 in few and form.disp is not None:
         return True
     if form.map == 0:
-        return op in ENDING or op in (0xC6, 0xC7) and reg != 0 or op == 0xFE and reg > 1 or op == 0xFF and reg in (3, 5, 7)
+        is_wrong = op in (0xC6, 0xC7) and reg != 0 or op == 0xFE and reg > 1
+        return op in ENDING or is_wrong or op == 0xFF and reg in (3, 5, 7)
     return form.map == 1 and op in ENDING_TWO
 
 
-def is_ending_branch(form):
+def is_ending_branch(form: Form) -> bool:
     """Whether a branch has a prefix that makes it end a run."""
     few, op = form.prefixes, form.opcode
     if form.map == 0 and op == 0xFF:
@@ -168,8 +174,8 @@ def is_ending_branch(form):
     return bool(few & {0xF0, 0xF2, 0xF3, 0x64, 0x65}) or form.map == 0 and op in (0xE0, 0xE1, 0xE2) and 0x67 in few
 
 
-def work_length(form, addr):
-    """Bytes of the code that does the work elsewhere, with the jump back where it falls through; none where there is no such code."""
+def work_length(form: Optional[Form], addr: int) -> Optional[int]:
+    """Bytes of the code that does the work elsewhere, with a jump back if it falls through; none where no code does."""
     if form is None or ends_a_run(form):
         return None
     low = [(addr + form.length + far) % (1 << 64) < LOW_END for far in (form.disp, form.rel) if far is not None]
@@ -183,7 +189,7 @@ def work_length(form, addr):
             return None
         if jcc:
             return 6 + 5
-        if through and form.reg == 2:
+        if through and form.reg == 2 and form.modrm is not None:
             return 36 + (3 if form.modrm >> 6 == 3 else 2 + form.tail + len(form.prefixes & {0x64, 0x65, 0x67}))
         return {0xE8: 10, 0xE9: 5, 0xEB: 5}.get(op, own)
     if form.map == 0 and (0xD8 <= op <= 0xDF or op == 0x9B) or form.map == 1 and op in (0x00, 0x01, 0xAE, 0xC7):

@@ -8,7 +8,7 @@ case ${1-} in
     ;;
 --help | -h)
     "$here/e9tool" | sed 's/^usage: //; s/ | /\n/g' | sed 's/^/e9tool /; 1s/^/usage: /; 2,$s/^/       /'
-    echo "man e9tool tells of each."
+    echo "man e9tool describes each."
     exit
     ;;
 esac

@@ -184,8 +184,9 @@ class Difference:
             block = work.pop()
             if block == first:
                 return True
-            _, (file, line) = told.copies.last_line.get(block, (0, (0, 0)))
-            if block != OUTSIDE and block not in seen and (not line or (os.path.realpath(told.info.files[file]), line) in lines):
+            copy, (file, line) = told.copies.last_line.get(block, (0, (0, 0)))
+            there = {(os.path.realpath(told.info.files[file]), line)} | self.lines_around([copy])
+            if block != OUTSIDE and block not in seen and (not line or there & lines):
                 seen.add(block)
                 work += [graph.target[edge] for edge in graph.out[block]]
         return False
@@ -218,12 +219,15 @@ class Difference:
         ours = {(os.path.realpath(it.file), it.line): it.count or 0 for it in self.program.told.all_functions}
         return [count - ours.get(key, 0) for key, count in theirs.items()]
 
+    def lines_around(self, copies: Iterable[int]) -> set[Key]:
+        """The lines at which copies were inlined."""
+        info = self.program.told.info
+        places = {(info.call_file[it - 1], info.call_line[it - 1]) for copy in copies for it in info.chain(copy)}
+        return {(os.path.realpath(info.files[file]), line) for file, line in places if line}
+
     def call_lines(self) -> set[Key]:
         """The line, and those at which its copies were inlined."""
-        info = self.program.told.info
-        calls = {it for copy in self.copies for it in info.chain(copy)}
-        return {self.key} | {(os.path.realpath(info.files[info.call_file[it - 1]]), info.call_line[it - 1]) for it in calls
-                             if info.call_line[it - 1]}
+        return {self.key} | self.lines_around(self.copies)
 
     def has_no_begin(self) -> bool:
         """Whether in a copy no statement of the line begins."""

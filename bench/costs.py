@@ -47,8 +47,8 @@ class Cost:
     faults: int = 0
     is_whole: bool = True
 
-    def times(self, original: "Cost") -> str:
-        times = self.processor / original.processor
+    def times(self, base: "Cost") -> str:
+        times = self.processor / base.processor
         return f"{'' if self.is_whole else 'more than '}{times:.{2 if times < 10 else 0}f}"
 
 
@@ -172,8 +172,8 @@ def section(source: str, least: dict[str, Cost], columns: tuple[list[Tool], list
     """README's section: how it was measured, and the factors."""
     is_busy = least[""].wall > BUSY * least[""].processor
     text = (f"Processor time of a run, as a factor of the original's {least[''].processor:.2f} s: "
-            f"`{os.path.relpath(source, TOP)}` ({' '.join(GCC)}) sorts, counts divisors and sieves. The least of {TURNS} "
-            f"runs, in turns with the others{', beside other work' if is_busy else ''}; {model()}, Linux "
+            f"`{os.path.relpath(source, TOP)}` ({' '.join(GCC)}) sorts, counts divisors and sieves. The least of "
+            f"{TURNS} runs, in turns with the others{', beside other work' if is_busy else ''}; {model()}, Linux "
             f"{'.'.join(os.uname().release.split('.')[:2])}. Patching and showing the record are left out. "
             f"`bench/costs.py` measures any C program so, and makes this section.")
     cells = [[f"`{tool.name}`: {tool.records} | {least[tool.name].times(least[''])}" for tool in column]

@@ -1,5 +1,5 @@
 #!/usr/bin/env python3
-"""thread_projections.py E9TOOL: 200 random schedules of guests of two to four threads, of a file that `threads` patched.
+"""thread_projections.py E9TOOL: 200 random schedules of guests of two to four threads of a file that `threads` patched.
 
 A program of its own steps the patched guest and, at each effect step, the original's. After each step it compares what
 docs/evidence/promises.md (Guests of several threads) says: each thread's projection with the original's thread, memory

@@ -33,8 +33,9 @@ class Profile:
                 callee = self.name(value)
             elif key == "calls":
                 is_call = True
-            elif function and (line[:1].isdigit() or line[:1] in "+-*"):
-                cost = int(line.split()[1])
+            elif function and line and line[0] in "0123456789+-*":
+                _, *costs = line.split()
+                cost = int(costs[0]) if costs else 0  # none is left out
                 totals, of = (self.called, callee) if is_call else (self.own, function)
                 totals[of] = totals.get(of, 0) + cost
                 is_call = False

@@ -6,13 +6,18 @@ from measures.profile import Profile
 from measures.programs import write_lists
 from measures.running import NONE, Bench, point
 
-# what a part is called, and the ends of the names of its functions
-PARTS = {
-    "reading its line": ("lists::read_starts",),
-    "decoding": ("decoding::decode",),
-    "classification": ("classification::front_form",),
-    "marking what shares bytes": ("building::mark", "building::reached_by"),
-}
+DECODE, CLASSIFY = "decoding::decode", "classification::front_form"
+ENTRY, BUILD = "building::entry_by_window", "Starts::build"
+
+
+def parts_of(profile: Profile, number: int, each: float) -> dict[str, float]:
+    """Instructions of each part: a function that a compiler put into its caller counts as that one's."""
+    decode, classify, entry, build = ((profile.whole(it) or 0) / number for it in (DECODE, CLASSIFY, ENTRY, BUILD))
+    entry, build = max(entry, decode + classify), max(build, entry, decode + classify)
+    names = ("its entry", "classification") if classify else ("classification and its entry", "")
+    found = {"decoding": decode, names[1]: classify, names[0]: entry - decode - classify}
+    found |= {"its place, marking what shares bytes": build - entry, "reading its line, all else": each - build}
+    return {name: cost for name, cost in found.items() if name}
 
 
 def starts(bench: Bench) -> list[str]:
@@ -29,10 +34,7 @@ def starts(bench: Bench) -> list[str]:
     profile = Profile(bench.path("counts"))
     words[words.index("starts")] = "first"
     each = (whole - bench.counted(words)) / (number - 1)
-    found = {name: profile.whole(*endings) for name, endings in PARTS.items()}
-    costs = {name: None if total is None else total / number for name, total in found.items()}
-    costs["entry, place, all else"] = each - sum(it or 0 for it in costs.values())
-    told = [f"{name} {'in its caller' if it is None else f'{it:.0f} ({it / each:.2f})'}" for name, it in costs.items()]
+    told = [f"{name} {cost:.0f} ({cost / each:.2f})" for name, cost in parts_of(profile, number, each).items()]
     bench.done(["objcopy", "-O", "binary", "-j", ".text", program, "text"])
     decoding = bench.decodings("text")
     os.remove(bench.path("counts"))

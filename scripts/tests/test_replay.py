@@ -70,6 +70,7 @@ def test_the_step_that_leaves_the_premises_is_told(name, form):
         if name == "EVEX" and "avx512f" not in file.read():
             pytest.skip("this processor has no AVX-512")
     program, here = build(name)
+    assert here is not None
     status, lines, told = replay(program)
     assert status == 1 and len(lines) == 4, f"{name}: {status} {lines} {told}"
     held = int(lines[1].split()[4])

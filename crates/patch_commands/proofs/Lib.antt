@@ -3,4 +3,5 @@ pub mod TextVerdicts
 pub mod Rewritings
 pub mod LoaderRewritings
 pub mod ThreadRewritings
+pub mod InEitherForm
 pub mod UnpatchVerdicts

@@ -28,15 +28,12 @@ use Rattle.patch_commands.proofs.Rewritings.{IsGiven, verdict_of, list_followed}
 
 -- ---- there is one verdict at most
 
-abbrev Judged : Type 0
-Judged = Result ThreadJob ThreadError
-
-abbrev as_verdict : Judged → Verdict ThreadJob
+abbrev as_verdict : Result ThreadJob ThreadError → Verdict ThreadJob
 as_verdict (Ok job) = Accepted job
 as_verdict (Err error) = Refused (Rewrite (as_rewriting error))
 
 -- what is judged so is judged by the rewriting
-of_judged : (a : Asked) (v : Verdict ThreadJob) → IsThreadJudged a v → (w : Judged) × (v ≡ as_verdict w) × Judges a w
+of_judged : (a : Asked) (v : Verdict ThreadJob) → IsThreadJudged a v → (w : Result ThreadJob ThreadError) × (v ≡ as_verdict w) × Judges a w
 of_judged a (Accepted job) h = (Ok job, refl, h)
 of_judged a (Refused r) h = (Err h.0, ap Refused h.1, h.2)
 of_judged a other h = absurd h

@@ -6,5 +6,6 @@
 pub mod laws;
 pub mod load;
 pub mod patch;
+mod patching;
 pub mod threads_command;
 pub mod unpatch_command;

@@ -1,17 +1,21 @@
 //! The command `patch`, and what each command does that rewrites FILE.
-ghost use Rattle.std.specs.Prelude.{◌≡◌, ℕ, ◌<◌, None, map, slice_index};
+ghost use Rattle.std.specs.Prelude.{◌≡◌, ℕ, ◌<◌, ◌≤◌, None, OnOk, length, map, slice_index};
+ghost use Rattle.std.specs.List.Sorted.{IsStrictlyIncreasing};
 ghost use Rattle.pun_base.specs.Actions.{IsAction};
+ghost use Rattle.pun_base.specs.Limits.{most_sites};
 ghost use Rattle.pun_base.specs.Ranges.{ends};
 ghost use Rattle.command_words.specs.Named.{names_of};
 ghost use Rattle.command_io.specs.SiteRows.{rows_of};
 ghost use Rattle.command_io.specs.Verdict.{patching};
 ghost use Rattle.patch_commands.specs.Answers.{listed_inputs, patch_writing};
 ghost use Rattle.command_io.specs.Failing.{Gathers, seen_as, told_of};
-ghost use Rattle.command_io.specs.Works.{Works, Carries};
+ghost use Rattle.command_io.specs.Works.{Carries, Works};
+ghost use Rattle.patch_commands.specs.Forms.{asked_of, patching_of, writing_in, RewritesIn};
 ghost use Rattle.patch_commands.specs.Patching.{patch_texts, file_and_lists, ReadsLists, TellsSummary, WritesReport};
 
+use crate::patching::{Form, Given};
 use command_io::ends::{Failure, Input, Told};
-use command_io::failures::{list_failure, rewrite_failure};
+use command_io::failures::{list_failure, loader_failure, rewrite_failure};
 use command_io::inputs::read_input;
 use command_io::outputs::write_output;
 use command_io::site_rows::SiteRows;
@@ -23,6 +27,7 @@ use pun_base::action::Action;
 use pun_base::desk::Desk;
 use pun_base::range::Range;
 use rewrite_core::rewrite::rewrite;
+use rewrite_loader::rewrite::rewrite_loader;
 use std::alloc::{AllocError, Global};
 
 /// The bytes of the inputs.
@@ -56,8 +61,29 @@ pub fn patch<'a, D: Desk>(
     ensures { Carries (patch_writing (patching (names_of names.now) action (map ends reserves.now)))
         (D.seen desk.old) (D.seen desk.new) (seen_as told_of result) }
 {
+    let given = Given {
+        form: Form::Plain,
+        names,
+        action,
+        reserves,
+    };
+    patch_in_form(alloc, &given, desk)
+}
+
+/// Reads the inputs, and writes the patched file in its form, and its report.
+pub(crate) fn patch_in_form<'a, D: Desk>(
+    alloc: Global,
+    given: &Given<'_, 'a>,
+    desk: &mut D,
+) -> Result<Told, Failure<'a>>
+    requires action { IsAction given.now.action }
+    requires nothing { (D.seen desk.old).writing ≡ None }
+    ensures { Carries (writing_in given.now.form (patching_of given.now)) (D.seen desk.old)
+        (D.seen desk.new) (seen_as told_of result) }
+{
+    let names = given.names;
     match read_inputs(alloc, names.file, names.starts, names.sites, desk) {
-        Ok(inputs) => rewrite_inputs(alloc, inputs, names, action, reserves, desk),
+        Ok(inputs) => rewrite_inputs(alloc, given, inputs, desk),
         Err(failure) => Err(failure),
     }
 }
@@ -83,37 +109,70 @@ pub fn read_inputs<'a, D: Desk>(
     })
 }
 
-/// Judges the lists, lets go of their texts, writes the patched file and then its report.
+/// Judges the lists, lets go of their texts, writes the patched file in its form and then its report.
 fn rewrite_inputs<'a, D: Desk>(
     alloc: Global,
+    given: &Given<'_, 'a>,
     inputs: Inputs,
-    names: &Names<'a>,
-    action: Action,
-    reserves: &[Range],
     desk: &mut D,
 ) -> Result<Told, Failure<'a>>
-    requires action { IsAction action }
+    requires action { IsAction given.now.action }
     requires nothing { (D.seen desk.old).writing ≡ None }
-    ensures { Works (patch_writing (patching (names_of names.now) action (map ends reserves.now)))
-        (patch_texts inputs) (D.seen desk.old) (D.seen desk.new) (seen_as told_of result) }
+    ensures { Works (writing_in given.now.form (patching_of given.now)) (patch_texts inputs)
+        (D.seen desk.old) (D.seen desk.new) (seen_as told_of result) }
 {
     let listed = match judge_lists(alloc, inputs) {
         Ok(listed) => listed,
         Err(failure) => return Err(failure),
     };
-    let file = bytes_of(&listed.file);
-    match rewrite(
-        alloc,
+    match rewrite_listed(alloc, given, &listed, desk) {
+        Ok(report) => write_report(alloc, &report, given.names.report, desk),
+        Err(failure) => Err(failure),
+    }
+}
+
+/// Writes the patched file in its form, and answers its report.
+fn rewrite_listed<'a, D: Desk>(
+    alloc: Global,
+    given: &Given<'_, 'a>,
+    listed: &Listed,
+    desk: &mut D,
+) -> Result<Report, Failure<'a>>
+    requires starts_ascend { IsStrictlyIncreasing listed.now.starts.items }
+    requires sites_ascend { IsStrictlyIncreasing listed.now.sites.items }
+    requires few_sites { length listed.now.sites.items ≤ most_sites }
+    requires action { IsAction given.now.action }
+    requires nothing { (D.seen desk.old).writing ≡ None }
+    ensures bytes { (k : ℕ) → slice_index listed.now.file.items k < 256 }
+    ensures rewrites { RewritesIn given.now.form (asked_of given.now listed.now)
+        (names_of given.now.names.now).out (D.seen desk.old) (D.seen desk.new)
+        (seen_as (λ r. r) result) }
+    ensures rest { OnOk result ((D.seen desk.new).writing ≡ None) }
+{
+    let Listed {
         file,
-        &listed.starts,
-        &listed.sites,
+        starts,
+        sites,
+    } = listed;
+    let Given {
+        form,
+        names,
         action,
         reserves,
-        names.out,
-        desk,
-    ) {
-        Ok(report) => write_report(alloc, &report, names.report, desk),
-        Err(error) => Err(rewrite_failure(error, names.out)),
+    } = given;
+    let file = bytes_of(file);
+    let out = names.out;
+    match form {
+        Form::Plain => match rewrite(alloc, file, starts, sites, *action, reserves, out, desk) {
+            Ok(report) => Ok(report),
+            Err(error) => Err(rewrite_failure(error, out)),
+        },
+        Form::WithStub => {
+            match rewrite_loader(alloc, file, starts, sites, *action, reserves, out, desk) {
+                Ok(report) => Ok(report),
+                Err(error) => Err(loader_failure(error, out)),
+            }
+        }
     }
 }
 

@@ -1,33 +1,29 @@
-use Rattle.std.proofs.Common.{map, inl, refl, ◌∙◌}
-use Rattle.pun_base.specs.Ranges.{ends}
-use Rattle.command_words.specs.Named.{names_of}
-use Rattle.command_io.specs.Verdict.{patching, plain, rewriting_in}
+use Rattle.std.proofs.Common.{inl, refl}
+use Rattle.command_io.specs.Verdict.{rewriting_in}
 use Rattle.command_io.specs.Failing.{seen_as, told_of, failed_of}
-use Rattle.command_io.proofs.WholeCommands.{works_as}
-use Rattle.patch_commands.specs.Answers.{patch_writing}
-use Rattle.patch_commands.specs.Patching.{patch_texts}
+use Rattle.patch_commands.specs.Forms.{form_in, patching_of, writing_in}
 use Rattle.patch_commands.proofs.TextVerdicts.{only_lists, lists_end}
-use Rattle.patch_commands.proofs.Rewritings.{given, reported, refused}
+use Rattle.patch_commands.proofs.InEitherForm.{reported_in, refused_in}
 use Rattle.patch_commands.proofs.patch.rewrite_inputs.Goals as goal
 
 pub returns-in-Err : goal.returns-in-Err
 returns-in-Err g c =
-    let p = patching (names_of c.args.names.now) c.args.action (map ends c.args.reserves.now) in
-    inl (refl, lists_end (patch_writing p) c.args.inputs (failed_of c.in-Err.failure) (only_lists (rewriting_in plain p) c.args.inputs) c.in-Err.ensures)
+    let given = c.args.given.now in
+    let p = patching_of given in
+    let x = c.args.inputs in
+    inl (refl, lists_end (writing_in given.form p) x (failed_of c.in-Err.failure) (only_lists (rewriting_in (form_in given.form) p) x) c.in-Err.ensures)
 
-pub returns-in-Ok-rewrite : goal.returns-in-Ok-rewrite
-returns-in-Ok-rewrite g c =
-    let p = patching (names_of c.args.names.now) c.args.action (map ends c.args.reserves.now) in
-    reported p c.args.inputs _
-    (given (rewriting_in plain p) c.args.reserves.now c.args.inputs c.bytes_of-file.result.now c.deref-2.result.now c.deref-3.result.now _ _ _ refl c.in-Ok.ensures
-    (c.bytes_of-file.ensures.value ∙ c.deref.ensures.value) c.deref-2.ensures.value c.deref-3.ensures.value c.bytes_of-file.ensures.bytes)
-    _ _ _ _ (seen_as told_of c.write_report.result) c.in-Ok-rewrite.ensures.rewrites c.write_report.ensures
+pub returns-in-Ok-rewrite_listed : goal.returns-in-Ok-rewrite_listed
+returns-in-Ok-rewrite_listed g c =
+    let given = c.args.given.now in
+    let l = c.in-Ok.listed in
+    reported_in (patching_of given) given.reserves.now c.args.inputs l.file.items l.starts.items l.sites.items refl c.in-Ok.ensures
+    c.rewrite_listed.ensures.bytes given.form c.in-Ok-rewrite_listed.report _ _ _ (seen_as told_of c.write_report.result)
+    c.in-Ok-rewrite_listed.ensures.rewrites c.write_report.ensures
 
 pub returns : goal.returns
 returns g c =
-    let p = patching (names_of c.args.names.now) c.args.action (map ends c.args.reserves.now) in
-    works_as (patch_writing p) (patch_texts c.args.inputs) _ _ _ _ c.rewrite_failure.ensures
-    (refused p c.args.inputs _
-    (given (rewriting_in plain p) c.args.reserves.now c.args.inputs c.bytes_of-file.result.now c.deref-2.result.now c.deref-3.result.now _ _ _ refl c.in-Ok.ensures
-    (c.bytes_of-file.ensures.value ∙ c.deref.ensures.value) c.deref-2.ensures.value c.deref-3.ensures.value c.bytes_of-file.ensures.bytes)
-    _ _ c.in-Err-rewrite.error c.in-Err-rewrite.ensures.rewrites)
+    let given = c.args.given.now in
+    let l = c.in-Ok.listed in
+    refused_in (patching_of given) given.reserves.now c.args.inputs l.file.items l.starts.items l.sites.items refl c.in-Ok.ensures
+    c.rewrite_listed.ensures.bytes given.form _ _ (failed_of c.in-Err-rewrite_listed.failure) c.in-Err-rewrite_listed.ensures.rewrites

@@ -1,0 +1,6 @@
+//! The tests, by what they ask.
+mod deliveries;
+mod guests;
+mod runs;
+mod scripts;
+mod steps;

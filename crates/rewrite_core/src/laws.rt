@@ -26,17 +26,20 @@ pub fn follows_said_with()
 
 /// The original's quiet runs, of which the headline speaks, are runs: a step that leaves the listed
 /// bytes alone is a step.
+#[tactic(auto, using(crate::proofs::QuietRuns::quiet))]
 pub fn quiet_runs()
     ensures { QuietRuns Step }
 {}
 
 /// What the record tells under cover.
+#[tactic(auto, using(crate::proofs::CoverRecords::cover_length, crate::proofs::CoverRecords::cover_byte))]
 pub fn cover_record()
     ensures length { CoverLength }
     ensures bytes { CoverRecord }
 {}
 
 /// What the record tells under count.
+#[tactic(auto, using(crate::proofs::CountRecords::count_field))]
 pub fn count_record()
     ensures { CountRecord }
 {}
@@ -47,6 +50,7 @@ pub fn ring_record()
 {}
 
 /// What the record tells under a condition.
+#[tactic(auto, using(crate::proofs::ConditionalRecords::when_same))]
 pub fn when_record()
     ensures { WhenRecord }
 {}

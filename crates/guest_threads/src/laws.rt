@@ -6,11 +6,13 @@ ghost use Rattle.guest_threads.specs.WorkedGuest.{IsThreadsReal};
 
 /// The premises of the theorem on guest threads are met: by two threads that run a written file, of
 /// which one stops after its LOCK INC.
+#[tactic(auto, using(crate::proofs::WorkedGuest::threads_are_real))]
 pub fn threads_are_real()
     ensures { IsThreadsReal }
 {}
 
 /// What the turns have done, loaded with the code of threads, is sound for threads.
+#[tactic(auto, using(crate::proofs::ThreadSoundness::folded_is_thread_sound))]
 pub fn folded_is_thread_sound()
     ensures { FoldedIsThreadSound }
 {}
@@ -35,11 +37,13 @@ pub fn written_is_threaded()
 
 /// The input of the first worked row of `threads` is judged to be a job, and the file of that job
 /// runs with threads as the original does.
+#[tactic(auto, using(crate::proofs::WorkedFile::row_is_threaded))]
 pub fn written_row()
     ensures { RowIsThreaded }
 {}
 
 /// An input of `rewrite_threads` has one job or one refusal at most.
+#[tactic(auto, using(crate::proofs::ThreadVerdicts::judged_once))]
 pub fn judged_once()
     ensures { JudgedOnce }
 {}

@@ -1,10 +1,11 @@
 //! Reports whose texts and whose first refused lines are known from elsewhere.
+use crate::texts_and_words::action_words;
 use patch_report::error::ReportError;
 use patch_report::laws::{printed_again, read_again};
 use patch_report::origin::Origin;
 use patch_report::report::{Report, read};
 use patch_report::row::ReportRow;
-use pun_base::action::{Action, Base, CompareOp, Comparison, Comparisons};
+use pun_base::action::Action;
 use pun_base::byte_list::ByteList;
 use pun_base::outcome::{Outcome, Plan};
 use pun_base::plan::Write;
@@ -364,11 +365,6 @@ fn versions(rt: HostRuntime) -> Result<(), Fail> {
     Ok(())
 }
 
-/// A comparison of a register with a number.
-fn compared(reg: u8, op: CompareOp, value: u32) -> Comparison {
-    Comparison { reg, op, value }
-}
-
 /// The row of the worked report.
 fn worked_row() -> ReportRow {
     let mut tramps = TrampList::new();
@@ -483,34 +479,8 @@ fn without_sites(rt: HostRuntime) -> Result<(), Fail> {
 /// The action line of a report names its action, and is printed as it was read.
 #[test]
 fn actions(rt: HostRuntime) -> Result<(), Fail> {
-    let is_five = Comparisons::One(compared(7, CompareOp::Eq, 5));
-    let all = Comparisons::Three(
-        compared(0, CompareOp::Ge, 1),
-        compared(15, CompareOp::Lt, 2_147_483_647),
-        compared(0, CompareOp::Ne, 3),
-    );
-    let cases = [
-        ("cover", Action::Cover),
-        ("count", Action::Count),
-        ("ring:4", Action::Ring { len: 4 }),
-        ("ring:65536", Action::Ring { len: 65_536 }),
-        (
-            "cover when rdi == 5",
-            Action::When {
-                base: Base::Cover,
-                list: is_five,
-            },
-        ),
-        (
-            "count when rax >= 1 and r15 < 2147483647 and rax != 3",
-            Action::When {
-                base: Base::Count,
-                list: all,
-            },
-        ),
-    ];
     let (front, back) = WORKED.split_once("cover").unwrap_or(("", ""));
-    for (word, action) in cases {
+    for (word, action) in action_words() {
         let text = format!(in rt.alloc(); "{front}{word}{back}")?;
         let report = read(rt.alloc(), text.as_bytes())?;
         assert_eq!(rt; report.action(), action, "{word}");

@@ -225,8 +225,8 @@ fn compared(reg: u8, op: CompareOp, value: u32) -> Comparison {
     Comparison { reg, op, value }
 }
 
-#[test]
-fn actions(rt: HostRuntime) -> Result<(), Fail> {
+/// Words of actions, with what they say.
+pub(crate) fn action_words() -> [(&'static str, Action); 9] {
     let is_five = Comparisons::One(compared(7, CompareOp::Eq, 5));
     let both = Comparisons::Two(
         compared(0, CompareOp::Ge, 0),
@@ -237,7 +237,12 @@ fn actions(rt: HostRuntime) -> Result<(), Fail> {
         compared(4, CompareOp::Le, 2_147_483_646),
         compared(9, CompareOp::Ne, 12),
     );
-    let cases = [
+    let twice = Comparisons::Three(
+        compared(0, CompareOp::Ge, 1),
+        compared(15, CompareOp::Lt, 2_147_483_647),
+        compared(0, CompareOp::Ne, 3),
+    );
+    [
         ("cover", Action::Cover),
         ("count", Action::Count),
         ("ring:1", Action::Ring { len: 1 }),
@@ -264,8 +269,19 @@ fn actions(rt: HostRuntime) -> Result<(), Fail> {
                 list: all,
             },
         ),
-    ];
-    for (word, action) in cases {
+        (
+            "count when rax >= 1 and r15 < 2147483647 and rax != 3",
+            Action::When {
+                base: Base::Count,
+                list: twice,
+            },
+        ),
+    ]
+}
+
+#[test]
+fn actions(rt: HostRuntime) -> Result<(), Fail> {
+    for (word, action) in action_words() {
         assert_eq!(rt; read_action(word), Some(action), "{word}");
         let written = word_of(rt.alloc(), action)?;
         assert_eq!(rt; written.as_slice(), word.as_bytes(), "{word}");

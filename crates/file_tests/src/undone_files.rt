@@ -59,15 +59,20 @@ fn change(file: &mut [u8], at: usize, value: u8) {
     }
 }
 
+/// Whether a patched file is undone to the original by the jump's report with these first lines.
+fn is_given_back(alloc: Global, file: &[u8], head: &[u8]) -> Result<bool, Fail> {
+    let written = patched(alloc, file)?;
+    let report = report_of(alloc, head, JUMP)?;
+    let back = undone(alloc, &written, &report)??;
+    Ok(back.as_slice() == file)
+}
+
 #[test]
 fn one_mov_is_given_back(rt: HostRuntime) -> Result<(), Fail> {
     let file = one_mov(rt.alloc())?;
     assert_eq!(rt; file.len(), 4103);
-    let written = patched(rt.alloc(), &file)?;
     let head = b"e9report 2\norigin 4103 64 1 0000000000401000\n";
-    let report = report_of(rt.alloc(), head, JUMP)?;
-    let back = undone(rt.alloc(), &written, &report)??;
-    assert!(rt; back.as_slice() == file.as_slice());
+    assert!(rt; is_given_back(rt.alloc(), &file, head)?);
     Ok(())
 }
 
@@ -76,26 +81,17 @@ fn moved_segments_are_given_back(rt: HostRuntime) -> Result<(), Fail> {
     let text = entry(1, 5, 0x1000, 0x40_1000, 7, 0x1000);
     let data = entry(1, 6, 0x1000, 0x40_3000, 7, 0x1000);
     let file = file_of(rt.alloc(), 64, &[text, data])?;
-    let written = patched(rt.alloc(), &file)?;
     let head = b"e9report 2\norigin 4103 64 2 0000000000401000\n";
-    let report = report_of(rt.alloc(), head, JUMP)?;
-    let back = undone(rt.alloc(), &written, &report)??;
-    assert!(rt; back.as_slice() == file.as_slice());
+    assert!(rt; is_given_back(rt.alloc(), &file, head)?);
     Ok(())
 }
 
 #[test]
 fn table_behind_the_text_is_given_back(rt: HostRuntime) -> Result<(), Fail> {
-    let file = file_of(
-        rt.alloc(),
-        0x1010,
-        &[entry(1, 5, 0x1000, 0x40_1000, 7, 0x1000)],
-    )?;
-    let written = patched(rt.alloc(), &file)?;
+    let text = entry(1, 5, 0x1000, 0x40_1000, 7, 0x1000);
+    let file = file_of(rt.alloc(), 0x1010, &[text])?;
     let head = b"e9report 2\norigin 4168 4112 1 0000000000401000\n";
-    let report = report_of(rt.alloc(), head, JUMP)?;
-    let back = undone(rt.alloc(), &written, &report)??;
-    assert!(rt; back.as_slice() == file.as_slice());
+    assert!(rt; is_given_back(rt.alloc(), &file, head)?);
     Ok(())
 }
 

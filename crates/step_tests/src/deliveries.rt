@@ -3,6 +3,7 @@ ghost use Rattle.std.specs.Prelude.{◌≡◌, ◌≤◌, true};
 ghost use Rattle.std.specs.List.Sorted.{IsStrictlyIncreasing};
 ghost use Rattle.image_step.specs.Scheduled.{rise};
 
+use crate::runs::script_with;
 use cpu_alu::unpack;
 use cpu_state::page_list::PageList;
 use cpu_state::script::Script;
@@ -13,7 +14,6 @@ use elf_read::elf::{Elf, read_elf};
 use elf_read::writing::plain_file;
 use image_step::delivering::rise;
 use image_step::delivery::{Delivery, Due, DueEnd, Halted};
-use image_step::reading::read_world;
 use image_step::runner::Runner;
 use start_entries::starts::ascend;
 use std::alloc::Global;
@@ -49,29 +49,8 @@ const TOP: u64 = 0x60_0000;
 /// Where the frame of a handler begins.
 const FRAME: u64 = 0x5f_fff8;
 
-/// All values are zero but rsp, and sixteen bytes lie below it.
-const SCRIPT: &str = "e9world 1\n\
-    rax 0000000000000000\n\
-    rcx 0000000000000000\n\
-    rdx 0000000000000000\n\
-    rbx 0000000000000000\n\
-    rsp 0000000000600000\n\
-    rbp 0000000000000000\n\
-    rsi 0000000000000000\n\
-    rdi 0000000000000000\n\
-    r8 0000000000000000\n\
-    r9 0000000000000000\n\
-    r10 0000000000000000\n\
-    r11 0000000000000000\n\
-    r12 0000000000000000\n\
-    r13 0000000000000000\n\
-    r14 0000000000000000\n\
-    r15 0000000000000000\n\
-    flags 0000000000000202\n\
-    fs 0000000000000000\n\
-    gs 0000000000000000\n\
-    zero 00000000005ffff0 0000000000600000 rw-\n\
-    end\n";
+/// Sixteen bytes below the stack's end.
+const STACK: &str = "zero 00000000005ffff0 0000000000600000 rw-\nend\n";
 
 /// What comes behind so many steps: rax, rdx and rsp, where the thread goes on, and numbers of eight bytes that are
 /// written, in order.
@@ -233,7 +212,8 @@ fn ran(
 fn run_of(alloc: Global, starts: &[u32], comings: &[Coming], most: u64) -> Result<Found, Fail> {
     let file = plain_file(alloc, TEXT)?;
     let elf = read_elf(alloc, &file)?;
-    let script = read_world(alloc, SCRIPT.as_bytes())?;
+    let mut script = script_with(alloc, TOP, STACK)?;
+    script.flags = 0x202;
     let dues = dues_of(alloc, comings)?;
     if !ascend(starts) || !rise(0, &dues) || most > 1000 {
         return Err("starts and steps rise".into());
@@ -277,19 +257,27 @@ fn handler_entered_twice(rt: HostRuntime) -> Result<(), Fail> {
     Ok(())
 }
 
+/// What two steps leave without a delivery.
+const TWO_STEPS: Found = Found {
+    steps: 2,
+    made: 0,
+    why: Why::AllSteps,
+    regs: [1, 0],
+    rip: LAST,
+    outside: 3,
+    quiet: true,
+    frame: Some(0),
+    below: Some(0),
+};
+
 /// Of two deliveries at one step the later one counts, and each is made.
 #[test]
 fn two_at_one_step(rt: HostRuntime) -> Result<(), Fail> {
     let end = Found {
-        steps: 2,
         made: 2,
         why: Why::Ending(LAST),
         regs: [7, 0],
-        rip: LAST,
-        outside: 3,
-        quiet: true,
-        frame: Some(0),
-        below: Some(0),
+        ..TWO_STEPS
     };
     let comings = [changed(1, 5, SITE), changed(1, 7, SECOND)];
     assert_eq!(rt; run_of(rt.alloc(), STARTS, &comings, 10)?, end);
@@ -308,18 +296,7 @@ fn two_at_one_step(rt: HostRuntime) -> Result<(), Fail> {
 #[test]
 fn due_behind_the_last_step(rt: HostRuntime) -> Result<(), Fail> {
     let comings = [entered(2, 0x2a)];
-    let before = Found {
-        steps: 2,
-        made: 0,
-        why: Why::AllSteps,
-        regs: [1, 0],
-        rip: LAST,
-        outside: 3,
-        quiet: true,
-        frame: Some(0),
-        below: Some(0),
-    };
-    assert_eq!(rt; run_of(rt.alloc(), STARTS, &comings, 2)?, before);
+    assert_eq!(rt; run_of(rt.alloc(), STARTS, &comings, 2)?, TWO_STEPS);
     let behind = Found {
         steps: 3,
         made: 1,
@@ -327,7 +304,7 @@ fn due_behind_the_last_step(rt: HostRuntime) -> Result<(), Fail> {
         rip: RETURN,
         outside: 4,
         frame: Some(0x2a),
-        ..before
+        ..TWO_STEPS
     };
     assert_eq!(rt; run_of(rt.alloc(), STARTS, &comings, 3)?, behind);
     Ok(())
@@ -337,15 +314,8 @@ fn due_behind_the_last_step(rt: HostRuntime) -> Result<(), Fail> {
 #[test]
 fn due_at_the_end(rt: HostRuntime) -> Result<(), Fail> {
     let ended = Found {
-        steps: 2,
-        made: 0,
         why: Why::Ending(LAST),
-        regs: [1, 0],
-        rip: LAST,
-        outside: 3,
-        quiet: true,
-        frame: Some(0),
-        below: Some(0),
+        ..TWO_STEPS
     };
     assert_eq!(rt; run_of(rt.alloc(), STARTS, &[entered(3, 0x2a)], 10)?, ended);
     let handled = Found {

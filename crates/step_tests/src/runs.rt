@@ -11,15 +11,14 @@ use std::alloc::Global;
 use std::process::Abort;
 use std::test::Fail;
 
-/// The lines before that of rsp.
-const BEFORE: &str = "e9world 1\n\
+/// The values of a world script, all of them zero.
+const ZEROS: &str = "e9world 1\n\
     rax 0000000000000000\n\
     rcx 0000000000000000\n\
     rdx 0000000000000000\n\
-    rbx 0000000000000000\n";
-
-/// Those behind it, up to the values' end.
-const BEHIND: &str = "rbp 0000000000000000\n\
+    rbx 0000000000000000\n\
+    rsp 0000000000000000\n\
+    rbp 0000000000000000\n\
     rsi 0000000000000000\n\
     rdi 0000000000000000\n\
     r8 0000000000000000\n\
@@ -34,13 +33,15 @@ const BEHIND: &str = "rbp 0000000000000000\n\
     fs 0000000000000000\n\
     gs 0000000000000000\n";
 
-/// A script with this value of rsp, and lines behind the values.
-fn script_of(alloc: Global, rsp: &str, later: &str) -> Result<Script, Fail> {
-    let text = format!(in alloc; "{BEFORE}rsp {rsp}\n{BEHIND}{later}")?;
+/// The script with this value of rsp and all others zero, and with these lines behind the values.
+pub(crate) fn script_with(alloc: Global, rsp: u64, lines: &str) -> Result<Script, Fail> {
+    let text = format!(in alloc; "{ZEROS}{lines}")?;
     if text.len() >= 100_000 {
         return Ok(Script::zero(alloc));
     }
-    Ok(read_world(alloc, text.as_bytes())?)
+    let mut script = read_world(alloc, text.as_bytes())?;
+    script.regs[4] = rsp;
+    Ok(script)
 }
 
 /// `mov eax, 1`, `mov rbx, [rsp]`, `nop`, `hlt`.
@@ -56,7 +57,7 @@ fn steps(rt: HostRuntime) -> Result<(), Fail> {
     let file = plain_file(rt.alloc(), TEXT)?;
     let elf = read_elf(rt.alloc(), &file)?;
     let later = "bytes 0000000000500000 rw- 0102030405060708\nend\n";
-    let script = script_of(rt.alloc(), "0000000000500000", later)?;
+    let script = script_with(rt.alloc(), 0x50_0000, later)?;
     assert!(rt; ascend(STARTS));
     let mut runner = Runner::new(rt.alloc(), &elf, &script, STARTS)?;
     assert_eq!(rt; runner.state().rip, 0x40_1000);
@@ -83,7 +84,7 @@ fn listed_bytes(rt: HostRuntime) -> Result<(), Fail> {
     let file = plain_file(rt.alloc(), TEXT)?;
     let elf = read_elf(rt.alloc(), &file)?;
     let later = "zero 0000000000400f00 0000000000401000 rw-\nend\n";
-    let script = script_of(rt.alloc(), "0000000000400ffc", later)?;
+    let script = script_with(rt.alloc(), 0x40_0ffc, later)?;
     assert!(rt; ascend(STARTS));
     let mut runner = Runner::new(rt.alloc(), &elf, &script, STARTS)?;
     let first = runner.run(1);
@@ -100,7 +101,7 @@ fn unlisted(rt: HostRuntime) -> Result<(), Fail> {
     let file = plain_file(rt.alloc(), TEXT)?;
     let elf = read_elf(rt.alloc(), &file)?;
     let later = "bytes 0000000000500000 rw- 0102030405060708\nend\n";
-    let script = script_of(rt.alloc(), "0000000000500000", later)?;
+    let script = script_with(rt.alloc(), 0x50_0000, later)?;
     let starts: &[u32] = &[0x40_1000, 0x40_1009];
     assert!(rt; ascend(starts));
     let mut runner = Runner::new(rt.alloc(), &elf, &script, starts)?;
@@ -123,7 +124,7 @@ fn answers(rt: HostRuntime) -> Result<(), Fail> {
         mem 0000000000500000 2a\n\
         ask 0f05 -\n\
         end\n";
-    let script = script_of(rt.alloc(), "0000000000500000", later)?;
+    let script = script_with(rt.alloc(), 0x50_0000, later)?;
     let starts: &[u32] = &[0x40_1000, 0x40_1002, 0x40_1003];
     assert!(rt; ascend(starts));
     let mut runner = Runner::new(rt.alloc(), &elf, &script, starts)?;
@@ -160,7 +161,7 @@ fn meeting(rt: HostRuntime) -> Result<(), Fail> {
         ("zero 0000000000402000 0000000000402001 rw-\nend\n", None),
     ];
     for (later, expected) in cases {
-        let script = script_of(rt.alloc(), "0000000000000000", later)?;
+        let script = script_with(rt.alloc(), 0, later)?;
         let met = match Runner::new(rt.alloc(), &elf, &script, STARTS) {
             Err(RunnerError::RegionMeets { lo }) => Some(lo),
             Err(RunnerError::Memory) => Some(0),

@@ -1,9 +1,9 @@
 //! Random schedules of guests of two to four threads, against what a program that steps by the manual alone left after each.
+use crate::schedules::script_with;
 use cpu_alu::pack;
 use cpu_state::script::Script;
 use elf_read::elf::{Elf, read_elf};
 use elf_read::writing::plain_file;
-use image_step::reading::read_world;
 use start_entries::starts::ascend;
 use std::alloc::Global;
 use std::process::Abort;
@@ -18,27 +18,7 @@ const TEXT: &[u8] = &[
 ];
 
 /// The private range, the stacks, and at 0x2401005 the event of a site and a jump to the text.
-const SCRIPT: &str = "e9world 1\n\
-    rax 0000000000000000\n\
-    rcx 0000000000000000\n\
-    rdx 0000000000000000\n\
-    rbx 0000000000000000\n\
-    rsp 0000000000000000\n\
-    rbp 0000000000000000\n\
-    rsi 0000000000000000\n\
-    rdi 0000000000000000\n\
-    r8 0000000000000000\n\
-    r9 0000000000000000\n\
-    r10 0000000000000000\n\
-    r11 0000000000000000\n\
-    r12 0000000000000000\n\
-    r13 0000000000000000\n\
-    r14 0000000000000000\n\
-    r15 0000000000000000\n\
-    flags 0000000000000000\n\
-    fs 0000000000000000\n\
-    gs 0000000000000000\n\
-    zero 0000000000020000 0000000000021000 rw-\n\
+const REGIONS: &str = "zero 0000000000020000 0000000000021000 rw-\n\
     zero 0000000000500000 0000000000505000 rw-\n\
     bytes 0000000002401005 r-x 4889842478ffffff9f0f90c0f048ff042540000200047f9e488b842478ffffffe9d6fffffd\n\
     end\n";
@@ -501,7 +481,7 @@ fn scripts_of(alloc: Global, threads: usize) -> Result<Vec<Script>, Fail> {
     let mut scripts = Vec::new(alloc);
     for (k, (rax, rsp, flags)) in VALUES.iter().take(threads).enumerate() {
         let mut script = if k == 0 {
-            read_world(alloc, SCRIPT.as_bytes())?
+            script_with(alloc, *rsp, REGIONS)?
         } else {
             Script::zero(alloc)
         };

@@ -25,13 +25,7 @@ pub(crate) fn rewritten<D: Desk>(
     let Ok(file) = plain_file(alloc, text) else {
         return None;
     };
-    if !ascend(starts) {
-        return None;
-    }
-    if !ascend(sites) {
-        return None;
-    }
-    if sites.len() > 65536 {
+    if !ascend(starts) || !ascend(sites) || sites.len() > 65536 {
         return None;
     }
     Some(rewrite_threads(alloc, &file, starts, sites, &[], "O", desk))

@@ -10,17 +10,18 @@ use image_step::runner_error::RunnerError;
 use pun_base::memory_desk::MemDesk;
 use start_entries::starts::ascend;
 use std::alloc::Global;
+use std::process::Abort;
 use std::test::Fail;
 use thread_runs::runner::{ScheduleError, ThreadRunner};
 use thread_runs::starting::only_first_has_regions;
 
-/// The values of a script but for rsp, which is 0x501000.
-const VALUES: &str = "e9world 1\n\
+/// The values of a world script, all of them zero.
+const ZEROS: &str = "e9world 1\n\
     rax 0000000000000000\n\
     rcx 0000000000000000\n\
     rdx 0000000000000000\n\
     rbx 0000000000000000\n\
-    rsp 0000000000501000\n\
+    rsp 0000000000000000\n\
     rbp 0000000000000000\n\
     rsi 0000000000000000\n\
     rdi 0000000000000000\n\
@@ -36,13 +37,20 @@ const VALUES: &str = "e9world 1\n\
     fs 0000000000000000\n\
     gs 0000000000000000\n";
 
-/// The script of the first thread, with these lines behind its values.
-fn first_script(alloc: Global, later: &str) -> Result<Script, Fail> {
-    let text = format!(in alloc; "{VALUES}{later}")?;
+/// The script with this value of rsp and all others zero, and with these lines behind the values.
+pub(crate) fn script_with(alloc: Global, rsp: u64, lines: &str) -> Result<Script, Fail> {
+    let text = format!(in alloc; "{ZEROS}{lines}")?;
     if text.len() >= 100_000 {
         return Ok(Script::zero(alloc));
     }
-    Ok(read_world(alloc, text.as_bytes())?)
+    let mut script = read_world(alloc, text.as_bytes())?;
+    script.regs[4] = rsp;
+    Ok(script)
+}
+
+/// The script of the first thread, whose stack ends at 0x501000, with these lines behind its values.
+fn first_script(alloc: Global, lines: &str) -> Result<Script, Fail> {
+    script_with(alloc, 0x50_1000, lines)
 }
 
 /// That of another thread, whose stack ends here.
@@ -64,6 +72,18 @@ const PATCHED: &str = "zero 0000000000020000 0000000000021000 rw-\n\
 const STARTS: &[u32] = &[0x40_1000];
 
 /// After five steps of one thread its event has counted, after nine of the other one that has, and is left.
+fn count_twice(rt: &impl Abort, runner: &mut ThreadRunner) -> Result<(), Fail> {
+    assert_eq!(rt; runner.load(0x20040, 8).ok(), Some(0));
+    assert_eq!(rt; runner.run(&[0, 0, 0, 0, 0]), Ok(()));
+    assert_eq!(rt; runner.load(0x20040, 8).ok(), Some(1));
+    assert_eq!(rt; runner.run(&[1, 1, 1, 1, 1, 1, 1, 1, 1]), Ok(()));
+    assert_eq!(rt; runner.load(0x20040, 8).ok(), Some(2));
+    assert_eq!(rt; runner.thread(0).ok_or("no thread")?.rip, 0x240_101a);
+    assert_eq!(rt; runner.thread(1).ok_or("no thread")?.rip, 0x40_1000);
+    Ok(())
+}
+
+/// Over a file that isn't patched, with the trampoline's code beside it.
 #[test]
 fn two_threads_count(rt: HostRuntime) -> Result<(), Fail> {
     let file = plain_file(rt.alloc(), JUMP)?;
@@ -72,13 +92,7 @@ fn two_threads_count(rt: HostRuntime) -> Result<(), Fail> {
     let scripts = [first, further_script(rt.alloc(), 0x50_2000)];
     assert!(rt; ascend(STARTS) && only_first_has_regions(&scripts));
     let mut runner = ThreadRunner::new(rt.alloc(), &elf, &scripts, STARTS)?;
-    assert_eq!(rt; runner.load(0x20040, 8).ok(), Some(0));
-    assert_eq!(rt; runner.run(&[0, 0, 0, 0, 0]), Ok(()));
-    assert_eq!(rt; runner.load(0x20040, 8).ok(), Some(1));
-    assert_eq!(rt; runner.run(&[1, 1, 1, 1, 1, 1, 1, 1, 1]), Ok(()));
-    assert_eq!(rt; runner.load(0x20040, 8).ok(), Some(2));
-    assert_eq!(rt; runner.thread(0).ok_or("no thread")?.rip, 0x240_101a);
-    assert_eq!(rt; runner.thread(1).ok_or("no thread")?.rip, 0x40_1000);
+    count_twice(&rt, &mut runner)?;
     assert!(rt; runner.thread(2).is_none());
     Ok(())
 }
@@ -89,7 +103,7 @@ const SELF_JUMP: &[u8] = &[0xeb, 0xfe, 0x00, 0x00, 0x02];
 /// The stacks of both threads.
 const STACKS: &str = "zero 0000000000500000 0000000000503000 rw-\nend\n";
 
-/// The same in the file that is written for the jump to itself, with the stacks alone beside it; then an entry that names no thread.
+/// In the file that is written for the jump to itself, with the stacks alone beside it; then an entry that names no thread.
 #[test]
 fn two_threads_count_in_a_written_file(rt: HostRuntime) -> Result<(), Fail> {
     let mut desk = MemDesk::new(rt.alloc(), &[])?;
@@ -101,12 +115,7 @@ fn two_threads_count_in_a_written_file(rt: HostRuntime) -> Result<(), Fail> {
     let scripts = [first, further_script(rt.alloc(), 0x50_2000)];
     assert!(rt; ascend(STARTS) && only_first_has_regions(&scripts));
     let mut runner = ThreadRunner::new(rt.alloc(), &elf, &scripts, STARTS)?;
-    assert_eq!(rt; runner.run(&[0, 0, 0, 0, 0]), Ok(()));
-    assert_eq!(rt; runner.load(0x20040, 8).ok(), Some(1));
-    assert_eq!(rt; runner.run(&[1, 1, 1, 1, 1, 1, 1, 1, 1]), Ok(()));
-    assert_eq!(rt; runner.load(0x20040, 8).ok(), Some(2));
-    assert_eq!(rt; runner.thread(0).ok_or("no thread")?.rip, 0x240_101a);
-    assert_eq!(rt; runner.thread(1).ok_or("no thread")?.rip, 0x40_1000);
+    count_twice(&rt, &mut runner)?;
     assert_eq!(rt; runner.run(&[1, 2]), Err(ScheduleError::NoThread { at: 1 }));
     assert_eq!(rt; runner.thread(1).ok_or("no thread")?.rip, 0x240_1005);
     Ok(())

@@ -6,18 +6,4 @@
 #![tactic(auto)]
 
 #[cfg(test)]
-mod desks_and_fields;
-#[cfg(test)]
-mod free_addresses;
-#[cfg(test)]
-mod jumps;
-#[cfg(test)]
-mod locked_bytes;
-#[cfg(test)]
-mod page_groups;
-#[cfg(test)]
-mod reports;
-#[cfg(test)]
-mod search_table;
-#[cfg(test)]
-mod texts_and_words;
+mod tests;

@@ -4,14 +4,4 @@
 #![tactic(auto)]
 
 #[cfg(test)]
-mod endings;
-#[cfg(test)]
-mod fixture;
-#[cfg(test)]
-mod guests;
-#[cfg(test)]
-mod inspections;
-#[cfg(test)]
-mod long_inputs;
-#[cfg(test)]
-mod undoings;
+mod tests;

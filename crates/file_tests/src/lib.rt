@@ -5,12 +5,4 @@
 #![tactic(auto)]
 
 #[cfg(test)]
-mod elf_files;
-#[cfg(test)]
-mod emitted_files;
-#[cfg(test)]
-mod emitted_pages;
-#[cfg(test)]
-mod starts;
-#[cfg(test)]
-mod undone_files;
+mod tests;

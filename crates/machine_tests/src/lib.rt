@@ -5,12 +5,4 @@
 #![tactic(auto)]
 
 #[cfg(test)]
-mod instructions;
-#[cfg(test)]
-mod lengths;
-#[cfg(test)]
-mod opcode_rows;
-#[cfg(test)]
-mod operations;
-#[cfg(test)]
-mod states;
+mod tests;

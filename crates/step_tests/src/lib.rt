@@ -5,14 +5,4 @@
 #![tactic(auto)]
 
 #[cfg(test)]
-mod deliveries;
-#[cfg(test)]
-mod guests;
-#[cfg(test)]
-mod runs;
-#[cfg(test)]
-mod scenarios;
-#[cfg(test)]
-mod scripts;
-#[cfg(test)]
-mod steps;
+mod tests;

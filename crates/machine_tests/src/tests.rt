@@ -1,0 +1,6 @@
+//! The tests, by what they ask.
+mod instructions;
+mod lengths;
+mod opcode_rows;
+mod operations;
+mod states;

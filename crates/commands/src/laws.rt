@@ -2,7 +2,7 @@
 ghost use Rattle.commands.specs.Planned.{FrameIsReversed, PlannedIsTold, PlannedIsReversed, PlannedLoaderIsReversed, JudgedIsReversed};
 ghost use Rattle.commands.specs.Reversal.{PatchIsReversed, LoadIsReversed};
 
-/// What is written for an original can be loaded, and a report that tells it undoes it, whatever stands behind the private
+/// What is written for an original can be loaded, and a report that tells it undoes it, whatever follows the private
 /// range. The report of what was planned for a file tells it; so what is written for the plan, as a patched file or in the
 /// loader form, is undone by its report.
 pub fn planned_is_reversed()

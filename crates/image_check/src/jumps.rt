@@ -137,7 +137,7 @@ fn jump_target(addr: u64, len: u8, rel: Option<i32>) -> Option<u64>
 }
 
 /// Where the direct jump leads that stands at an address, executable and not writable.
-fn jump_at(elf: &Elf<'_>, addr: u64) -> Option<u64>
+pub fn jump_at(elf: &Elf<'_>, addr: u64) -> Option<u64>
     ensures { (t : ℕ) → (result ≡ Some t) ↔ JumpsTo (image_of elf.now.bytes) addr t }
 {
     let bytes = fixed_bytes(elf, addr);

@@ -10,7 +10,7 @@ mod code_rule;
 mod cutting;
 mod entry_rule;
 mod flat;
-mod jumps;
+pub mod jumps;
 pub mod laws;
 mod lesser;
 mod near;

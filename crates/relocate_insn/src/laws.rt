@@ -8,7 +8,7 @@ pub fn relocated_code_works()
 {}
 
 /// CALL through the memory to which it pushes, by hand: its code, and a state from which the code leads to the target, with the address
-/// behind the call on the stack.
+/// after the call on the stack.
 pub fn call_through_memory()
     ensures { CallIsRelocated }
 {}

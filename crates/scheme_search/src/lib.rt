@@ -1,4 +1,4 @@
-//! What the schemes share: a site at its turn, and the least place to which a jump at it leads, behind pads or none; what those with a
+//! What the schemes share: a site at its turn, and the least place to which a jump at it leads, after pads or none; what those with a
 //! victim share: two jumps that meet, the search over the bytes that both have in common, and victims.
 //!
 //! Stands on `start_list`, `insn_form` and `jump_form`; `scheme_pun`, `scheme_pad`, `scheme_succ` and `scheme_near` stand on it.

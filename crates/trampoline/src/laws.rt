@@ -27,7 +27,7 @@ pub fn data_is_held()
     ensures { DataIsHeld }
 {}
 
-/// The code of an event records it, whatever stands behind: the state then looks as before, and the data part has the mark.
+/// The code of an event records it, whatever follows: the state then looks as before, and the data part has the mark.
 pub fn events_are_recorded()
     ensures { EventsAreRecorded }
 {}
@@ -49,7 +49,7 @@ pub fn codes()
 {}
 
 /// The law of trampolines: the event is recorded, whether or not the instruction then has a
-/// step, and where it has one, the trampoline leads to what is seen behind that step.
+/// step, and where it has one, the trampoline leads to what is seen after that step.
 pub fn trampolines_work()
     ensures { TrampolinesWork }
 {}

@@ -1,7 +1,7 @@
 //! What undoing gives.
 ghost use Rattle.unpatch.specs.Laws.{FrameIsUndone, LeastIsTold, LengthIsTold, UndoneIsGivenBack};
 
-/// Of a file that was written for an original, whatever stands behind its private range, and of a report that tells
+/// Of a file that was written for an original, whatever follows its private range, and of a report that tells
 /// the original no refusal holds, and the file undone is the original.
 pub fn frame_is_undone()
     ensures { FrameIsUndone }

@@ -104,7 +104,7 @@ pub fn patch_of(alloc: Global, planned: Planned) -> Result<Patch, AllocError>
 impl Patch {
     /// The report of what was written of such an original. What the report doesn't need is freed
     /// before it is made.
-    pub(crate) fn into_report(
+    pub fn into_report(
         self,
         alloc: Global,
         action: Action,

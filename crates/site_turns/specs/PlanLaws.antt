@@ -28,7 +28,8 @@ use Rattle.image_check.specs.Soundness as soundness
 use Rattle.site_turns.specs.PlannedState.{PlannedState}
 use Rattle.site_turns.specs.States.{report_of}
 use Rattle.site_turns.specs.Loaded.{case_of}
-use Rattle.site_turns.specs.Planning.{Request, Turns, scene_in, end_of, AreTurns, IsPlanned}
+use Rattle.site_turns.specs.Modes.{TurnRules, event_rules}
+use Rattle.site_turns.specs.Planning.{Request, Turns, scene_in, end_of, scene_under, end_under, AreTurns, IsPlanned}
 
 -- What is asked for: a file of bytes, accepted as an original, the listed entries of its starts,
 -- and at most 65,536 sites.
@@ -101,9 +102,13 @@ PlannedIsJob =
     (q : Request) (t : Turns) (p : PlannedState) (groups : GroupsState) → IsAsked q
     → IsPlanned q t p → AreGroups p groups → length q.file < 2 ^ 63 → IsJob (job_for q p groups)
 
+-- The report of what turns by these rules have done, with the pages of the code.
+abbrev pub report_under : TurnRules → Request → Turns → GroupsState → BodyValue
+report_under r q t groups = report_of (scene_under r q t) (end_under r q t) groups.homes
+
 -- The report of what was planned, with the pages of the code.
 abbrev pub planned_report : Request → Turns → GroupsState → BodyValue
-planned_report q t groups = report_of (scene_in q t) (end_of q t) groups.homes
+planned_report q t groups = report_under (event_rules q.action) q t groups
 
 -- The case of a map that shows what was planned, beside the original and the report.
 abbrev pub shown_case : Request → Turns → PlannedState → GroupsState → Bytes → Case

@@ -1,5 +1,5 @@
 //! Scripts whose values and whose first refused lines are known from elsewhere.
-use crate::scenarios;
+use crate::tests::scenarios;
 use cpu_state::script::Script;
 use cpu_state::script_regions::RegionBody;
 use image_step::error::ScriptError;

@@ -1,4 +1,4 @@
--- What was planned for a file and written, in either form, is undone by its report. Theorems cite it.
+-- What was planned for a file and written, in either form or for threads, is undone by its report. Theorems cite it.
 use Rattle.std.specs.Prelude.{◌≡◌, ℕ, ◌^◌, ◌<◌, ◌≤◌, List, length, map, None, Ok}
 use Rattle.elf_read.specs.Refusals.{refusal}
 use Rattle.page_group.specs.Grouping.{GroupsState}
@@ -15,6 +15,8 @@ use Rattle.rewrite_core.specs.Asked.{Asked, IsInOrder}
 use Rattle.rewrite_core.specs.Judging.{Job, Judges}
 use Rattle.rewrite_core.specs.Origins.{origin_of}
 use Rattle.rewrite_core.specs.Rewrites.{file_of}
+use Rattle.guest_threads.specs.ThreadRewriting as threads
+use Rattle.guest_threads.specs.ThreadRewriting.{ThreadJob}
 use Rattle.loader_form.specs.LoaderState.{LoaderState}
 use Rattle.loader_form.specs.Laid.{loader_frame}
 use Rattle.loader_form.specs.Lay.{taken_after, run_count, IsLoader, laid_of}
@@ -59,3 +61,9 @@ PlannedLoaderIsReversed =
 abbrev pub JudgedIsReversed : Type 0
 JudgedIsReversed =
     (a : Asked) (job : Job) → IsInOrder a → length a.file < 2 ^ 63 → Judges a (Ok job) → IsReversed a.file (file_of job) job.report
+
+-- Each job for threads that an input is judged to be is undone by its report.
+abbrev pub JudgedThreadsAreReversed : Type 0
+JudgedThreadsAreReversed =
+    (a : Asked) (job : ThreadJob) → IsInOrder a → length a.file < 2 ^ 63 → threads.Judges a (Ok job)
+    → IsReversed a.file (layout job.emit) job.report

@@ -1,5 +1,5 @@
 //! Laws of files that were planned and written, and of what commands answer one after the other.
-ghost use Rattle.commands.specs.Planned.{FrameIsReversed, PlannedIsTold, PlannedIsReversed, PlannedLoaderIsReversed, JudgedIsReversed};
+ghost use Rattle.commands.specs.Planned.{FrameIsReversed, PlannedIsTold, PlannedIsReversed, PlannedLoaderIsReversed, JudgedIsReversed, JudgedThreadsAreReversed};
 ghost use Rattle.commands.specs.Reversal.{PatchIsReversed, LoadIsReversed};
 
 /// What is written for an original can be loaded, and a report that tells it undoes it, whatever follows the private
@@ -15,6 +15,11 @@ pub fn planned_is_reversed()
 /// What is written for each job that an input is judged to be is undone by its report.
 pub fn judged_is_reversed()
     ensures { JudgedIsReversed }
+{}
+
+/// So is what is written for threads.
+pub fn judged_threads_are_reversed()
+    ensures { JudgedThreadsAreReversed }
 {}
 
 /// What a patch leaves under OUT and REPORT gives FILE back, where it is within the limit of a read.

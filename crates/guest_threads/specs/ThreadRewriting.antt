@@ -1,9 +1,10 @@
--- What `rewrite_threads` answers, and what it does to the desk. Theorems cite it.
+-- What `rewrite_threads` and `rewrite_threads_reported` answer, and what they do to the desk. Theorems cite it.
 use Rattle.std.specs.Prelude.{◌≡◌, ℕ, ◌⊎◌, ◌<◌, ◌≤◌, List, map, Some, None, Result, Ok, Err}
 use Rattle.std.specs.List.{flat_map}
 use Rattle.pun_base.specs.Shown.{DeskState}
 use Rattle.pun_base.specs.Desk.{PutResult, Fills}
 use Rattle.pun_base.specs.declared.desk.PutError.TheVariants as put
+use Rattle.pun_base.specs.declared.action.Action.TheVariants.{Count}
 use Rattle.address_space.specs.declared.extent.Extent.{Extent}
 use Rattle.address_space.specs.Free.{extent_of}
 use Rattle.page_group.specs.Grouping.{GroupsState}
@@ -13,17 +14,18 @@ use Rattle.elf_read.specs.Refusals.{refusal}
 use Rattle.elf_emit.specs.Job as written
 use Rattle.elf_emit.specs.Layout.{count, layout}
 use Rattle.elf_emit.specs.declared.emit.EmitError.TheVariants as emit
-use Rattle.patch_report.specs.Values.{RowValue, row_value}
+use Rattle.patch_report.specs.Values.{RowValue, ReportValue, row_value, written as report_written}
 use Rattle.start_entries.specs.Entries.{entries_of}
 use Rattle.start_entries.specs.Refusals.{first_refusal}
 use Rattle.image_check.specs.Reports.{row_lines}
 use Rattle.site_turns.specs.Modes.{thread_rules}
 use Rattle.site_turns.specs.PlannedState.{PlannedState}
 use Rattle.site_turns.specs.Planning.{Request, Turns, IsRequestRefused, end_under}
-use Rattle.site_turns.specs.PlanLaws.{job_for, AreGroups}
+use Rattle.site_turns.specs.PlanLaws.{job_for, report_under, AreGroups}
 use Rattle.site_turns.specs.declared.error.TurnError.TheVariants as turn
 use Rattle.rewrite_core.specs.Asked.{Asked, IsInOrder, request_of}
 use Rattle.rewrite_core.specs.Judging.{HasStarts}
+use Rattle.rewrite_core.specs.Origins.{origin_of}
 use Rattle.guest_threads.specs.declared.rewriting.ThreadError.{ThreadError}
 use Rattle.guest_threads.specs.declared.rewriting.ThreadError.TheVariants as threads
 use Rattle.guest_threads.specs.declared.rewriting.ThreadReport.{ThreadReport}
@@ -33,11 +35,23 @@ use Rattle.thread_runs.specs.TheoremWithDeliveries.{AreFollowedWith, GetOutWith}
 use Rattle.thread_runs.specs.Threading.{Threading, IsThreadSound}
 use Rattle.guest_threads.specs.ThreadPlanning.{IsThreadPlanned}
 
--- A job: what is to be written, the private range, and a row for each site in turn order.
+-- A job: what is to be written, the private range, a row for each site in turn order, and the
+-- report of what is written.
 pub record ThreadJob : Type 0 where
   pub emit : written.Job
   pub private : Extent
   pub rows : List RowValue
+  pub report : ReportValue
+
+-- The job of what was planned, with these groups of pages. Its report tells the private range, the
+-- rows, the pages of the code, and what the original was.
+abbrev pub job_of : Request → Turns → PlannedState → GroupsState → ThreadJob
+job_of q turns planned groups = record {
+  emit = job_for q planned groups;
+  private = turns.private;
+  rows = (end_under thread_rules q turns).rows;
+  report = report_written (report_under thread_rules q turns groups) (origin_of q.file);
+}
 
 -- A job is the one of what the turns for threads give for a request, with the groups of the planned
 -- code.
@@ -47,11 +61,7 @@ pub record IsThreadJobFor (q : Request) (j : ThreadJob) : Type 0 where
   pub groups : GroupsState
   pub is_planned : IsThreadPlanned q turns planned
   pub are_groups : AreGroups planned groups
-  pub is : j ≡ record {
-    emit = job_for q planned groups;
-    private = turns.private;
-    rows = (end_under thread_rules q turns).rows;
-  }
+  pub is : j ≡ job_of q turns planned groups
 
 -- The table of the written file would need this many entries, more than 1,024.
 pub record NeedsTooMany (q : Request) (n : ℕ) : Type 0 where
@@ -134,3 +144,20 @@ RewritesThreads a name s t (Ok report) = HasJob a (IsRewritten a name s t report
 RewritesThreads a name s t (Err (threads.Emit emit.WriteFault)) = IsCutOff a name s t (Err put.Failed)
 RewritesThreads a name s t (Err threads.Memory) = (t ≡ s) ⊎ IsCutOff a name s t (Err put.Memory)
 RewritesThreads a name s t (Err refusal) = Judges a (Err refusal) × (t ≡ s)
+
+-- The answer is the report of a job, and the name holds the job's file, which follows the original.
+pub record IsReported (a : Asked) (name : List ℕ) (s t : DeskState) (report : ReportValue)
+    (j : ThreadJob) : Type 0 where
+  pub report_is : report ≡ j.report
+  -- it tells that each event counts, and the job's private range and rows
+  pub action_is : report.body.action ≡ Count
+  pub private_is : report.body.private ≡ (j.private.lo, j.private.hi)
+  pub rows_are : report.body.rows ≡ j.rows
+  pub holds : Fills name (layout j.emit) s t (Ok tt)
+  pub followed : IsFollowedInThreads a.file a.starts (layout j.emit) j.private j.rows
+
+-- What each answer of `rewrite_threads_reported` says: a report tells what was written, and an error
+-- says what it says of `rewrite_threads`.
+abbrev pub ReportsThreads : Asked → List ℕ → DeskState → DeskState → Result ReportValue ThreadError → Type 0
+ReportsThreads a name s t (Ok report) = HasJob a (IsReported a name s t report)
+ReportsThreads a name s t (Err error) = RewritesThreads a name s t (Err error)

@@ -6,7 +6,7 @@ use Rattle.address_space.specs.declared.extent.Extent.{Extent}
 use Rattle.elf_read.specs.Plain.{plain_file}
 use Rattle.elf_emit.specs.Layout.{layout}
 use Rattle.insn_form.specs.Instruction.{insn_of}
-use Rattle.patch_report.specs.Values.{RowValue, patched}
+use Rattle.patch_report.specs.Values.{RowValue, patched, written}
 use Rattle.trampoline.specs.Worked.{jump_to_itself}
 use Rattle.start_entries.specs.declared.entry.StartEntry.{StartEntry}
 use Rattle.rewrite_core.specs.Asked.{Asked}
@@ -72,6 +72,12 @@ row_job = record {
   };
   private = row_private;
   rows = row_value ∷ [];
+  report = written (record {
+    action = Count;
+    private = (0x20000, 0x21000);
+    rows = row_value ∷ [];
+    pages = (0x2401000, 0) ∷ [];
+  }) (record { len = 4101; phoff = 64; phnum = 1; entry = 0x401000 });
 }
 
 -- the file that is written for the row

@@ -1,20 +1,24 @@
 //! The rewriting of a file for a guest of several threads.
-ghost use Rattle.std.specs.Prelude.{◌≡◌, ◌≤◌, None, length};
+ghost use Rattle.std.specs.Prelude.{◌≡◌, ℕ, ◌^◌, ◌<◌, ◌≤◌, None, length, slice_index};
 ghost use Rattle.std.specs.List.Sorted.{IsStrictlyIncreasing};
 ghost use Rattle.pun_base.specs.Desk.{Stays};
 ghost use Rattle.pun_base.specs.declared.action.Action.TheVariants.{Count};
 ghost use Rattle.pun_base.specs.Limits.{most_sites};
+ghost use Rattle.elf_read.specs.Refusals.{refusal};
 ghost use Rattle.rewrite_core.specs.Asked.{Asked};
-ghost use Rattle.guest_threads.specs.ThreadCalls.{IsPlannedFor, WasPlanned};
-ghost use Rattle.guest_threads.specs.ThreadRewriting.{RewritesThreads};
+ghost use Rattle.guest_threads.specs.ThreadCalls.{IsPlannedFor, WasPlanned, WritesThreads};
+ghost use Rattle.guest_threads.specs.ThreadRewriting.{RewritesThreads, ReportsThreads};
 
 use crate::planning::plan_threads;
 use crate::report_rows::ReportRows;
 use elf_emit::emit::{EmitError, emit};
 use elf_read::elf::{Elf, read_elf};
 use elf_read::refusal::ElfError;
+use patch_report::report::Report;
+use pun_base::action::Action;
 use pun_base::desk::Desk;
 use pun_base::range::Range;
+use rewrite_core::original::origin_of;
 use rewrite_core::patching::{Patch, patch_of};
 use site_turns::error::TurnError;
 use site_turns::planned::Planned;
@@ -112,18 +116,18 @@ impl From<AllocError> for ThreadError {
     }
 }
 
-/// Writes the file of what was planned, and answers what was patched.
+/// Writes the file of what was planned, and answers its patch.
 fn write_planned<D: Desk>(
     alloc: Global,
     elf: &Elf<'_>,
     planned: Planned,
     name: &str,
     desk: &mut D,
-) -> Result<ThreadReport, ThreadError>
+) -> Result<Patch, ThreadError>
     requires planned { WasPlanned elf.now.bytes planned }
     requires nothing { (D.seen desk.old).writing ≡ None }
     ensures writes { (a : Asked) → IsPlannedFor elf.now.bytes planned a
-        → RewritesThreads a name.now (D.seen desk.old) (D.seen desk.new) result }
+        → WritesThreads a name.now (D.seen desk.old) (D.seen desk.new) result }
     ensures stays { Stays (D.seen desk.old) (D.seen desk.new) }
 {
     let patch = patch_of(alloc, planned)?;
@@ -137,17 +141,40 @@ fn write_planned<D: Desk>(
         name,
         desk,
     )?;
-    let Patch {
-        private,
-        rows,
-        built: _,
-        writes: _,
-        groups: _,
-    } = patch;
-    Ok(ThreadReport {
-        private,
-        rows: ReportRows::new(rows),
-    })
+    Ok(patch)
+}
+
+/// Builds the starts of a file that was read, plans each site, writes the file of the plan, and
+/// answers its patch.
+fn write_threads<D: Desk>(
+    alloc: Global,
+    elf: &Elf<'_>,
+    starts: &[u32],
+    sites: &[u32],
+    reserves: &[Range],
+    name: &str,
+    desk: &mut D,
+) -> Result<Patch, ThreadError>
+    requires bytes { (k : ℕ) → slice_index elf.now.bytes k < 256 }
+    requires size { length elf.now.bytes < 2 ^ 63 }
+    requires accepted { refusal 0x20000 elf.now.bytes ≡ None }
+    requires starts_ascend { IsStrictlyIncreasing starts.now }
+    requires sites_ascend { IsStrictlyIncreasing sites.now }
+    requires few_sites { length sites.now ≤ most_sites }
+    requires nothing { (D.seen desk.old).writing ≡ None }
+    ensures writes { WritesThreads (record {
+      file = elf.now.bytes;
+      starts = starts.now;
+      sites = sites.now;
+      action = Count;
+      reserves = reserves.now;
+    }) name.now (D.seen desk.old) (D.seen desk.new) result }
+    ensures stays { Stays (D.seen desk.old) (D.seen desk.new) }
+{
+    let listed = Starts::build(alloc, elf, starts)?;
+    let planned = plan_threads(alloc, elf, &listed, sites, reserves)?;
+    drop(listed);
+    write_planned(alloc, elf, planned, name, desk)
 }
 
 /// Writes the file that is patched for a guest of several threads under a name, in pieces of 4,096
@@ -178,8 +205,58 @@ pub fn rewrite_threads<D: Desk>(
     ensures stays { Stays (D.seen desk.old) (D.seen desk.new) }
 {
     let elf = read_elf(alloc, file)?;
-    let listed = Starts::build(alloc, &elf, starts)?;
-    let planned = plan_threads(alloc, &elf, &listed, sites, reserves)?;
-    drop(listed);
-    write_planned(alloc, &elf, planned, name, desk)
+    match write_threads(alloc, &elf, starts, sites, reserves, name, desk) {
+        Ok(patch) => {
+            let Patch {
+                private,
+                rows,
+                built: _,
+                writes: _,
+                groups: _,
+            } = patch;
+            Ok(ThreadReport {
+                private,
+                rows: ReportRows::new(rows),
+            })
+        }
+        Err(error) => Err(error),
+    }
+}
+
+/// Writes what `rewrite_threads` writes, and returns a report of version 2 that undoes the patch.
+/// After want of memory for the report the file stands under the name.
+///
+/// `file` is the original, `starts` and `sites` are addresses in ascending order, and no new code
+/// stands in the reserved ranges.
+pub fn rewrite_threads_reported<D: Desk>(
+    alloc: Global,
+    file: &[u8],
+    starts: &[u32],
+    sites: &[u32],
+    reserves: &[Range],
+    name: &str,
+    desk: &mut D,
+) -> Result<Report, ThreadError>
+    requires starts_ascend { IsStrictlyIncreasing starts.now }
+    requires sites_ascend { IsStrictlyIncreasing sites.now }
+    requires few_sites { length sites.now ≤ most_sites }
+    requires nothing { (D.seen desk.old).writing ≡ None }
+    ensures rewrites { ReportsThreads (record {
+      file = file.now;
+      starts = starts.now;
+      sites = sites.now;
+      action = Count;
+      reserves = reserves.now;
+    }) name.now (D.seen desk.old) (D.seen desk.new) result }
+    ensures stays { Stays (D.seen desk.old) (D.seen desk.new) }
+{
+    let elf = read_elf(alloc, file)?;
+    match write_threads(alloc, &elf, starts, sites, reserves, name, desk) {
+        Ok(patch) => {
+            let origin = origin_of(&elf);
+            let report = patch.into_report(alloc, Action::Count, origin)?;
+            Ok(report)
+        }
+        Err(error) => Err(error),
+    }
 }

@@ -1,27 +1,28 @@
--- What was planned is what a report tells, with any pages that ascend.
+-- What turns have done is what a report tells, with any pages that ascend.
 use Rattle.std.proofs.Common.{◌≡◌, ℕ, ◌%◌, ◌^◌, ◌<◌, ◌≤◌, true, not, ◌&&◌, eqb, leb, ltb, List, [], ◌∷◌, ◌++◌, length, drop, refl, sym, ap, subst, append_assoc, ne_eqb, arith}
 use Rattle.std.specs.List.{AllByRecursion, flat_map}
 use Rattle.std.proofs.lemmas.Bool.{and_from, eq-eqb, le-leb, lt-ltb}
 use Rattle.pun_base.proofs.PrivateLengths.{has_front}
 use Rattle.pun_base.specs.declared.action.Action.{Action}
+use Rattle.pun_base.specs.Actions.{IsAction}
 use Rattle.pun_base.specs.declared.scheme.Scheme.{Scheme}
 use Rattle.pun_base.specs.Limits.{most_sites}
 use Rattle.cpu_state.specs.Bytes.{byte_of}
 use Rattle.elf_emit.proofs.WrittenTable.{all_append}
 use Rattle.patch_report.specs.Values.{BodyValue, RowValue, OutcomeValue, patched, left, Immovable, Unplanned, Shared}
 use Rattle.patch_report.specs.declared.origin.Version.TheVariants.{Two}
-use Rattle.patch_report.specs.Grammar.{IsLine, OutcomeCounts, RowCounts, CountsDown, is_new, SitesApart, high_end, tramp_count}
+use Rattle.patch_report.specs.Grammar.{IsBody, IsLine, OutcomeCounts, RowCounts, CountsDown, is_new, SitesApart, AscendFrom, high_end, tramp_count}
 use Rattle.patch_report.specs.Spelling.{outcome_lines, row_lines, body_lines}
 use Rattle.start_entries.specs.declared.entry.StartEntry.{StartEntry}
 use Rattle.start_entries.specs.Standing.{AreEntries}
-use Rattle.site_turns.specs.States.{Scene, State, view_at}
+use Rattle.site_turns.specs.States.{Scene, State, view_at, report_of}
 use Rattle.site_turns.specs.Choices.{Choice, Apply, Left, IsTurns, after}
 use Rattle.site_turns.specs.Folded.{Descend}
-use Rattle.site_turns.specs.Modes.{event_rules}
-use Rattle.site_turns.specs.Laws.{five, SchemeLeads, AreSites, rows_of}
+use Rattle.site_turns.specs.Modes.{TurnRules, event_rules}
+use Rattle.site_turns.specs.Laws.{SchemeLeads, AreSites, rows_of}
 use Rattle.site_turns.specs.PrivateRange.{HasRoom}
-use Rattle.site_turns.specs.Planning.{HasFewRuns, scene_in, end_of, taken_at_first}
-use Rattle.site_turns.specs.PlanLaws.{IsReportPage, PlannedIsReport}
+use Rattle.site_turns.specs.Planning.{Request, Turns, HasFewRuns, AreTurnsUnder, scene_under, end_under, taken_at_first}
+use Rattle.site_turns.specs.PlanLaws.{IsAsked, IsReportPage, PlannedIsReport}
 use Rattle.site_turns.proofs.PrivateRoom.{private_has_room}
 use Rattle.site_turns.proofs.PlansWithOneJump.{entry_listed}
 use Rattle.site_turns.proofs.TurnFold.{first_of, turns_tell}
@@ -139,17 +140,19 @@ all_counted : (rows : List RowValue) → AllByRecursion IsRowGood rows → AllBy
 all_counted [] h f = tt
 all_counted (r ∷ rs) h f = (counted r.outcome h.0.plan f.0, all_counted rs h.1 f.1)
 
--- what was planned is what a report tells, with any pages that ascend
-pub planned_is_report : PlannedIsReport
-planned_is_report q t p pages a b h P asc =
-    let g = scene_in q t in
-    let rows = (end_of q t).rows in
-    let turns = h.turns.turns in
-    let tell = turns_tell g five t.entries t.choices turns.turns in
+-- what turns by rules whose schemes lead have done is what a report tells, where each row has few runs
+pub turned_is_report : (r : TurnRules) → AllByRecursion SchemeLeads r.schemes → (q : Request) (t : Turns) (pages : List (ℕ × ℕ)) → IsAsked q
+    → IsAction q.action → AreTurnsUnder r q t → AllByRecursion (λ (x : RowValue). HasFewRuns x.outcome) (end_under r q t).rows
+    → AllByRecursion IsReportPage pages → AscendFrom 0 pages → IsBody Two (report_of (scene_under r q t) (end_under r q t) pages)
+turned_is_report r lead q t pages a b h runs P asc =
+    let g = scene_under r q t in
+    let rows = (end_under r q t).rows in
+    let turns = h.turns in
+    let tell = turns_tell g r.schemes t.entries t.choices turns.turns in
     let good : AllByRecursion IsRowGood rows = subst (AllByRecursion IsRowGood) (sym tell.0)
-    (rows_good g (entries_are q a) (image_small q a) five five_lead _ t.entries t.choices turns.sites turns.turns) in
+    (rows_good g (entries_are q a) (image_small q a) r.schemes lead _ t.entries t.choices turns.sites turns.turns) in
     let numbers : CountsDown rows = subst CountsDown (sym tell.0) tell.1 in
-    let few : length rows ≤ most_sites = (let e = rows_long (event_rules q.action) q t h.turns in let f = a.few in omega (arith, e, f)) in
+    let few : length rows ≤ most_sites = (let e = rows_long r q t h in let f = a.few in omega (arith, e, f)) in
     let room : HasRoom (taken_at_first q) q.action (length t.entries) t.private =
     private_has_room (taken_at_first q) q.action (length t.entries) t.private turns.private in
     let lo = t.private.lo in
@@ -177,8 +180,12 @@ planned_is_report q t p pages a b h P asc =
           ),
         ),
       );
-      plans = all_counted rows good h.few;
+      plans = all_counted rows good runs;
       numbers = numbers;
-      sites = apart_from [] rows (folded (event_rules q.action) q t h.turns five_lead (entries_are q a)).descend (above_none rows);
+      sites = apart_from [] rows (folded r q t h lead (entries_are q a)).descend (above_none rows);
       pages = asc;
     }
+
+-- what was planned is what a report tells, with any pages that ascend
+pub planned_is_report : PlannedIsReport
+planned_is_report q t p pages a b h P asc = turned_is_report (event_rules q.action) five_lead q t pages a b h.turns h.few P asc

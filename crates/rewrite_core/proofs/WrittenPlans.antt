@@ -6,7 +6,7 @@ use Rattle.page_group.specs.Pages.{AreDisjoint}
 use Rattle.page_group.specs.Grouping.{GroupsState, group_count}
 use Rattle.elf_emit.specs.Job.{BytesAt}
 use Rattle.elf_emit.specs.Layout.{count, layout}
-use Rattle.elf_emit.specs.Laws.{PairsByRecursion, PagesApart, IsPage}
+use Rattle.elf_emit.specs.Laws.{PairsByRecursion, PagesApart, IsPage, IsJob}
 use Rattle.elf_emit.specs.Emits.{page_of_home, pages_of}
 use Rattle.elf_emit.proofs.JobConditions.{CanEmit}
 use Rattle.patch_report.specs.declared.origin.Version.TheVariants.{Two}
@@ -50,6 +50,14 @@ none_below : (homes : List (ℕ × ℕ)) → AllByRecursion (λ (x : ℕ × ℕ)
 none_below [] = tt
 none_below (x ∷ xs) = (omega arith, none_below xs)
 
+-- the pages of a job's groups are pages that a report tells, and ascend
+pub job_pages : (q : Request) (p : PlannedState) (groups : GroupsState) → IsJob (job_for q p groups)
+    → AllByRecursion IsReportPage groups.homes × AscendFrom 0 groups.homes
+job_pages q p groups j = (
+  told_pages p.private.lo p.private.hi (group_count groups.homes) groups.homes j.few_groups j.pages,
+  ascending (job_for q p groups).pieces 0 groups.homes (none_below groups.homes) j.pages_apart,
+)
+
 -- what can be written of a file meets what `emit` asks
 pub emit_asked : (q : Request) (p : PlannedState) (groups : GroupsState) → length q.file < 2 ^ 63 → IsAsked q → CanBeWritten q p → AreGroups p groups
     → CanEmit q.file (writes_of p.rows) p.built groups p.private.lo p.private.hi
@@ -83,11 +91,8 @@ module _ (q : Request) (t : Turns) (p : PlannedState) (size : length q.file < 2 
   pub is_report : (groups : GroupsState) → IsAction q.action → AreGroups p groups
       → IsBody Two (body_of q.action p.private p.rows groups.homes)
   is_report groups action g =
-      let j = planned_is_job q t p groups asked planned g size in
-      subst (IsBody Two) (sym (report_is groups))
-      (planned_is_report q t p groups.homes asked action planned
-      (told_pages p.private.lo p.private.hi (group_count groups.homes) groups.homes j.few_groups j.pages)
-      (ascending (job_for q p groups).pieces 0 groups.homes (none_below groups.homes) j.pages_apart))
+      let pages = job_pages q p groups (planned_is_job q t p groups asked planned g size) in
+      subst (IsBody Two) (sym (report_is groups)) (planned_is_report q t p groups.homes asked action planned pages.0 pages.1)
 
   -- the code of what was planned can be grouped
   pub patchable : IsPatchable p

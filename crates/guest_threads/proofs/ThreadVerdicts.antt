@@ -12,7 +12,7 @@ use Rattle.start_entries.specs.declared.refusal.StartError.{StartError}
 use Rattle.start_entries.specs.Refusals.{first_refusal}
 use Rattle.address_space.specs.declared.extent.Extent.{Extent}
 use Rattle.address_space.specs.Free.{extent_of}
-use Rattle.patch_report.specs.Values.{RowValue}
+use Rattle.patch_report.specs.Values.{RowValue, written as report_written}
 use Rattle.pun_base.specs.Least.{Least}
 use Rattle.address_space.specs.Fit.{FitsPages}
 use Rattle.image_check.specs.Reports.{Line, row_lines}
@@ -20,29 +20,26 @@ use Rattle.site_turns.specs.declared.error.TurnError.TheVariants as turn
 use Rattle.site_turns.specs.Modes.{thread_rules}
 use Rattle.site_turns.specs.PlannedState.{PlannedState}
 use Rattle.site_turns.specs.Planning.{Request, Turns, AreCodesBy, first_unlisted, taken_at_first, private_pages, end_under}
-use Rattle.site_turns.specs.PlanLaws.{IsAsked, AreGroups, job_for}
+use Rattle.site_turns.specs.PlanLaws.{IsAsked, AreGroups, report_under}
 use Rattle.site_turns.proofs.PlannedCodes.{codes_one}
 use Rattle.site_turns.proofs.CourseOfTurns.{turns_same}
 use Rattle.site_turns.proofs.CodeSizes.{one_standing}
 use Rattle.rewrite_core.specs.Asked.{Asked, IsInOrder, request_of}
 use Rattle.rewrite_core.specs.Judging.{HasStarts}
+use Rattle.rewrite_core.specs.Origins.{origin_of}
 use Rattle.rewrite_core.proofs.OneVerdict.{asked_of, all_listed, has_private}
 use Rattle.rewrite_core.proofs.OneJob.{written_once}
 use Rattle.guest_threads.specs.declared.rewriting.ThreadError.{ThreadError}
 use Rattle.guest_threads.specs.declared.rewriting.ThreadError.TheVariants as threads
 use Rattle.thread_runs.specs.ThreadCode.{thread_code}
 use Rattle.guest_threads.specs.ThreadPlanning.{HasThreadCode, IsThreadPlanned}
-use Rattle.guest_threads.specs.ThreadRewriting.{ThreadJob, IsThreadJobFor, Judges, JudgedOnce}
+use Rattle.guest_threads.specs.ThreadRewriting.{ThreadJob, job_of, IsThreadJobFor, Judges, JudgedOnce}
 
 -- a trampoline has one code
 one_code : (q : Request) (p : ℕ) (l : Line) (x y : List ℕ) → HasThreadCode (image_of q.file) p l x → HasThreadCode (image_of q.file) p l y → x ≡ y
 one_code q p l x y h k =
     let same : h.fields ≡ k.fields = one_standing (image_of q.file) l.tramp.start h.fields k.fields h.spelled k.spelled h.stands k.stands in
     h.is ∙ ap (λ f. thread_code p l.number f (l.tramp.start + length (spelling f)) l.tramp.place) same ∙ sym k.is
-
--- the job of what was planned
-abbrev job_of : Request → Turns → PlannedState → GroupsState → ThreadJob
-job_of q t p groups = record { emit = job_for q p groups; private = t.private; rows = (end_under thread_rules q t).rows }
 
 -- what was planned twice is one job
 planned_once : (q : Request) (t u : Turns) (p r : PlannedState) (g h : GroupsState) → IsAsked q → IsThreadPlanned q t p → IsThreadPlanned q u r
@@ -63,6 +60,7 @@ planned_once q t u p r g h asked x y a b =
       emit = same.0 i;
       private = (turns i).private;
       rows = (end_under thread_rules q (turns i)).rows;
+      report = report_written (report_under thread_rules q (turns i) (same.1 i)) (origin_of q.file);
     }
 
 -- a request has one job at most

@@ -20,14 +20,14 @@ use Rattle.insn_form.specs.Classes.{template}
 use Rattle.insn_form.specs.Filling.{filled}
 use Rattle.insn_form.specs.Moved.{rel_bytes}
 use Rattle.elf_read.specs.declared.segment.Segment.{Segment}
-use Rattle.elf_read.specs.Entries.{segments, loads, spelled, table_place, table_count}
+use Rattle.elf_read.specs.Entries.{segments, loads, spelled, table_place, table_count, entry_of}
 use Rattle.elf_read.specs.Code.{is_exec_in, code_from, code_of, window}
 use Rattle.elf_read.specs.Image.{image_of}
 use Rattle.elf_read.specs.Plain.{header, text_segment, plain_front, text_image, IsText}
 use Rattle.elf_read.specs.Refusals.{header_rules, header_refusal, entry_refusal, refusal}
 use Rattle.elf_read.proofs.AcceptedFiles.{or_none, none_broken}
 use Rattle.elf_read.proofs.PlainFronts.{plain_file_parts, length-plain_front}
-use Rattle.elf_read.proofs.PlainImages.{segments-plain_file, plain_image}
+use Rattle.elf_read.proofs.PlainImages.{segments-plain_file, plain_image, plain_entry}
 use Rattle.elf_emit.specs.Layout.{count}
 use Rattle.elf_emit.specs.Frames as frames
 use Rattle.elf_emit.specs.Laws.{IsJob, Loads}
@@ -38,6 +38,8 @@ use Rattle.page_group.specs.Grouping.{GroupsState, IsGrouping, group_of}
 use Rattle.page_group.specs.Pages.{holds, MeetsPage}
 use Rattle.patch_report.proofs.ListPlaces.{some_is}
 use Rattle.patch_report.proofs.ByteLists.{bytes_append, bytes_all, bytes_zeros}
+use Rattle.patch_report.specs.declared.origin.Origin.{Origin}
+use Rattle.patch_report.specs.Values.{written}
 use Rattle.trampoline.specs.Worked.{jump_to_itself}
 use Rattle.start_entries.specs.declared.entry.StartEntry.{StartEntry}
 use Rattle.start_entries.specs.declared.refusal.StartError.TheVariants.{NotExecutable}
@@ -64,9 +66,10 @@ use Rattle.site_turns.specs.States.{Scene, view_at, first_state}
 use Rattle.site_turns.proofs.RequestScene.{entries_are}
 use Rattle.site_turns.proofs.PlannedJobs.{writing_is_job}
 use Rattle.rewrite_core.specs.Asked.{request_of}
+use Rattle.rewrite_core.specs.Origins.{origin_of}
 use Rattle.thread_runs.specs.ThreadCode.{thread_code}
 use Rattle.guest_threads.specs.ThreadPlanning.{IsThreadPlanned}
-use Rattle.guest_threads.specs.ThreadRewriting.{IsFollowedInThreads}
+use Rattle.guest_threads.specs.ThreadRewriting.{job_of, IsFollowedInThreads}
 use Rattle.guest_threads.specs.WorkedFile.{row_text, row_file, row_starts, row_asked, row_entry, row_private, row_value, row_code, row_job, row_written, RowIsThreaded}
 use Rattle.guest_threads.proofs.ThreadPlans.{writable, threaded}
 
@@ -123,6 +126,29 @@ accepted =
     let table : entry_refusal 0x20000 (length row_file) (segments row_file) ≡ None =
     (λ i. entry_refusal 0x20000 (file_long i) (segments_are i)) ∙ entries_kept in
     or_none (header_refusal row_file) (entry_refusal 0x20000 (length row_file) (segments row_file)) head table
+
+-- the header says that the table stands at 64
+place_in : (rest : List ℕ) → table_place (header 64 1 ++ rest) ≡ 64
+unfolding header table_place
+place_in rest = refl
+
+-- the header says that the table has one entry
+count_in : (rest : List ℕ) → table_count (header 64 1 ++ rest) ≡ 1
+unfolding header table_count
+count_in rest = refl
+
+-- the row's file as the original that its report tells
+abbrev origin : Origin
+origin = record { len = 4101; phoff = 64; phnum = 1; entry = 0x401000 }
+
+-- its numbers are those of the row's file
+origin_is : origin ≡ origin_of row_file
+origin_is =
+    let rest : List ℕ = spelled (text_segment 5) ++ (replicate 3976 0 ++ row_text) in
+    let place : table_place row_file ≡ 64 = ap table_place (plain_file_parts 5 row_text) ∙ place_in rest in
+    let number : table_count row_file ≡ 1 = ap table_count (plain_file_parts 5 row_text) ∙ count_in rest in
+    let entry : entry_of row_file ≡ 0x401000 = plain_entry row_text in
+    λ i. record { len = sym file_long i; phoff = sym place i; phnum = sym number i; entry = sym entry i }
 
 -- the row's text is a text of a plain file
 is_text : IsText row_text
@@ -390,6 +416,15 @@ one_group = record {
 are_groups : AreGroups planned groups
 are_groups = (refl, one_group)
 
+-- the row's job is that of what was planned
+job_same : row_job ≡ job_of q turns planned groups
+job_same = λ i. record {
+  emit = row_job.emit;
+  private = row_private;
+  rows = row_value ∷ [];
+  report = written row_job.report.body (origin_is i);
+}
+
 -- the row's request can be asked
 asked_is : IsAsked q
 asked_is = record { bytes = file_bytes; accepted = accepted; built = built; few = omega arith }
@@ -427,7 +462,7 @@ pub row_is_threaded : RowIsThreaded
 row_is_threaded = record {
   judged = (
     record { accepted = accepted; none = none_refused },
-    record { is_job = record { turns = turns; planned = planned; groups = groups; is_planned = planned_is; are_groups = are_groups; is = refl }; few = table_fits },
+    record { is_job = record { turns = turns; planned = planned; groups = groups; is_planned = planned_is; are_groups = are_groups; is = job_same }; few = table_fits },
   );
   followed = followed;
 }

@@ -1,7 +1,6 @@
-use Rattle.std.proofs.Common.{refl}
 use Rattle.rewrite_core.proofs.PlannedCalls.{by_error}
 use Rattle.guest_threads.specs.ThreadCauses.{emit_error}
-use Rattle.guest_threads.specs.ThreadRewriting.{RewritesThreads}
+use Rattle.guest_threads.specs.ThreadCalls.{WritesThreads}
 use Rattle.guest_threads.proofs.RewriteAnswers.{may_patch, can_emit_planned, unwritten, written_as_planned}
 use Rattle.guest_threads.proofs.rewriting.write_planned.Goals as goal
 
@@ -26,11 +25,10 @@ emit-requires-clause-nothing_there g c =
 
 pub returns-in_err-emit-clause-writes : goal.returns-in_err-emit-clause-writes
 returns-in_err-emit-clause-writes g c a f =
-    by_error (RewritesThreads a c.args.name.now _ _) _ (emit_error c.in_err-emit.field-0.0) c.from_residual-in_err-emit.ensures.1
+    by_error (WritesThreads a c.args.name.now _ _) _ (emit_error c.in_err-emit.field-0.0) c.from_residual-in_err-emit.ensures.1
     (unwritten _ _ _ c.in_ok-patch.ensures a f _ _ c.deref.ensures.value c.deref-2.ensures.value c.args.name.now _ _ c.in_err-emit.field-0.0
     c.in_err-emit.ensures.emits)
 
 pub returns-clause-writes : goal.returns-clause-writes
 returns-clause-writes g c a f =
     written_as_planned _ _ _ c.in_ok-patch.ensures a f _ _ c.deref.ensures.value c.deref-2.ensures.value c.args.name.now _ _ c.in_ok-emit.ensures.emits
-    _ refl c.new.ensures

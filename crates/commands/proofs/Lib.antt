@@ -2,6 +2,7 @@ pub mod PatchRuns
 pub mod LoadRuns
 pub mod ThreadsRuns
 pub mod ReversedPlans
+pub mod ReversedThreads
 pub mod PatchReversal
 pub mod LoadReversal
 pub mod InspectingRuns

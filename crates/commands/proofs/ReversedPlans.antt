@@ -13,28 +13,30 @@ use Rattle.elf_emit.proofs.PageRuns.{job_frame}
 use Rattle.elf_emit.proofs.FrameAcceptance.{frame_loads}
 use Rattle.elf_emit.specs.FrameLaws.{PairsByRecursion}
 use Rattle.elf_emit.proofs.StayingSegments.{all_map, all_both, or_false}
-use Rattle.patch_report.specs.Values.{WriteValue, RowValue, write_value}
+use Rattle.patch_report.specs.Values.{WriteValue, RowValue, write_value, row_value, written}
 use Rattle.patch_report.specs.Runs.{runs, runs_of, in_run}
 use Rattle.image_check.specs.Rules.{holds_byte}
 use Rattle.image_check.proofs.CountedElements.{count_cons, by_count}
 use Rattle.site_turns.specs.States.{Scene}
 use Rattle.site_turns.specs.Folded.{Done, Tells as TellsAt, done_by}
 use Rattle.site_turns.specs.PlannedState.{PlannedState}
-use Rattle.site_turns.specs.Modes.{event_rules}
-use Rattle.site_turns.specs.Planning.{Request, Turns, IsPlanned, scene_in, end_of}
-use Rattle.site_turns.specs.PlanLaws.{job_for, writes_of, planned_report}
+use Rattle.site_turns.specs.Laws.{SchemeLeads}
+use Rattle.site_turns.specs.Modes.{TurnRules, event_rules}
+use Rattle.site_turns.specs.Planning.{Request, Turns, AreTurnsUnder, IsPlanned, scene_under, end_under}
+use Rattle.site_turns.specs.PlanLaws.{IsAsked, job_for, writes_of, report_under, planned_report}
 use Rattle.site_turns.proofs.LoadedJobs.{five_lead}
 use Rattle.site_turns.proofs.RequestScene.{entries_are, folded}
 use Rattle.site_turns.proofs.PlannedJobs.{runs_are, planned_is_job}
 use Rattle.rewrite_core.specs.Asked.{request_of}
 use Rattle.rewrite_core.specs.Judging.{Job}
+use Rattle.rewrite_core.specs.Origins.{origin_of}
 use Rattle.rewrite_core.specs.Rewrites.{file_of}
 use Rattle.rewrite_core.proofs.OneVerdict.{asked_of}
 use Rattle.loader_form.specs.Laid.{loader_frame}
 use Rattle.loader_form.proofs.LaidFile.{laid_frame}
 use Rattle.loader_form.specs.Lay.{laid_of}
 use Rattle.loader_form.proofs.LaidPages.{laid_for}
-use Rattle.unpatch.specs.Laws.{written_of, IsOver, RunsApart}
+use Rattle.unpatch.specs.Laws.{written_of, IsOver, RunsApart, Tells}
 use Rattle.commands.specs.Planned.{report_for, IsReversed, FrameIsReversed, PlannedIsTold, PlannedIsReversed, PlannedLoaderIsReversed, JudgedIsReversed}
 use Rattle.unpatch.proofs.UndoneFiles.{frame_is_undone}
 
@@ -43,12 +45,17 @@ patches_are : (ws : List Write) → map views.patch_of ws ≡ map written_of (ma
 patches_are [] = refl
 patches_are (w ∷ ws) = ap (λ (ps : List BytesAt). views.patch_of w ∷ ps) (patches_are ws)
 
+-- the report of what turns by any rules have done tells the writes
+pub writes_under : (r : TurnRules) (q : Request) (t : Turns) (p : PlannedState) (groups : GroupsState) → map row_value p.rows ≡ (end_under r q t).rows
+    → (job_for q p groups).writes ≡ map written_of (runs (report_under r q t groups))
+writes_under r q t p groups rows =
+    patches_are (writes_of p.rows)
+    ∙ sym (ap (map written_of) (ap (flat_map (λ (x : RowValue). runs_of x.outcome)) (sym rows) ∙ runs_are p.rows))
+
 -- the report of what was planned tells the writes
 writes_are : (q : Request) (t : Turns) (p : PlannedState) (groups : GroupsState) → IsPlanned q t p
     → (job_for q p groups).writes ≡ map written_of (runs (planned_report q t groups))
-writes_are q t p groups h =
-    patches_are (writes_of p.rows)
-    ∙ sym (ap (map written_of) (ap (flat_map (λ (r : RowValue). runs_of r.outcome)) (sym h.rows) ∙ runs_are p.rows))
+writes_are q t p groups h = writes_under (event_rules q.action) q t p groups h.rows
 
 -- an old byte at its place in a run
 byte_is : (o : Option Cell) (b : ℕ) → holds_byte o b ≡ true → option_map (λ c. c.byte) o ≡ Some b
@@ -80,12 +87,13 @@ all_apart [] h = tt
 all_apart (w ∷ ws) h =
     (from_one w ws (λ x t. none_more x w ws (h x) t), all_apart ws (λ x. (let n = count_cons (in_run x) w ws in let c = h x in omega arith)))
 
--- the report of what was planned for a file tells what the file was, and its runs are over the file and apart
-pub planned_is_told : PlannedIsTold
-planned_is_told q t p groups a h =
-    let g = scene_in q t in
-    let d = done_by (end_of q t) in
-    let k = (folded (event_rules q.action) q t h.turns five_lead (entries_are q a)).kept in
+-- the report of what turns by rules whose schemes lead have done tells what the file was, and its runs are over the file and apart
+pub told_under : (r : TurnRules) → AllByRecursion SchemeLeads r.schemes → (q : Request) (t : Turns) (groups : GroupsState) → IsAsked q
+    → AreTurnsUnder r q t → Tells q.file (written (report_under r q t groups) (origin_of q.file))
+told_under r lead q t groups a h =
+    let g = scene_under r q t in
+    let d = done_by (end_under r q t) in
+    let k = (folded r q t h lead (entries_are q a)).kept in
     record {
       origin = refl;
       over = all_map (λ w. (length w.now ≡ length w.was) × ((x : ℕ) → in_run x w ≡ true → TellsAt g d w x)) (IsOver q.file) d.runs
@@ -93,6 +101,10 @@ planned_is_told q t p groups a h =
           (all_both (λ w. length w.now ≡ length w.was) (λ w. (x : ℕ) → in_run x w ≡ true → TellsAt g d w x) d.runs k.even k.tells);
       apart = all_apart d.runs k.apart;
     }
+
+-- so does the report of what was planned for a file
+pub planned_is_told : PlannedIsTold
+planned_is_told q t p groups a h = told_under (event_rules q.action) five_lead q t groups a h.turns
 
 -- whatever stands behind the private range, a written file can be loaded, and is undone by a report that tells the original
 pub frame_is_reversed : FrameIsReversed

@@ -2,8 +2,13 @@
 ghost use Rattle.std.specs.Prelude.{◌≡◌, None};
 
 use elf_read::writing::plain_file;
-use guest_threads::rewriting::{ThreadError, ThreadReport, rewrite_threads};
+use guest_threads::rewriting::{
+    ThreadError, ThreadReport, rewrite_threads, rewrite_threads_reported,
+};
+use patch_report::origin::Origin;
+use patch_report::report::Report;
 use patch_report::row::ReportRow;
+use pun_base::action::Action;
 use pun_base::byte_list::ByteList;
 use pun_base::desk::Desk;
 use pun_base::memory_desk::MemDesk;
@@ -29,6 +34,25 @@ pub(crate) fn rewritten<D: Desk>(
         return None;
     }
     Some(rewrite_threads(alloc, &file, starts, sites, &[], "O", desk))
+}
+
+/// The report of such a patch, if it was written.
+fn reported<D: Desk>(
+    alloc: Global,
+    text: &[u8],
+    starts: &[u32],
+    sites: &[u32],
+    desk: &mut D,
+) -> Option<Report>
+    requires { (D.seen desk.old).writing ≡ None }
+{
+    let Ok(file) = plain_file(alloc, text) else {
+        return None;
+    };
+    if !ascend(starts) || !ascend(sites) || sites.len() > 65536 {
+        return None;
+    }
+    rewrite_threads_reported(alloc, &file, starts, sites, &[], "O", desk).ok()
 }
 
 /// The place of the only row's only trampoline, and its site's number.
@@ -70,6 +94,26 @@ fn jump_to_itself(rt: HostRuntime) -> Result<(), Fail> {
     assert!(rt; only_place(report.rows.as_slice()) == Some((0x240_1005, 0)));
     let written = desk.get("O").ok_or("held")?;
     assert!(rt; written.windows(37).any(|bytes| bytes == CODE.as_slice()));
+    Ok(())
+}
+
+#[test]
+fn report_of_jump_to_itself(rt: HostRuntime) -> Result<(), Fail> {
+    let text = [0xEB, 0xFE, 0, 0, 2];
+    let mut desk = MemDesk::new(rt.alloc(), &[])?;
+    let found = reported(rt.alloc(), &text, &[0x40_1000], &[0x40_1000], &mut desk);
+    let report = found.ok_or("reported")?;
+    assert!(rt; report.action() == Action::Count);
+    assert!(rt; report.private().lo == 0x2_0000 && report.private().hi == 0x2_1000);
+    assert!(rt; only_place(report.rows()) == Some((0x240_1005, 0)));
+    let original = Origin {
+        len: 4101,
+        phoff: 64,
+        phnum: 1,
+        entry: 0x40_1000,
+    };
+    assert!(rt; report.origin() == Some(original));
+    assert!(rt; desk.get("O").is_some());
     Ok(())
 }
 

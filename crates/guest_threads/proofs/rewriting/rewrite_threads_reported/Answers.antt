@@ -8,10 +8,10 @@ use Rattle.guest_threads.proofs.rewriting.rewrite_threads_reported.Goals as goal
 pub into_report-requires : goal.into_report-requires
 into_report-requires g c = record { origin = c.origin_of-origin.ensures.fits; body = can_report _ c.args.name.now _ _ c.in-Ok.patch c.in-Ok.ensures.writes }
 
-pub returns-in_err-report-clause-rewrites : goal.returns-in_err-report-clause-rewrites
-returns-in_err-report-clause-rewrites g c =
+pub returns-in_err-report-in-Ok-clause-rewrites : goal.returns-in_err-report-in-Ok-clause-rewrites
+returns-in_err-report-in-Ok-clause-rewrites g c =
     let a = asked c.args.file.now c.args.starts.now c.args.sites.now c.args.reserves.now in
-    by_error (ReportsThreads a c.args.name.now _ _) _ threads.Memory c.from_residual-in_err-report.ensures.1
+    by_error (ReportsThreads a c.args.name.now _ _) _ threads.Memory c.from_residual-in_err-report-in-Ok.ensures.1
     (untold a c.args.name.now _ _ c.in-Ok.patch
     (for_input a c.in_ok-elf.elf.bytes c.args.name.now _ _ (Ok c.in-Ok.patch) c.in_ok-elf.ensures.file.0 c.in-Ok.ensures.writes))
 
@@ -20,7 +20,7 @@ returns-in-Ok-clause-rewrites g c =
     let a = asked c.args.file.now c.args.starts.now c.args.sites.now c.args.reserves.now in
     reported a c.args.name.now _ _ c.in-Ok.patch
     (for_input a c.in_ok-elf.elf.bytes c.args.name.now _ _ (Ok c.in-Ok.patch) c.in_ok-elf.ensures.file.0 c.in-Ok.ensures.writes)
-    c.in_ok-report.report c.origin_of-origin.result _ c.in_ok-report.ensures
+    c.in_ok-report-in-Ok.report c.origin_of-origin.result _ c.in_ok-report-in-Ok.ensures
 
 pub returns-clause-rewrites : goal.returns-clause-rewrites
 returns-clause-rewrites g c =

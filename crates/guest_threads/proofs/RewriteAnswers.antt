@@ -22,7 +22,7 @@ use Rattle.elf_emit.proofs.StayingSegments.{all_map}
 use Rattle.patch_report.specs.declared.origin.Origin.{Origin}
 use Rattle.patch_report.specs.declared.origin.Version.TheVariants.{Two}
 use Rattle.patch_report.specs.Values.{ReportValue, row_value, written}
-use Rattle.patch_report.specs.Grammar.{IsBody}
+use Rattle.patch_report.specs.Grammar.{OriginFits, IsBody, IsReport}
 use Rattle.start_entries.specs.declared.entry.StartEntry.{StartEntry}
 use Rattle.start_entries.specs.Entries.{entries_of}
 use Rattle.start_entries.specs.Refusals.{first_refusal}
@@ -231,15 +231,16 @@ module _ (a : Asked) (name : List ℕ) (s u : DeskState) (patch : Patch) (w : Is
   can_report = may_report a w.turns w.planned w.call patch w.patch_for
 
   -- the report of it is an answer of `rewrite_threads_reported`
-  pub reported : (report : ReportValue) (origin : Origin) → origin ≡ origin_of a.file → report ≡ written (told_of Count patch) origin
-      → ReportsThreads a name s u (Ok report)
-  reported report origin o r =
+  pub reported : (report : ReportValue) (origin : Origin) → origin ≡ origin_of a.file → OriginFits origin
+      → report ≡ written (told_of Count patch) origin → ReportsThreads a name s u (Ok report)
+  reported report origin o fits r =
       let body = told a w.turns w.planned w.call patch w.patch_for in
       let same : report ≡ job_written.report = r ∙ (λ i. written (body i) (o i)) in (
         job_written,
         accepted,
         record {
           report_is = same;
+          told = subst IsReport (sym r) (record { origin = fits; body = can_report });
           action_is = ap (λ (z : ReportValue). z.body.action) same ∙ w.call.action;
           private_is = ap (λ (z : ReportValue). z.body.private) same;
           rows_are = ap (λ (z : ReportValue). z.body.rows) same;

@@ -14,6 +14,7 @@ use Rattle.elf_read.specs.Refusals.{refusal}
 use Rattle.elf_emit.specs.Job as written
 use Rattle.elf_emit.specs.Layout.{count, layout}
 use Rattle.elf_emit.specs.declared.emit.EmitError.TheVariants as emit
+use Rattle.patch_report.specs.Grammar.{IsReport}
 use Rattle.patch_report.specs.Values.{RowValue, ReportValue, row_value, written as report_written}
 use Rattle.start_entries.specs.Entries.{entries_of}
 use Rattle.start_entries.specs.Refusals.{first_refusal}
@@ -149,6 +150,8 @@ RewritesThreads a name s t (Err refusal) = Judges a (Err refusal) × (t ≡ s)
 pub record IsReported (a : Asked) (name : List ℕ) (s t : DeskState) (report : ReportValue)
     (j : ThreadJob) : Type 0 where
   pub report_is : report ≡ j.report
+  -- it is one that a text tells
+  pub told : IsReport report
   -- it tells that each event counts, and the job's private range and rows
   pub action_is : report.body.action ≡ Count
   pub private_is : report.body.private ≡ (j.private.lo, j.private.hi)

@@ -20,7 +20,7 @@ returns-in-Ok-clause-rewrites g c =
     let a = asked c.args.file.now c.args.starts.now c.args.sites.now c.args.reserves.now in
     reported a c.args.name.now _ _ c.in-Ok.patch
     (for_input a c.in_ok-elf.elf.bytes c.args.name.now _ _ (Ok c.in-Ok.patch) c.in_ok-elf.ensures.file.0 c.in-Ok.ensures.writes)
-    c.in_ok-report-in-Ok.report c.origin_of-origin.result _ c.in_ok-report-in-Ok.ensures
+    c.in_ok-report-in-Ok.report c.origin_of-origin.result _ c.origin_of-origin.ensures.fits c.in_ok-report-in-Ok.ensures
 
 pub returns-clause-rewrites : goal.returns-clause-rewrites
 returns-clause-rewrites g c =

@@ -11,3 +11,4 @@ pub mod Inspecting
 pub mod Failing
 pub mod Works
 pub mod ReportTexts
+pub mod ReportModes

@@ -10,6 +10,7 @@ pub mod inputs;
 pub mod outputs;
 pub mod print;
 pub mod refusal;
+pub mod report_mode;
 pub mod site_rows;
 pub mod status;
 pub mod summary;

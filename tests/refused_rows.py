@@ -41,6 +41,8 @@ TEXTS = [
     (WRITERS, "T", b"401000\n401001\n", "PLAN 1 NotListed 00401001"),
     ((CHECK, UNPATCH), "R", FILES["R"] + b"\n", "REPORT 1 BadReport 11"),
     ((CHECK, UNPATCH), "R", FILES["R"].replace(b"2", b"30", 1), "REPORT 2 BadVersion 1"),
+    ((CHECK, UNPATCH), "R", b"mode threads\n" + FILES["R"] + b"\n", "REPORT 1 BadReport 12"),
+    ((CHECK, UNPATCH), "R", b"mode threads\n" + FILES["R"].replace(b"2", b"30", 1), "REPORT 2 BadVersion 2"),
     ((STEP,), "W", FILES["W"].replace(b"end", b"fin"), "WORLD 1 BadScript 21"),
     ((STEP,), "W", b"e9world 2\n" + FILES["W"], "WORLD 1 BadScript 2"),
     ((STEP,), "W", FILES["W"].replace(b"end", b"zero 0000000000401006 0000000000401007 rw-\nend"), "WORLD 2 RegionMeets 0000000000401006"),

@@ -8,3 +8,4 @@ pub mod GatheredInputs
 pub mod ReadingEnds
 pub mod WritingEnds
 pub mod ReadReports
+pub mod ModedReadings

@@ -1,4 +1,4 @@
--- A report that was read has its text, and a text is read as one thing.
+-- A text is read as one thing.
 use Rattle.std.proofs.Common.{◌≡◌, ℕ, inl, inr, Bool, true, false, List, Result, Ok, Err, sym, ap, ◌∙◌, subst}
 use Rattle.std.proofs.lemmas.Bool.{cases_Bool}
 use Rattle.patch_report.specs.Answers as reports
@@ -11,14 +11,6 @@ use Rattle.patch_report.proofs.ExactReading.{read_is}
 use Rattle.patch_report.proofs.FirstRefusedLine.{refusals_are_first}
 use Rattle.patch_report.proofs.OtherVersions.{versions_are_numbers}
 use Rattle.command_io.specs.ReportTexts.{IsReportText, IsRead}
-
--- a text that is read as a report is that report's text
-pub text_read : (text : List ℕ) (v : ReportValue) → reports.ReadsReport {X = ReportValue} (λ r. r) text (Ok v) → IsReportText text v
-text_read text v h = record { holds = h.1; spelled = h.2; own = h.0 }
-
--- so is a text that equals the one that was read
-pub report_read : (given text : List ℕ) (v : ReportValue) → given ≡ text → reports.ReadsReport {X = ReportValue} (λ r. r) given (Ok v) → IsReportText text v
-report_read given text v e h = subst (λ (t : List ℕ). IsReportText t v) e (text_read given v h)
 
 -- what a text is read as, by reading it line by line
 abbrev reading : Bool → Result ReportValue ℕ → Result ReportValue ReportError

@@ -1,8 +1,7 @@
 //! Reports with their modes: a line before a report's text may say that the file was patched for guests of several threads.
-ghost use Rattle.std.specs.Prelude.{◌≡◌, ◌++◌, option_map, IfOk};
+ghost use Rattle.std.specs.Prelude.{◌≡◌, ◌+◌, ◌^◌, ◌<◌, ◌++◌, option_map, IfOk};
 ghost use Rattle.patch_report.specs.Spelling.{report_text};
-ghost use Rattle.command_io.specs.ReportModes.{mode_text, IsAfterModeLine, HasMode, error_in, ReadsIn, HasNextLine, OneModedReading, PlainIsRead, ThreadedIsRead};
-ghost use Rattle.command_io.specs.declared.report_mode.Mode.TheVariants.{Threaded};
+ghost use Rattle.command_io.specs.ReportModes.{mode_text, IsAfterModeLine, HasMode, line_in, error_in, ReadsIn, HasNextLine, OneModedReading, PlainIsRead, ThreadedIsRead};
 
 use patch_report::error::ReportError;
 use patch_report::report::{Report, read};
@@ -24,19 +23,34 @@ fn after_mode_line(text: &[u8]) -> Option<&[u8]>
     text.strip_prefix(b"mode threads\n")
 }
 
-/// The refusal of the text after a mode's line as one of the whole text.
-fn error_after_line(error: ReportError) -> ReportError
+/// The line of a whole text that is this line of its report's text.
+fn line_in_mode(mode: Mode, line: u32) -> u32
+    requires { line + 1 < 2 ^ 32 }
+    ensures { result ≡ line_in mode line }
+{
+    match mode {
+        Mode::Plain => line,
+        Mode::Threaded => line + 1,
+    }
+}
+
+/// A refusal of a report's text as one of the whole text.
+fn error_in_mode(mode: Mode, error: ReportError) -> ReportError
     requires { HasNextLine error }
-    ensures { result ≡ error_in Threaded error }
+    ensures { result ≡ error_in mode error }
 {
     match error {
-        ReportError::BadReport { line } => ReportError::BadReport { line: line + 1 },
-        ReportError::BadVersion { line } => ReportError::BadVersion { line: line + 1 },
+        ReportError::BadReport { line } => ReportError::BadReport {
+            line: line_in_mode(mode, line),
+        },
+        ReportError::BadVersion { line } => ReportError::BadVersion {
+            line: line_in_mode(mode, line),
+        },
         ReportError::Memory => ReportError::Memory,
     }
 }
 
-/// Reads a text, whose mode is known.
+/// Reads a text of this mode by its report's text.
 fn read_in_mode(
     alloc: Global,
     text: &[u8],
@@ -46,13 +60,9 @@ fn read_in_mode(
     requires { HasMode text.now mode rest.now }
     ensures { ReadsIn text.now result }
 {
-    let error = match read(alloc, rest) {
-        Ok(report) => return Ok((mode, report)),
-        Err(error) => error,
-    };
-    match mode {
-        Mode::Plain => Err(error),
-        Mode::Threaded => Err(error_after_line(error)),
+    match read(alloc, rest) {
+        Ok(report) => Ok((mode, report)),
+        Err(error) => Err(error_in_mode(mode, error)),
     }
 }
 

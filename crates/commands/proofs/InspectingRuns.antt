@@ -40,7 +40,7 @@ held_followed n files text status zero t = λ file out starts report e f g h.
     let s : P (Some file) (Some out) (Some starts) (Some report) = subst (λ d. P (Some file) (Some out) (Some starts) d) h r in
     let v = four CheckTells input.File input.Out input.Starts input.Report file out starts report (nat_lt most (length file))
     (nat_lt most (length out)) (nat_lt most (length starts)) (nat_lt most (length report)) text status s in
-    (v.list, (v.value, (v.accepted.starts_are, v.accepted.report_is.spelled, v.followed zero)))
+    (v.list, (v.mode, (v.value, (v.accepted.starts_are, v.accepted.report_is.spelled, v.followed zero))))
 
 -- ---- what the commands do
 

@@ -7,7 +7,6 @@ use Rattle.list_text.specs.declared.refusal.ListError.{ListError}
 use Rattle.patch_report.specs.Spelling.{report_text}
 use Rattle.patch_report.specs.Values.{ReportValue}
 use Rattle.patch_report.specs.Grammar.{IsReport}
-use Rattle.patch_report.proofs.OtherVersions.{names_none, versions_are_numbers}
 use Rattle.rewrite_core.specs.Asked.{Asked, IsInOrder}
 use Rattle.commands.specs.Planned.{IsReversed}
 use Rattle.commands.proofs.ReversedPlans.{judged_is_reversed}
@@ -18,7 +17,9 @@ use Rattle.command_io.specs.Endings.{Delivers}
 use Rattle.command_io.specs.Writing.{Verdict, Accepted, OfGathered, IsInputVerdict, KeepsRest, files_after, Writes}
 use Rattle.command_io.specs.Verdict.{Patching, Form, plain, rewriting_in, starts_of, sites_of, asked, OfLists, OfTexts, HoldsBytes}
 use Rattle.patch_commands.specs.Answers.{IsDone, patch_inputs, form_outputs, TextsFollowed, form_writing}
-use Rattle.command_io.specs.ReportTexts.{IsReportText}
+use Rattle.command_io.specs.ReportModes.{IsModedText}
+use Rattle.command_io.specs.declared.report_mode.Mode.{Mode}
+use Rattle.command_io.specs.declared.report_mode.Mode.TheVariants.{Plain}
 use Rattle.command_io.specs.Failing.{NoMemory, Failed, Answer, end_message}
 use Rattle.command_io.specs.Works.{IsOnly, AreApart, Ends, Carries}
 use Rattle.patch_commands.specs.UnpatchAnswers.{unpatch_inputs, unpatch_outputs, OfBoth, restored_text, unpatch_writing}
@@ -42,26 +43,26 @@ one_gathered o bytes x g e l =
     within false q = q
     within true q = absurd (let k : most < length bytes = grind (arith, nat_tests) in omega arith)
 
-both_gathered : (files : Files) (n : UnpatchNames) (orig : List ℕ) (h : HoldsPatch files n orig)
+both_gathered : (files : Files) (n : UnpatchNames) (orig : List ℕ) (m : Mode) (h : HoldsPatch m files n orig)
     → gathered files (unpatch_inputs n) ≡ All (h.patched ∷ h.text ∷ [])
-both_gathered files n orig h =
+both_gathered files n orig m h =
     one_gathered (files n.patched) h.patched _ _ h.held_patched h.few_patched
     ∙ ap (with_first h.patched) (one_gathered (files n.report) h.text _ _ h.held_report h.few_report)
 
 -- what is to be said of them
-only_back : (files : Files) (n : UnpatchNames) (orig : List ℕ) (h : HoldsPatch files n orig) → IsOnly (Accepted orig) (IsInputVerdict (unpatch_writing n) files)
-only_back files n orig h =
-    subst (λ (g : Gathered). IsOnly (Accepted orig) (OfGathered OfBoth g)) (sym (both_gathered files n orig h))
-    (of_undoing h.patched h.text h.report h.told h.reversed.loads None (Accepted orig) h.reversed.undone.accepted h.reversed.undone.undone)
+only_back : (files : Files) (n : UnpatchNames) (orig : List ℕ) (m : Mode) (h : HoldsPatch m files n orig) → IsOnly (Accepted orig) (IsInputVerdict (unpatch_writing n) files)
+only_back files n orig m h =
+    subst (λ (g : Gathered). IsOnly (Accepted orig) (OfGathered OfBoth g)) (sym (both_gathered files n orig m h))
+    (of_undoing h.patched h.text m h.report h.told h.reversed.loads None (Accepted orig) h.reversed.undone.accepted h.reversed.undone.undone)
 
 -- one job
 same_bytes : (a b : List ℕ) → ◌≡◌ {A = Verdict (List ℕ)} (Accepted a) (Accepted b) → a ≡ b
 same_bytes a b e = cc
 
 comes_back : (n : UnpatchNames) (orig : List ℕ) (files : Files) (s t : DeskState) (k l : SinkState) (status : ℕ) → Writes (unpatch_writing n) s t k l status
-    → s.held ≡ Some files → HoldsPatch files n orig → ComesBack n orig files s t k l status
-comes_back n orig files s t k l status w e h =
-    let v = only_back files n orig h in
+    → s.held ≡ Some files → (m : Mode) → HoldsPatch m files n orig → ComesBack n orig files s t k l status
+comes_back n orig files s t k l status w e m h =
+    let v = only_back files n orig m h in
     let d = w.held files e in
     record {
       answer = d.answer (Accepted orig) v.so;
@@ -91,7 +92,7 @@ pub unpatches : (n : UnpatchNames) (s t : DeskState) (k l : SinkState) (r : Resu
 unpatches n s t k l r status rest e d =
     let apart : AreApart (unpatch_outputs n) = (λ b. b, tt) in
     let w = writes (unpatch_writing n) (is_apart n) apart s t k l r status rest e d in
-    record { writes = w; back = λ files h orig p. comes_back n orig files s t k l status w h p }
+    record { writes = w; back = λ files h orig m p. comes_back n orig files s t k l status w h m p }
 
 -- undoing that was carried out and printed
 pub unpatch_ran : (words : List (List ℕ)) (n : UnpatchNames) (s t : DeskState) (k l : SinkState) (r : Result Answer Failed) (status : ℕ)
@@ -128,13 +129,9 @@ lists_reversed f back p file (Err error) sites job size o h = absurd cc
 lists_reversed f back p file (Ok ns) (Err error) job size o h = absurd cc
 lists_reversed f back p file (Ok ns) (Ok ms) job size o h = back.undone (asked p.action h.0 file ns ms) job (o ns ms h.0 refl refl) size h.2
 
--- a report's own text
-own_text : (v : ReportValue) → IsReport v → IsReportText (report_text v) v
-own_text v h = record {
-  holds = h;
-  spelled = refl;
-  own = λ z. (let a = names_none v in let b = (versions_are_numbers (report_text v)).1 z in cc);
-}
+-- a plain report's own text
+own_text : (v : ReportValue) → IsReport v → IsModedText (report_text v) Plain v
+own_text v h = record { holds = h; spelled = refl }
 
 within : (files : Files) (name bytes : List ℕ) → files name ≡ Some bytes → IsWithin files name → length bytes ≤ most
 within files name bytes e w = subst (λ (o : Option (List ℕ)). IsSomeAnd o (λ b. length b ≤ most)) e w
@@ -144,7 +141,7 @@ texts_reversed : {J : Type 0} → (f : Form J) → IsTakenBack f → (p : Patchi
     → (p.names.out ≡ p.names.report → ⊥)
     → HoldsBytes files p.names.file → files p.names.file ≡ Some orig → gathered files (patch_inputs p.names) ≡ All texts → OfTexts (rewriting_in f p) texts (Accepted job)
     → TextsFollowed f.Follows texts job → files_after files (form_outputs f p.names) job ≡ new → IsWithin new p.names.out → IsWithin new p.names.report
-    → (n : UnpatchNames) → n.patched ≡ p.names.out → n.report ≡ p.names.report → HoldsPatch new n orig
+    → (n : UnpatchNames) → n.patched ≡ p.names.out → n.report ≡ p.names.report → HoldsPatch Plain new n orig
 texts_reversed f back p files new (file ∷ starts ∷ sites ∷ []) job orig apart bytes held e j h same w x n a b =
     let first = (first_read (files p.names.file) _ file _ _ e).0 in
     let few = first_few (files p.names.file) _ file _ _ e in
@@ -176,7 +173,7 @@ pub form_is_reversed : {J : Type 0} → (f : Form J) → IsTakenBack f → (p : 
     → (orig : List ℕ) → (p.names.out ≡ p.names.report → ⊥)
     → s.held ≡ Some files → HoldsBytes files p.names.file → files p.names.file ≡ Some orig → Writes (form_writing f p) s t k l status → IsDone status
     → t.held ≡ Some new → IsWithin new p.names.out → IsWithin new p.names.report
-    → (n : UnpatchNames) → n.patched ≡ p.names.out → n.report ≡ p.names.report → HoldsPatch new n orig
+    → (n : UnpatchNames) → n.patched ≡ p.names.out → n.report ≡ p.names.report → HoldsPatch Plain new n orig
 form_is_reversed f back p files new s t k l status orig apart h bytes held w o g i x n a b =
     let d = (w.held files h).done o in
     let z = d.1.outputs in

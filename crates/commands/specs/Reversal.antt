@@ -10,11 +10,13 @@ use Rattle.command_io.specs.Writing.{Accepted, Answers, DoneIfFaultless, Writes}
 use Rattle.command_io.specs.Verdict.{Patching, HoldsBytes}
 use Rattle.patch_commands.specs.Answers.{IsDone, Patches}
 use Rattle.patch_commands.specs.LoadAnswers.{Loads}
-use Rattle.command_io.specs.ReportTexts.{IsReportText}
+use Rattle.command_io.specs.ReportModes.{IsModedText}
+use Rattle.command_io.specs.declared.report_mode.Mode.{Mode}
+use Rattle.command_io.specs.declared.report_mode.Mode.TheVariants.{Plain}
 use Rattle.patch_commands.specs.UnpatchAnswers.{IsRestored, unpatch_writing}
 
--- PATCHED and REPORT hold texts that can be read: a file that can be loaded, and a report that undoes it as this original.
-pub record HoldsPatch (files : Files) (n : UnpatchNames) (orig : List ℕ) : Type 0 where
+-- PATCHED and REPORT hold texts that can be read: a file that can be loaded, and a report in this mode that undoes it as this original.
+pub record HoldsPatch (m : Mode) (files : Files) (n : UnpatchNames) (orig : List ℕ) : Type 0 where
   pub patched : List ℕ
   pub text : List ℕ
   pub report : ReportValue
@@ -22,7 +24,7 @@ pub record HoldsPatch (files : Files) (n : UnpatchNames) (orig : List ℕ) : Typ
   pub held_report : files n.report ≡ Some text
   pub few_patched : length patched ≤ most
   pub few_report : length text ≤ most
-  pub told : IsReportText text report
+  pub told : IsModedText text m report
   pub reversed : IsReversed orig patched report
 
 -- The original comes back: the status is 0, and then NEW holds it and no other name changed; or a read, a write or the sink failed, or
@@ -36,7 +38,7 @@ pub record ComesBack (n : UnpatchNames) (orig : List ℕ) (files : Files) (s t :
 pub record Unpatches (n : UnpatchNames) (s t : DeskState) (k l : SinkState) (status : ℕ) : Type 0 where
   pub writes : Writes (unpatch_writing n) s t k l status
   -- what was patched comes back
-  pub back : WhereTold s (λ files. (orig : List ℕ) → HoldsPatch files n orig → ComesBack n orig files s t k l status)
+  pub back : WhereTold s (λ files. (orig : List ℕ) (m : Mode) → HoldsPatch m files n orig → ComesBack n orig files s t k l status)
 
 -- After a patch that answered 0 or 1, OUT and REPORT hold such texts of FILE, where they are within the limit of a read.
 abbrev pub PatchIsReversed : Type 0
@@ -44,7 +46,7 @@ PatchIsReversed =
     (p : Patching) (files new : Files) (s t : DeskState) (k l : SinkState) (status : ℕ) (orig : List ℕ) → (p.names.out ≡ p.names.report → ⊥)
     → s.held ≡ Some files → HoldsBytes files p.names.file → files p.names.file ≡ Some orig → Patches p s t k l status → IsDone status
     → t.held ≡ Some new → IsWithin new p.names.out → IsWithin new p.names.report
-    → (n : UnpatchNames) → n.patched ≡ p.names.out → n.report ≡ p.names.report → HoldsPatch new n orig
+    → (n : UnpatchNames) → n.patched ≡ p.names.out → n.report ≡ p.names.report → HoldsPatch Plain new n orig
 
 -- So after `load`.
 abbrev pub LoadIsReversed : Type 0
@@ -52,4 +54,4 @@ LoadIsReversed =
     (p : Patching) (files new : Files) (s t : DeskState) (k l : SinkState) (status : ℕ) (orig : List ℕ) → (p.names.out ≡ p.names.report → ⊥)
     → s.held ≡ Some files → HoldsBytes files p.names.file → files p.names.file ≡ Some orig → Loads p s t k l status → IsDone status
     → t.held ≡ Some new → IsWithin new p.names.out → IsWithin new p.names.report
-    → (n : UnpatchNames) → n.patched ≡ p.names.out → n.report ≡ p.names.report → HoldsPatch new n orig
+    → (n : UnpatchNames) → n.patched ≡ p.names.out → n.report ≡ p.names.report → HoldsPatch Plain new n orig

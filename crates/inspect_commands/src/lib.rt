@@ -1,6 +1,6 @@
 //! The commands that only read, over any desk: `check`, `step` and `gen`.
 //!
-//! Stands on `command_io` and `guest_findings`; `commands` stands on it.
+//! Stands on `command_io`, `thread_check` and `guest_findings`; `commands` stands on it.
 #![tactic(auto)]
 
 pub mod check;

@@ -4,7 +4,6 @@ use Rattle.pun_base.specs.Shown.{DeskState}
 use Rattle.elf_read.specs.Refusals as files
 use Rattle.elf_read.specs.declared.refusal.ElfError.{ElfError}
 use Rattle.elf_read.specs.declared.refusal.ElfError.TheVariants as elf
-use Rattle.patch_report.specs.Answers as reports
 use Rattle.patch_report.specs.Runs.{runs}
 use Rattle.patch_report.specs.Values.{ReportValue, WriteValue}
 use Rattle.patch_report.specs.declared.origin.Origin.{Origin}
@@ -20,11 +19,12 @@ use Rattle.command_io.specs.Refusals.{BadReport, BadFile, Undo}
 use Rattle.command_io.specs.Inputs as inputs
 use Rattle.command_io.specs.Inputs.{Gathered, gathered}
 use Rattle.command_io.specs.Writing.{Verdict, Missing, Refused, Accepted, OfGathered}
-use Rattle.command_io.specs.ReportTexts.{IsReportText, IsRead}
+use Rattle.command_io.specs.ReportModes.{IsModedText, IsReadIn, ReadsIn}
+use Rattle.command_io.specs.declared.report_mode.Mode.{Mode}
 use Rattle.command_io.specs.Failing.{Failed, Answer, report_failed, file_failed, undo_failed}
 use Rattle.command_io.specs.Works.{IsOnly, EndsEarly, Works}
 use Rattle.command_io.proofs.WholeCommands.{if_done}
-use Rattle.command_io.proofs.ReadReports.{one_reading}
+use Rattle.command_io.proofs.ModedReadings.{one_moded_reading}
 use Rattle.patch_commands.specs.UnpatchAnswers.{unpatch_inputs, OfUndoing, OfPatched, OfReport, OfBoth, HaveToldLength, unpatch_writing, UnpatchHasOneVerdict}
 use Rattle.patch_commands.specs.Unpatching.{AreUndone, WritesNew}
 use Rattle.command_io.specs.declared.ends.Input.TheVariants as input
@@ -51,14 +51,14 @@ one_patched : (patched : List ℕ) (report : ReportValue) (e : Option ElfError) 
 one_patched patched report (Some error) v w g h = g ∙ sym h
 one_patched patched report None v w g h = one_undoing patched report (undoing.refusal patched report) v w g h
 
-one_report : (patched : List ℕ) (r : Result ReportValue ReportError) (v w : Verdict (List ℕ)) → OfReport patched r v → OfReport patched r w → v ≡ w
+one_report : (patched : List ℕ) (r : Result (Mode × ReportValue) ReportError) (v w : Verdict (List ℕ)) → OfReport patched r v → OfReport patched r w → v ≡ w
 one_report patched (Err error) v w g h = g ∙ sym h
-one_report patched (Ok report) v w g h = one_patched patched report (files.refusal 0x10000 patched) v w g h
+one_report patched (Ok x) v w g h = one_patched patched x.1 (files.refusal 0x10000 patched) v w g h
 
 -- of both texts
 one_both : (texts : List (List ℕ)) (v w : Verdict (List ℕ)) → OfBoth texts v → OfBoth texts w → v ≡ w
 one_both (patched ∷ text ∷ []) v w g h =
-    one_report patched g.0 v w g.2 (subst (λ (q : Result ReportValue ReportError). OfReport patched q w) (one_reading text h.0 g.0 h.1 g.1) h.2)
+    one_report patched g.0 v w g.2 (subst (λ (q : Result (Mode × ReportValue) ReportError). OfReport patched q w) (one_moded_reading text h.0 g.0 h.1 g.1) h.2)
 one_both other v w g h = absurd g
 
 -- by what reading comes to
@@ -73,26 +73,26 @@ one_unpatch_verdict files n v w g h = one_gathered (gathered files (unpatch_inpu
 
 module _ (patched text : List ℕ) where
   -- what is to be said of the texts, and nothing else is
-  only_both : (r : Result ReportValue ReportError) (v : Verdict (List ℕ)) → IsRead text r → OfReport patched r v
+  only_both : (r : Result (Mode × ReportValue) ReportError) (v : Verdict (List ℕ)) → IsReadIn text r → OfReport patched r v
       → IsOnly v (OfBoth (patched ∷ text ∷ []))
   only_both r v i o = record {
     so = (r, i, o);
     alone = λ w h.
-        one_report patched r w v (subst (λ (q : Result ReportValue ReportError). OfReport patched q w) (one_reading text h.0 r h.1 i) h.2) o;
+        one_report patched r w v (subst (λ (q : Result (Mode × ReportValue) ReportError). OfReport patched q w) (one_moded_reading text h.0 r h.1 i) h.2) o;
   }
 
   -- a refused REPORT ends `unpatch` before anything is written
-  pub report_refused : (e : ReportError) (n : UnpatchNames) → reports.ReadsReport {X = ReportValue} (λ r. r) text (Err e)
+  pub report_refused : (e : ReportError) (n : UnpatchNames) → ReadsIn text (Err e)
       → EndsEarly (unpatch_writing n) (patched ∷ text ∷ []) (Err (report_failed e))
   report_refused errors.Memory n h = tt
   report_refused (errors.BadReport line) n h = only_both (Err (errors.BadReport line)) (Refused (BadReport (errors.BadReport line))) h refl
   report_refused (errors.BadVersion line) n h = only_both (Err (errors.BadVersion line)) (Refused (BadReport (errors.BadVersion line))) h refl
 
-  module _ (report : ReportValue) (i : IsReportText text report) where
+  module _ (mode : Mode) (report : ReportValue) (i : IsModedText text mode report) where
     -- by what refuses the file
     of_patched : (e : Option ElfError) (v : Verdict (List ℕ)) → files.refusal 0x10000 patched ≡ e → OfPatched patched report e v
         → IsOnly v (OfBoth (patched ∷ text ∷ []))
-    of_patched e v q h = only_both (Ok report) v i (subst (λ (x : Option ElfError). OfPatched patched report x v) (sym q) h)
+    of_patched e v q h = only_both (Ok (mode, report)) v i (subst (λ (x : Option ElfError). OfPatched patched report x v) (sym q) h)
 
     -- so does a patched file that is refused, behind a report
     pub file_refused : (e : ElfError) (n : UnpatchNames) → files.Refused 0x10000 patched e
@@ -116,7 +116,7 @@ module _ (patched text : List ℕ) where
       pub are_undone : (bytes : List ℕ) → undoing.refusal patched report ≡ None → Undoes patched report bytes
           → AreUndone (patched ∷ text ∷ []) bytes
       are_undone bytes a u =
-          record { verdict = of_undoing None (Accepted bytes) a u; length = (report, i, length_is_told patched report bytes a u) }
+          record { verdict = of_undoing None (Accepted bytes) a u; length = (mode, report, i, length_is_told patched report bytes a u) }
 
 -- the texts were undone, and NEW was written or not
 pub wrote_new : (n : UnpatchNames) (texts : List (List ℕ)) (bytes : List ℕ) (s t : DeskState) (r : Result Answer Failed) → AreUndone texts bytes

@@ -13,7 +13,8 @@ use Rattle.command_words.specs.Words.{UnpatchNames}
 use Rattle.command_io.specs.Refusals.{BadReport, BadFile, Undo}
 use Rattle.command_io.specs.Inputs.{Inputs}
 use Rattle.command_io.specs.Writing.{Verdict, Refused, Accepted, Outputs, Writing, IsInputVerdict}
-use Rattle.command_io.specs.ReportTexts.{IsReportText, IsRead}
+use Rattle.command_io.specs.ReportModes.{IsModedText, IsReadIn}
+use Rattle.command_io.specs.declared.report_mode.Mode.{Mode}
 use Rattle.command_io.specs.declared.ends.Input.TheVariants as input
 
 -- PATCHED and REPORT are read in this order.
@@ -37,14 +38,14 @@ abbrev pub OfPatched : List ℕ → ReportValue → Option ElfError → Verdict 
 OfPatched patched report (Some error) v = v ≡ Refused (BadFile input.Out error)
 OfPatched patched report None v = OfUndoing patched report (undoing.refusal patched report) v
 
--- Of PATCHED, and of what REPORT is read as.
-abbrev pub OfReport : List ℕ → Result ReportValue ReportError → Verdict (List ℕ) → Type 0
+-- Of PATCHED, and of what REPORT is read as: a patch is undone alike in either mode.
+abbrev pub OfReport : List ℕ → Result (Mode × ReportValue) ReportError → Verdict (List ℕ) → Type 0
 OfReport patched (Err error) v = v ≡ Refused (BadReport error)
-OfReport patched (Ok report) v = OfPatched patched report (files.refusal 0x10000 patched) v
+OfReport patched (Ok x) v = OfPatched patched x.1 (files.refusal 0x10000 patched) v
 
 -- The texts are judged in this order: REPORT, PATCHED, and whether the one undoes the other.
 abbrev pub OfBoth : List (List ℕ) → Verdict (List ℕ) → Type 0
-OfBoth (patched ∷ report ∷ []) v = (r : Result ReportValue ReportError) × IsRead report r × OfReport patched r v
+OfBoth (patched ∷ report ∷ []) v = (r : Result (Mode × ReportValue) ReportError) × IsReadIn report r × OfReport patched r v
 OfBoth other v = ⊥
 
 -- ---- what is answered
@@ -60,7 +61,7 @@ IsRestored status = status ≡ 0
 -- There are as many bytes as the report tells of the original.
 abbrev pub HaveToldLength : List (List ℕ) → List ℕ → Type 0
 HaveToldLength (patched ∷ report ∷ []) bytes =
-    (v : ReportValue) × IsReportText report v × (option_map (λ o. o.len) v.origin ≡ Some (length bytes))
+    (m : Mode) × (v : ReportValue) × IsModedText report m v × (option_map (λ o. o.len) v.origin ≡ Some (length bytes))
 HaveToldLength other bytes = ⊥
 
 -- `unpatch`, with its names.

@@ -10,10 +10,10 @@ use command_io::ends::{Failure, Input, Told};
 use command_io::failures::{file_failure, report_failure, undo_failure};
 use command_io::inputs::read_input;
 use command_io::outputs::write_output;
+use command_io::report_mode::read_report;
 use command_io::status;
 use command_words::words::UnpatchNames;
 use elf_read::elf::read_written;
-use patch_report::report::read;
 use pun_base::desk::Desk;
 use std::alloc::{AllocError, Global};
 use unpatch::restore::restore;
@@ -78,8 +78,8 @@ fn undo_inputs<'a, D: Desk>(
 fn undo_texts<'a>(alloc: Global, patched: &[u8], report: &[u8]) -> Result<Vec<u8>, Failure<'a>>
     ensures { Restores (patched.now ∷ report.now ∷ []) (seen_as (λ v. v.items) result) }
 {
-    let report = match read(alloc, report) {
-        Ok(report) => report,
+    let (_, report) = match read_report(alloc, report) {
+        Ok(moded) => moded,
         Err(error) => return Err(report_failure(error)),
     };
     let patched = match read_written(alloc, patched) {

@@ -15,7 +15,7 @@ use Rattle.patch_report.specs.declared.error.ReportError.TheVariants as errors
 use Rattle.patch_report.proofs.LineCounts.{lines_few, most_lines}
 use Rattle.patch_report.proofs.OtherVersions.{names_none, versions_are_numbers}
 use Rattle.command_io.specs.ReportTexts.{IsReportText, IsRead}
-use Rattle.command_io.specs.ReportModes.{mode_text, IsModedText, IsAfterModeLine, HasMode, error_in, IsRefusedIn, IsReadIn, ReadsIn, read_in, HasNextLine, OneModedReading, PlainIsRead, ThreadedIsRead}
+use Rattle.command_io.specs.ReportModes.{mode_text, IsModedText, IsAfterModeLine, HasMode, error_in, IsReadIn, ReadsIn, read_in, HasNextLine, OneModedReading, PlainIsRead, ThreadedIsRead}
 use Rattle.command_io.specs.declared.report_mode.Mode.{Mode}
 use Rattle.command_io.specs.declared.report_mode.Mode.TheVariants.{Plain, Threaded}
 use Rattle.command_io.proofs.ReadReports.{one_reading}
@@ -31,17 +31,20 @@ after_line text None m = strip_prefix_is Decides-eqb text (codes "mode threads\n
 after_line text (Some x) m = strip_prefix_is Decides-eqb text (codes "mode threads\n") (Some x) m
 
 -- the first byte of a text, 0 where there is none
-first : List ℕ → ℕ
+abbrev first : List ℕ → ℕ
 first [] = 0
 first (x ∷ xs) = x
+
+other_first : ◌≡◌ {A = ℕ} 101 109 → ⊥
+other_first e = omega arith
 
 -- a report's text doesn't begin with a mode's line
 no_mode : (v : ReportValue) → IsAfterModeLine (report_text v) None
 no_mode v = by v.origin
   where
     by : (o : Option Origin) → IsAfterModeLine (report_text (record { origin = o; body = v.body })) None
-    by None rest e = let k : 101 ≡ 109 = ap first e in absurd (omega arith)
-    by (Some o) rest e = let k : 101 ≡ 109 = ap first e in absurd (omega arith)
+    by None rest e = other_first (ap first e)
+    by (Some o) rest e = other_first (ap first e)
 
 -- what stands after the line is one
 one_rest : (xs ys : List ℕ) → mode_text Threaded ++ xs ≡ mode_text Threaded ++ ys → xs ≡ ys

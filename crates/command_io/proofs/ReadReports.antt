@@ -1,5 +1,5 @@
 -- A text is read as one thing.
-use Rattle.std.proofs.Common.{◌≡◌, ℕ, inl, inr, Bool, true, false, List, Result, Ok, Err, sym, ap, ◌∙◌, subst}
+use Rattle.std.proofs.Common.{◌≡◌, ℕ, inl, inr, Bool, true, false, List, Result, Ok, Err, sym, ap, ◌∙◌}
 use Rattle.std.proofs.lemmas.Bool.{cases_Bool}
 use Rattle.patch_report.specs.Answers as reports
 use Rattle.patch_report.specs.Answers.{has_other_version}
@@ -10,7 +10,7 @@ use Rattle.patch_report.specs.declared.error.ReportError.TheVariants as errors
 use Rattle.patch_report.proofs.ExactReading.{read_is}
 use Rattle.patch_report.proofs.FirstRefusedLine.{refusals_are_first}
 use Rattle.patch_report.proofs.OtherVersions.{versions_are_numbers}
-use Rattle.command_io.specs.ReportTexts.{IsReportText, IsRead}
+use Rattle.command_io.specs.ReportTexts.{IsRead}
 
 -- what a text is read as, by reading it line by line
 abbrev reading : Bool → Result ReportValue ℕ → Result ReportValue ReportError

@@ -10,7 +10,7 @@ returns-in-Ok c = read_ok c.args.text.now c.args.mode c.args.rest.now c.in-Ok.re
 pub error_in_mode-requires : goal.error_in_mode-requires
 error_in_mode-requires c = next_line c.args.rest.now c.in-Err.error c.in-Err.ensures.answer
 
-pub returns : goal.returns
-returns c =
+pub returns-in-Err : goal.returns-in-Err
+returns-in-Err c =
     subst (λ (e : ReportError). ReadsIn c.args.text.now (Err e)) (sym c.error_in_mode.ensures)
     (read_err c.args.text.now c.args.mode c.args.rest.now c.in-Err.error c.requires c.in-Err.ensures.answer)

@@ -10,7 +10,7 @@ use Rattle.pun_base.specs.Actions.{IsAction}
 use Rattle.list_text.specs.Digits.{below, number_in}
 use Rattle.list_text.specs.Words.{action_of, count_of}
 use Rattle.list_text.proofs.ActionSpellings.{actions_are_spelled}
-use Rattle.command_words.specs.Words.{Names, StepNames, ThreadNames, UnpatchNames, Command, Usage, Patch, Step, Gen, Load, Threads, Unpatch, is_plain, are_apart, patch_with, reserves_of, patch_of, check_of, most_steps, step_with, step_of, most_seed, most_blocks, nonzero, blocks_of, gen_with, gen_of, load_with, load_of, threads_with, threads_of, unpatch_of, CommandRow, commands, under_name, form_of, command_of}
+use Rattle.command_words.specs.Words.{Names, StepNames, ThreadNames, UnpatchNames, Command, Usage, Patch, Step, Gen, Load, Threads, ThreadsReported, Unpatch, is_plain, are_apart, patch_with, reserves_of, patch_of, check_of, most_steps, step_with, step_of, most_seed, most_blocks, nonzero, blocks_of, gen_with, gen_of, load_with, load_of, threads_with, reported_with, report_of, threads_by, threads_after, threads_of, unpatch_of, CommandRow, commands, under_name, form_of, command_of}
 
 -- what is known of a command that words are of
 abbrev IsKnown : Command → Type 0
@@ -19,6 +19,7 @@ IsKnown (Step n count) = count ≤ most_steps
 IsKnown (Gen seed blocks) = (1 ≤ blocks) × (blocks ≤ most_blocks)
 IsKnown (Load n a r) = (n.out ≡ n.report → ⊥) × IsAction a
 IsKnown (Threads n r) = (n.out ≡ n.file → ⊥) × (n.out ≡ n.starts → ⊥) × (n.out ≡ n.sites → ⊥)
+IsKnown (ThreadsReported n r) = n.out ≡ n.report → ⊥
 IsKnown (Unpatch n) = (n.new ≡ n.patched → ⊥) × (n.new ≡ n.report → ⊥)
 IsKnown other = Unit {0}
 
@@ -114,11 +115,10 @@ known_gen (seed ∷ blocks ∷ []) =
     parts (Some s) (Some n) f = f n refl
 known_gen other = tt
 
--- ---- the output of `threads` is apart from its inputs
+-- ---- the output of `threads` is apart from its inputs, and from its report
 
 known_threads : (words : List (List ℕ)) → IsKnown (threads_of words)
-known_threads (file ∷ starts ∷ sites ∷ out ∷ reserves) =
-    parts (record { file = file; starts = starts; sites = sites; out = out }) (reserves_of reserves)
+known_threads (file ∷ starts ∷ sites ∷ out ∷ words) = after (record { file = file; starts = starts; sites = sites; out = out }) words
   where
     by_test : (n : ThreadNames) (r : List (ℕ × ℕ)) (a b c : Bool) → Decides a (n.out ≡ n.file) → Decides b (n.out ≡ n.starts)
         → Decides c (n.out ≡ n.sites) → IsKnown (if not a && not b && not c then Threads n r else Usage)
@@ -132,6 +132,23 @@ known_threads (file ∷ starts ∷ sites ∷ out ∷ reserves) =
     parts n (Some r) =
         by_test n r (bytes_eq n.out n.file) (bytes_eq n.out n.starts) (bytes_eq n.out n.sites) (bytes_eq-Decides n.out n.file)
         (bytes_eq-Decides n.out n.starts) (bytes_eq-Decides n.out n.sites)
+
+    by_apart : (n : Names) (r : List (ℕ × ℕ)) (b : Bool) → (b ≡ true → n.out ≡ n.report → ⊥) → IsKnown (if b then ThreadsReported n r else Usage)
+    by_apart n r true f = f refl
+    by_apart n r false f = tt
+
+    reported : (n : Names) (reserves : Option (List (ℕ × ℕ))) → IsKnown (reported_with n reserves)
+    reported n None = tt
+    reported n (Some r) = by_apart n r (are_apart n) (names_apart n)
+
+    by_report : (n : ThreadNames) (report : Option (List ℕ)) (word : List ℕ) (words : List (List ℕ)) → IsKnown (threads_by n report word words)
+    by_report n None word words = parts n (reserves_of (word ∷ words))
+    by_report n (Some report) word words =
+        reported (record { file = n.file; starts = n.starts; sites = n.sites; out = n.out; report = report }) (reserves_of words)
+
+    after : (n : ThreadNames) (words : List (List ℕ)) → IsKnown (threads_after n words)
+    after n [] = parts n (reserves_of [])
+    after n (word ∷ words) = by_report n (report_of word) word words
 known_threads other = tt
 
 -- ---- the output of `unpatch` is apart from its inputs
@@ -207,3 +224,7 @@ load_apart words n a r e = (of_words words (Load n a r) e).0
 -- the action of `load` can be asked for
 pub load_action : (words : List (List ℕ)) (n : Names) (a : Action) (r : List (ℕ × ℕ)) → Load n a r ≡ command_of words → IsAction a
 load_action words n a r e = (of_words words (Load n a r) e).1
+
+-- a patch for threads with a report is of names that are apart
+pub reported_apart : (words : List (List ℕ)) (n : Names) (r : List (ℕ × ℕ)) → ThreadsReported n r ≡ command_of words → n.out ≡ n.report → ⊥
+reported_apart words n r e = of_words words (ThreadsReported n r) e

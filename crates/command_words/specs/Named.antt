@@ -16,7 +16,7 @@ use Rattle.command_words.specs.declared.words.Command.TheVariants as command
 abbrev pub synopsis_of : Synopsis → synopses.Synopsis
 synopsis_of s = record { name = s.name.now; words = map (λ w. w.now) s.words.now; reserves = s.reserves }
 
--- The names of `patch` and `load`.
+-- The names of `patch`, `load` and `threads` with a report.
 abbrev pub names_of : Names → words.Names
 names_of n = record { file = n.file.now; starts = n.starts.now; sites = n.sites.now; out = n.out.now; report = n.report.now }
 
@@ -28,7 +28,7 @@ check_names_of n = record { file = n.file.now; out = n.out.now; starts = n.start
 abbrev pub step_names_of : StepNames → words.StepNames
 step_names_of n = record { file = n.file.now; starts = n.starts.now; world = n.world.now }
 
--- Those of `threads`.
+-- Those of `threads` without a report.
 abbrev pub thread_names_of : ThreadNames → words.ThreadNames
 thread_names_of n = record { file = n.file.now; starts = n.starts.now; sites = n.sites.now; out = n.out.now }
 
@@ -45,4 +45,5 @@ command_view (command.Step names count) = words.Step (step_names_of names) count
 command_view (command.Gen seed blocks) = words.Gen seed blocks
 command_view (command.Load names action reserves) = words.Load (names_of names) action (map ends reserves.items)
 command_view (command.Threads names reserves) = words.Threads (thread_names_of names) (map ends reserves.items)
+command_view (command.ThreadsReported names reserves) = words.ThreadsReported (names_of names) (map ends reserves.items)
 command_view (command.Unpatch names) = words.Unpatch (unpatch_names_of names)

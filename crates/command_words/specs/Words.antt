@@ -1,12 +1,12 @@
 -- What the words of the command line ask for. Theorems cite it.
-use Rattle.std.specs.Prelude.{ℕ, ◌==◌, Bool, true, false, not, ◌&&◌, nat_le, if◌then◌else◌, List, [], ◌∷◌, length, map, Option, Some, None, codes}
+use Rattle.std.specs.Prelude.{ℕ, ◌==◌, Bool, true, false, not, ◌&&◌, nat_le, if◌then◌else◌, List, [], ◌∷◌, length, take, drop, map, Option, Some, None, codes}
 use Rattle.std.specs.List.{list_all}
 use Rattle.std.specs.Str.{bytes_eq}
 use Rattle.pun_base.specs.declared.action.Action.{Action}
 use Rattle.list_text.specs.Words.{action_of, range_of, count_of}
 use Rattle.command_words.specs.Synopses.{Synopsis, usage_of}
 
--- The names that `patch` and `load` are given, as bytes of UTF-8.
+-- The names that `patch`, `load` and `threads` with a report are given, as bytes of UTF-8.
 pub record Names : Type 0 where
   pub file : List ℕ
   pub starts : List ℕ
@@ -27,7 +27,7 @@ pub record StepNames : Type 0 where
   pub starts : List ℕ
   pub world : List ℕ
 
--- The names that `threads` is given.
+-- The names that `threads` is given without a report.
 pub record ThreadNames : Type 0 where
   pub file : List ℕ
   pub starts : List ℕ
@@ -55,6 +55,8 @@ pub data Command : Type 0 where
   Load : (names : Names) (action : Action) (reserves : List (ℕ × ℕ)) → Command
   -- patch for a guest of several threads, with counters
   Threads : (names : ThreadNames) (reserves : List (ℕ × ℕ)) → Command
+  -- as that, with a report
+  ThreadsReported : (names : Names) (reserves : List (ℕ × ℕ)) → Command
   -- give back the original of a patched file
   Unpatch : (names : UnpatchNames) → Command
 
@@ -172,10 +174,34 @@ abbrev pub threads_with : ThreadNames → Option (List (ℕ × ℕ)) → Command
 threads_with n None = Usage
 threads_with n (Some reserves) = if has_own_out n then Threads n reserves else Usage
 
--- The words behind `threads`: FILE STARTS SITES OUT, and then any RESERVE.
+-- A patch for threads with a report, with these names and ranges, where they are of the form.
+abbrev pub reported_with : Names → Option (List (ℕ × ℕ)) → Command
+reported_with n None = Usage
+reported_with n (Some reserves) = if are_apart n then ThreadsReported n reserves else Usage
+
+-- A name that is plain.
+abbrev pub plain_name : List ℕ → Option (List ℕ)
+plain_name name = if is_plain name then Some name else None
+
+-- The name of a report that a word asks for: the word is `report:` with a plain name after it.
+abbrev pub report_of : List ℕ → Option (List ℕ)
+report_of word = if bytes_eq (take 7 word) (codes "report:") then plain_name (drop 7 word) else None
+
+-- A patch for threads, by the report that the first of the words after OUT asks for: the words after that are RESERVEs, and without
+-- a report all of them are.
+abbrev pub threads_by : ThreadNames → Option (List ℕ) → List ℕ → List (List ℕ) → Command
+threads_by n None word words = threads_with n (reserves_of (word ∷ words))
+threads_by n (Some report) word words =
+    reported_with (record { file = n.file; starts = n.starts; sites = n.sites; out = n.out; report = report }) (reserves_of words)
+
+-- A patch for threads, with these words after OUT.
+abbrev pub threads_after : ThreadNames → List (List ℕ) → Command
+threads_after n [] = threads_with n (reserves_of [])
+threads_after n (word ∷ words) = threads_by n (report_of word) word words
+
+-- The words behind `threads`: FILE STARTS SITES OUT, then the report that is asked for or none, and then any RESERVE.
 abbrev pub threads_of : List (List ℕ) → Command
-threads_of (file ∷ starts ∷ sites ∷ out ∷ reserves) =
-    threads_with (record { file = file; starts = starts; sites = sites; out = out }) (reserves_of reserves)
+threads_of (file ∷ starts ∷ sites ∷ out ∷ words) = threads_after (record { file = file; starts = starts; sites = sites; out = out }) words
 threads_of other = Usage
 
 -- NEW differs from the inputs.

@@ -1,13 +1,14 @@
 //! The command that its name and the words behind it are of.
 ghost use Rattle.std.specs.Prelude.{◌≡◌, ◌∷◌, IfOk, map, option_map};
 ghost use Rattle.pun_base.specs.Ranges.{ends};
-ghost use Rattle.command_words.specs.Words.{patch_of, patch_with, check_of, step_of, gen_of, gen_with, blocks_of, load_with, threads_of, threads_with, unpatch_of, unpatch_with, form_of};
+ghost use Rattle.command_words.specs.Words.{patch_of, patch_with, check_of, step_of, gen_of, gen_with, blocks_of, load_with, threads_of, threads_after, threads_with, reported_with, unpatch_of, unpatch_with, form_of};
 ghost use Rattle.command_words.specs.Words.{are_apart as apart, is_apart as stands_apart};
 ghost use Rattle.command_words.specs.Words.{has_own_out as owns_out};
+ghost use Rattle.command_words.specs.Words.{report_of as report_name};
 ghost use Rattle.command_words.specs.Named.{names_of, thread_names_of, unpatch_names_of, command_view};
 
 use crate::reserves::read_reserves;
-use crate::words::{CheckNames, Command, Names, StepNames, ThreadNames, UnpatchNames};
+use crate::words::{CheckNames, Command, Names, StepNames, ThreadNames, UnpatchNames, is_name};
 use list_text::words::{read_action, read_count};
 use pun_base::action::Action;
 use pun_base::range::Range;
@@ -178,11 +179,11 @@ fn load_with<'a>(patch: Command<'a>) -> Command<'a>
     }
 }
 
-/// The patch for threads that is asked for: FILE STARTS SITES OUT, and then any RESERVE.
+/// The patch for threads that is asked for: FILE STARTS SITES OUT, then `report:NAME` or nothing, and then any RESERVE.
 fn read_threads<'a>(alloc: Global, words: &[&'a str]) -> Result<Command<'a>, AllocError>
     ensures { IfOk result (λ c. command_view c ≡ threads_of (map (λ w. w.now) words.now)) }
 {
-    let [file, starts, sites, out, reserves @ ..] = words else {
+    let [file, starts, sites, out, words @ ..] = words else {
         return Ok(Command::Usage);
     };
     let names = ThreadNames {
@@ -191,8 +192,70 @@ fn read_threads<'a>(alloc: Global, words: &[&'a str]) -> Result<Command<'a>, All
         sites,
         out,
     };
-    let reserves = read_reserves(alloc, reserves)?;
-    Ok(threads_with(names, reserves))
+    read_after_out(alloc, names, words)
+}
+
+/// A patch for threads with these names, and the words after OUT.
+fn read_after_out<'a>(
+    alloc: Global,
+    names: ThreadNames<'a>,
+    words: &[&'a str],
+) -> Result<Command<'a>, AllocError>
+    ensures { IfOk result (λ c. command_view c
+        ≡ threads_after (thread_names_of names.entry) (map (λ w. w.now) words.now)) }
+{
+    let Some((word, later)) = words.split_first() else {
+        let reserves = read_reserves(alloc, words)?;
+        return Ok(threads_with(names, reserves));
+    };
+    match report_of(word) {
+        Some(report) => {
+            let ThreadNames {
+                file,
+                starts,
+                sites,
+                out,
+            } = names;
+            let names = Names {
+                file,
+                starts,
+                sites,
+                out,
+                report,
+            };
+            let reserves = read_reserves(alloc, later)?;
+            Ok(reported_with(names, reserves))
+        }
+        None => {
+            let reserves = read_reserves(alloc, words)?;
+            Ok(threads_with(names, reserves))
+        }
+    }
+}
+
+/// The name of a report that a word asks for: the word is `report:` with a name after it.
+fn report_of<'a>(word: &'a str) -> Option<&'a str>
+    ensures { option_map (λ n. n.now) result ≡ report_name word.entry.now }
+{
+    match word.strip_prefix("report:") {
+        Some(name) if is_name(name) => Some(name),
+        _ => None,
+    }
+}
+
+/// A patch for threads with a report, with these names and ranges, where they are of the form.
+fn reported_with<'a>(names: Names<'a>, reserves: Option<Vec<Range>>) -> Command<'a>
+    ensures { command_view result
+        ≡ reported_with (names_of names.entry) (option_map (λ v. map ends v.items) reserves) }
+{
+    let Some(reserves) = reserves else {
+        return Command::Usage;
+    };
+    if are_apart(&names) {
+        Command::ThreadsReported { names, reserves }
+    } else {
+        Command::Usage
+    }
 }
 
 /// A patch for threads with these names and ranges, where they are of the form.

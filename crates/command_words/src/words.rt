@@ -10,7 +10,7 @@ use pun_base::action::Action;
 use pun_base::range::Range;
 use std::alloc::{AllocError, Global};
 
-/// The names that `patch` and `load` are given.
+/// The names that `patch`, `load` and `threads` with a report are given.
 #[derive(Clone, Copy)]
 pub struct Names<'a> {
     pub file: &'a str,
@@ -37,7 +37,7 @@ pub struct StepNames<'a> {
     pub world: &'a str,
 }
 
-/// The names that `threads` is given.
+/// The names that `threads` is given without a report.
 #[derive(Clone, Copy)]
 pub struct ThreadNames<'a> {
     pub file: &'a str,
@@ -87,6 +87,11 @@ pub enum Command<'a> {
         names: ThreadNames<'a>,
         reserves: Vec<Range>,
     },
+    /// Patch for a guest of several threads, with counters and a report.
+    ThreadsReported {
+        names: Names<'a>,
+        reserves: Vec<Range>,
+    },
     /// Give back the original of a patched file.
     Unpatch(UnpatchNames<'a>),
 }
@@ -111,7 +116,7 @@ fn are_plain(words: &[String]) -> bool
 }
 
 /// Whether a word isn't empty and doesn't begin with `-`.
-fn is_name(word: &str) -> bool
+pub(crate) fn is_name(word: &str) -> bool
     ensures { result ≡ is_plain word.now }
 {
     match word.as_bytes() {

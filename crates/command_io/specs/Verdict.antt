@@ -1,5 +1,5 @@
 -- What is to be said of the texts of FILE, STARTS and SITES. Theorems cite it.
-use Rattle.std.specs.Prelude.{◌≡◌, ℕ, ◌<◌, List, [], ◌∷◌, map, slice_index, Some, Result, Ok, Err}
+use Rattle.std.specs.Prelude.{◌≡◌, ℕ, ◌<◌, List, [], ◌∷◌, ◌++◌, map, slice_index, Some, Result, Ok, Err}
 use Rattle.pun_base.specs.Shown.{Files}
 use Rattle.pun_base.specs.declared.action.Action.{Action}
 use Rattle.pun_base.specs.declared.range.Range.{Range}
@@ -8,6 +8,7 @@ use Rattle.pun_base.specs.Limits.{most_sites}
 use Rattle.list_text.specs.declared.refusal.ListError.{ListError}
 use Rattle.list_text.specs.Lists.{list_of}
 use Rattle.patch_report.specs.Values.{ReportValue}
+use Rattle.patch_report.specs.Spelling.{report_text}
 use Rattle.rewrite_core.specs.Asked.{Asked}
 use Rattle.rewrite_core.specs.Judging.{Job, Judges}
 use Rattle.rewrite_core.specs.Rewrites.{file_of}
@@ -15,7 +16,10 @@ use Rattle.rewrite_core.specs.Followed.{IsFollowed}
 use Rattle.command_words.specs.Words.{Names}
 use Rattle.command_io.specs.Refusals.{BadList, Rewrite}
 use Rattle.command_io.specs.Writing.{Verdict, Refused, Accepted}
+use Rattle.command_io.specs.ReportModes.{mode_text}
 use Rattle.command_io.specs.declared.ends.Input.TheVariants as input
+use Rattle.command_io.specs.declared.report_mode.Mode.{Mode}
+use Rattle.command_io.specs.declared.report_mode.Mode.TheVariants.{Plain}
 
 -- The starts that the text of STARTS lists, on at most 4,194,304 lines.
 abbrev pub starts_of : List ℕ → Result (List ℕ) ListError
@@ -45,11 +49,16 @@ asked action reserves file starts sites = record
 pub record Form (J : Type 0) : Type 1 where
   -- what is to be said of what is asked of a rewriting
   pub Judged : Asked → Verdict J → Type 0
-  -- what OUT holds of a job, and what REPORT tells
+  -- what OUT holds of a job, and what REPORT tells in which mode
   pub file : J → List ℕ
+  pub mode : Mode
   pub report : J → ReportValue
   -- what is promised of FILE's bytes, the addresses of STARTS and the job
   pub Follows : List ℕ → List ℕ → J → Type 0
+
+-- The text of REPORT for a job.
+abbrev pub reported_text : {J : Type 0} → Form J → J → List ℕ
+reported_text f job = mode_text f.mode ++ report_text (f.report job)
 
 -- The verdict is what the rewriting is judged to be.
 abbrev pub IsJudged : Asked → Verdict Job → Type 0
@@ -62,6 +71,7 @@ abbrev pub plain : Form Job
 plain = record {
   Judged = IsJudged;
   file = file_of;
+  mode = Plain;
   report = λ job. job.report;
   Follows = λ file starts job. IsFollowed file starts (file_of job) job.report;
 }

@@ -12,6 +12,7 @@ use Rattle.command_io.proofs.WholeCommands.{works_as}
 use Rattle.patch_commands.specs.LoadAnswers.{with_stub}
 use Rattle.patch_commands.specs.Patching.{patch_texts, AreLists, WritesReport}
 use Rattle.patch_commands.specs.Forms.{writing_in, RewritesIn}
+use Rattle.command_io.specs.declared.report_mode.Mode.TheVariants as mode
 use Rattle.patch_commands.specs.declared.patching.Form.{Form}
 use Rattle.patch_commands.specs.declared.patching.Form.TheVariants.{Plain, WithStub}
 use Rattle.patch_commands.specs.declared.patch.Inputs.{Inputs}
@@ -29,7 +30,7 @@ module _ (p : Patching) (rs : List Range) (x : Inputs) (file starts sites : List
   -- the file was rewritten, and its report was written or not
   pub reported_in : (f : Form) (report : ReportValue) (s u t : DeskState) (a : Result Answer Failed)
       → RewritesIn f (asked p.action rs file starts sites) p.names.out s u (Ok report)
-      → WritesReport p.names.report report u t a → Works (writing_in f p) (patch_texts x) s t a
+      → WritesReport mode.Plain p.names.report report u t a → Works (writing_in f p) (patch_texts x) s t a
   reported_in Plain report s u t a h w =
       reported p x _ (given (rewriting_in plain p) rs x file starts sites _ _ _ r l refl refl refl b) report s u t a h w
   reported_in WithStub report s u t a h w =

@@ -15,6 +15,7 @@ use Rattle.rewrite_loader.proofs.LoaderVerdicts.{judged_once}
 use Rattle.command_io.specs.Refusals as refusals
 use Rattle.command_io.specs.Refusals.{Rewrite, Load}
 use Rattle.command_io.specs.Writing.{Verdict, Refused, Accepted}
+use Rattle.command_io.specs.declared.report_mode.Mode.TheVariants.{Plain}
 use Rattle.command_io.specs.Verdict.{Patching, rewriting_in, OfTexts}
 use Rattle.patch_commands.specs.LoadAnswers.{IsLoaderJudged, with_stub, load_writing}
 use Rattle.command_io.specs.Failing.{Failed, Unwritten, NoMemory, Answer, loader_failed}
@@ -58,11 +59,11 @@ module _ (p : Patching) (x : Inputs) (a : Asked) (g : IsGiven (rewriting_in with
 
   -- the file was rewritten, and its report was written or not
   pub reported : (report : ReportValue) (s u t : DeskState) (r : Result Answer Failed) → HasJob a (IsRewritten a p.names.out s u report)
-      → WritesReport p.names.report report u t r → Works (load_writing p) (patch_texts x) s t r
+      → WritesReport Plain p.names.report report u t r → Works (load_writing p) (patch_texts x) s t r
   reported report s u t r h w =
       reported_in with_stub p one_loader_judged x a g h.0 s u t r h.1 h.2.holds
       (subst (λ (v : ReportValue). IsLoaderFollowed a.file a.starts h.0 v) h.2.report_is h.2.followed)
-      (subst (λ (v : ReportValue). WritesReport p.names.report v u t r) h.2.report_is w)
+      (subst (λ (v : ReportValue). WritesReport Plain p.names.report v u t r) h.2.report_is w)
 
   -- nothing was rewritten, or OUT isn't whole
   pub refused : (s t : DeskState) (error : LoaderError) → Rewrites a p.names.out s t (Err error)

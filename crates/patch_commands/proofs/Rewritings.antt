@@ -1,5 +1,5 @@
 -- OUT is rewritten, and then the report is written.
-use Rattle.std.proofs.Common.{◌≡◌, ℕ, ◌<◌, inl, inr, List, map, slice_index, Result, Ok, Err, refl, ◌∙◌, subst}
+use Rattle.std.proofs.Common.{◌≡◌, ℕ, ◌<◌, inl, inr, List, map, slice_index, ◌++◌, Result, Ok, Err, refl, ◌∙◌, subst}
 use Rattle.pun_base.specs.Shown.{DeskState}
 use Rattle.pun_base.specs.Desk.{Fills}
 use Rattle.pun_base.specs.declared.range.Range.{Range}
@@ -16,6 +16,9 @@ use Rattle.rewrite_core.specs.declared.rewrite.RewriteError.TheVariants as rewri
 use Rattle.command_words.specs.Words.{Names}
 use Rattle.command_io.specs.Refusals as refusals
 use Rattle.command_io.specs.Summary.{summary_text, done_status}
+use Rattle.command_io.specs.ReportModes.{mode_text}
+use Rattle.command_io.specs.declared.report_mode.Mode.{Mode}
+use Rattle.command_io.specs.declared.report_mode.Mode.TheVariants.{Plain}
 use Rattle.command_io.specs.Writing.{Verdict, Refused, Accepted}
 use Rattle.command_io.specs.Verdict.{Patching, Form, plain, IsJudged, Rewriting, rewriting_in, starts_of, sites_of, asked, OfTexts}
 use Rattle.patch_commands.specs.Answers.{form_outputs, ListFollowed, form_writing, patch_writing}
@@ -66,13 +69,13 @@ list_followed Follows w x a j g h =
     record { list = g.starts; listed = g.starts_are; followed = subst (λ (z : Asked). Follows z.file z.starts j) g.same h }
 
 -- REPORT couldn't be written
-pub unreported : (name text : List ℕ) (report : ReportValue) (s t : DeskState) (e : Failed) → text ≡ report_text report
-    → WritesOne name text s t (Err e) → WritesReport name report s t (Err e)
-unreported name text report s t e q w = inl (subst (λ (b : List ℕ). WritesOne name b s t (Err e)) q w)
+pub unreported : (m : Mode) (name text : List ℕ) (report : ReportValue) (s t : DeskState) (e : Failed) → text ≡ mode_text m ++ report_text report
+    → WritesOne name text s t (Err e) → WritesReport m name report s t (Err e)
+unreported m name text report s t e q w = inl (subst (λ (b : List ℕ). WritesOne name b s t (Err e)) q w)
 
 -- OUT is written, and then REPORT is or not
 both_finish : {J : Type 0} → (f : Form J) (n : Names) (j : J) (s u t : DeskState) (r : Result Answer Failed) → Fills n.out (f.file j) s u (Ok tt)
-    → WritesReport n.report (f.report j) u t r
+    → WritesReport f.mode n.report (f.report j) u t r
     → Finishes (form_outputs f n) j (summary_text (f.report j).body.rows, done_status (f.report j).body.rows) s t r
 both_finish f n j s u t (Ok a) o w = (w.0, (u, o, w.1))
 both_finish f n j s u t (Err e) o w = inr (u, o, w)
@@ -80,7 +83,7 @@ both_finish f n j s u t (Err e) o w = inr (u, o, w)
 -- in any form OUT is written, and then REPORT is or not
 pub reported_in : {J : Type 0} → (f : Form J) (p : Patching) → IsOnce (rewriting_in f p) → (x : Inputs) (a : Asked) → IsGiven (rewriting_in f p) x a
     → (j : J) (s u t : DeskState) (r : Result Answer Failed) → f.Judged a (Accepted j) → Fills p.names.out (f.file j) s u (Ok tt)
-    → f.Follows a.file a.starts j → WritesReport p.names.report (f.report j) u t r → Works (form_writing f p) (patch_texts x) s t r
+    → f.Follows a.file a.starts j → WritesReport f.mode p.names.report (f.report j) u t r → Works (form_writing f p) (patch_texts x) s t r
 reported_in f p once x a g j s u t r judged o h w = inr (
   j,
   record {
@@ -99,11 +102,11 @@ module _ (p : Patching) (x : Inputs) (a : Asked) (g : IsGiven (rewriting_in plai
 
   -- the file was rewritten, and its report was written or not
   pub reported : (report : ReportValue) (s u t : DeskState) (r : Result Answer Failed) → HasJob a (IsRewritten a p.names.out s u report)
-      → WritesReport p.names.report report u t r → Works (patch_writing p) (patch_texts x) s t r
+      → WritesReport Plain p.names.report report u t r → Works (patch_writing p) (patch_texts x) s t r
   reported report s u t r h w =
       reported_in plain p one_judged x a g h.0 s u t r h.1 h.2.holds
       (subst (λ (v : ReportValue). IsFollowed a.file a.starts (file_of h.0) v) h.2.report_is h.2.followed)
-      (subst (λ (v : ReportValue). WritesReport p.names.report v u t r) h.2.report_is w)
+      (subst (λ (v : ReportValue). WritesReport Plain p.names.report v u t r) h.2.report_is w)
 
   -- nothing was rewritten, or OUT isn't whole
   pub refused : (s t : DeskState) (error : RewriteError) → Rewrites a p.names.out s t (Err error)

@@ -1,30 +1,31 @@
--- OUT is rewritten for threads, and the summary is told.
+-- OUT is rewritten for threads, its report is written where one is asked for, and the summary is told.
 use Rattle.std.proofs.Common.{◌≡◌, inl, inr, List, map, Result, Ok, Err, refl, sym, ap, ◌∙◌, subst}
 use Rattle.pun_base.specs.Shown.{DeskState}
 use Rattle.elf_emit.specs.declared.emit.EmitError.TheVariants as emit
-use Rattle.patch_report.specs.Values.{RowValue, row_value}
+use Rattle.patch_report.specs.Values.{RowValue, ReportValue, row_value}
 use Rattle.patch_report.specs.declared.row.ReportRow.{ReportRow}
 use Rattle.rewrite_core.specs.Asked.{Asked, IsInOrder}
 use Rattle.guest_threads.specs.declared.rewriting.ThreadError.{ThreadError}
 use Rattle.guest_threads.specs.declared.rewriting.ThreadError.TheVariants as threads
 use Rattle.guest_threads.specs.declared.rewriting.ThreadReport.{ThreadReport}
-use Rattle.guest_threads.specs.ThreadRewriting.{ThreadJob, Judges, HasJob, IsRewritten, RewritesThreads}
+use Rattle.guest_threads.specs.ThreadRewriting.{ThreadJob, Judges, HasJob, IsRewritten, RewritesThreads, IsReported}
 use Rattle.guest_threads.proofs.ThreadVerdicts.{judged_once}
 use Rattle.command_io.specs.Refusals.{Rewrite}
 use Rattle.command_io.specs.Summary.{summary_text, done_status}
 use Rattle.command_io.specs.Inputs.{gathered}
-use Rattle.command_io.specs.Writing.{Verdict, Refused, Accepted}
-use Rattle.command_io.specs.Verdict.{OfTexts}
+use Rattle.command_io.specs.Writing.{Verdict, Refused, Accepted, Writing}
+use Rattle.command_io.specs.Verdict.{Patching, rewriting_in, OfTexts}
+use Rattle.command_io.specs.declared.report_mode.Mode.TheVariants.{Threaded}
 use Rattle.patch_commands.specs.Answers.{listed_inputs, ListFollowed}
-use Rattle.patch_commands.specs.ThreadsAnswers.{ThreadPatching, IsThreadJudged, threads_rewriting, file_of, FollowsInThreads, threads_writing, ThreadsHaveOneVerdict}
+use Rattle.patch_commands.specs.ThreadsAnswers.{ThreadPatching, IsThreadJudged, threads_rewriting, file_of, FollowsInThreads, threads_writing, ThreadsHaveOneVerdict, IsOfJob, for_threads, reported_writing}
 use Rattle.command_io.specs.Failing as failing
 use Rattle.command_io.specs.Failing.{Failed, Unwritten, NoMemory, Answer, as_rewriting, thread_failed}
-use Rattle.command_io.specs.Works.{IsOnly, Works}
+use Rattle.command_io.specs.Works.{IsOnly, WritesOne, WritesAll, Works}
 use Rattle.command_io.proofs.WholeCommands.{if_done, stopped, told_behind}
-use Rattle.patch_commands.specs.Patching.{patch_texts, TellsSummary}
+use Rattle.patch_commands.specs.Patching.{patch_texts, TellsSummary, WritesReport}
 use Rattle.patch_commands.specs.declared.patch.Inputs.{Inputs}
 use Rattle.patch_commands.proofs.TextVerdicts.{one_gathered}
-use Rattle.patch_commands.proofs.Rewritings.{IsGiven, verdict_of, list_followed}
+use Rattle.patch_commands.proofs.Rewritings.{IsGiven, verdict_of, list_followed, reported_in}
 
 -- ---- there is one verdict at most
 
@@ -51,7 +52,30 @@ one_threads_verdict files p v w b h k =
     one_gathered (threads_rewriting p) one_thread_judged files p.names.file p.names.starts p.names.sites v w
     (gathered files (listed_inputs p.names.file p.names.starts p.names.sites)) b refl h k
 
--- ---- as `threads` does
+-- ---- a rewriting that doesn't end well, for any command that writes the file of a job first
+
+module _ (w : Writing ThreadJob) (texts : List (List ℕ)) (a : Asked) (out : List ℕ)
+    (cut : (j : ThreadJob) (s t : DeskState) (e : Failed) → WritesOne out (file_of j) s t (Err e) → WritesAll w.outputs j s t (Err e))
+    (only : (v : Verdict ThreadJob) → IsThreadJudged a v → IsOnly v (w.Judges texts)) where
+  -- nothing is written
+  refused_so : (s t : DeskState) (error : ThreadError) → Judges a (Err error) → t ≡ s
+      → Works w texts s t (Err (failing.Refused (Rewrite (as_rewriting error))))
+  refused_so s t error judged e = inl (e, only (Refused (Rewrite (as_rewriting error))) (error, refl, judged))
+
+  -- nothing was rewritten, or OUT isn't whole
+  unfinished : (s t : DeskState) (error : ThreadError) → RewritesThreads a out s t (Err error) → Works w texts s t (Err (thread_failed out error))
+  unfinished s t (threads.Emit emit.WriteFault) h =
+      stopped w texts s t h.0 (Unwritten out) (only (Accepted h.0) h.1) (cut h.0 s t (Unwritten out) (refl, h.2))
+  unfinished s t (threads.Emit emit.Memory) h = absurd h.0
+  unfinished s t (threads.Emit (emit.TooManySegments n)) h = refused_so s t (threads.Emit (emit.TooManySegments n)) h.0 h.1
+  unfinished s t threads.Memory (inl e) = inl (e, tt)
+  unfinished s t threads.Memory (inr h) =
+      stopped w texts s t h.0 NoMemory (only (Accepted h.0) h.1) (cut h.0 s t NoMemory (inr h.2))
+  unfinished s t (threads.Elf error) h = refused_so s t (threads.Elf error) h.0 h.1
+  unfinished s t (threads.Start error) h = refused_so s t (threads.Start error) h.0 h.1
+  unfinished s t (threads.Turn error) h = refused_so s t (threads.Turn error) h.0 h.1
+
+-- ---- as `threads` does without a report
 
 module _ (p : ThreadPatching) (x : Inputs) (a : Asked) (g : IsGiven (threads_rewriting p) x a) where
   -- what is judged is to be said of the texts
@@ -74,21 +98,29 @@ module _ (p : ThreadPatching) (x : Inputs) (a : Asked) (g : IsGiven (threads_rew
         },
       )
 
-  -- nothing is written
-  refused_so : (s t : DeskState) (error : ThreadError) → Judges a (Err error) → t ≡ s
-      → Works (threads_writing p) (patch_texts x) s t (Err (failing.Refused (Rewrite (as_rewriting error))))
-  refused_so s t error judged e = inl (e, only_this (Refused (Rewrite (as_rewriting error))) (error, refl, judged))
-
   -- nothing was rewritten, or OUT isn't whole
   pub refused : (s t : DeskState) (error : ThreadError) → RewritesThreads a p.names.out s t (Err error)
       → Works (threads_writing p) (patch_texts x) s t (Err (thread_failed p.names.out error))
-  refused s t (threads.Emit emit.WriteFault) h =
-      stopped (threads_writing p) (patch_texts x) s t h.0 (Unwritten p.names.out) (only_this (Accepted h.0) h.1) (inl (refl, h.2))
-  refused s t (threads.Emit emit.Memory) h = absurd h.0
-  refused s t (threads.Emit (emit.TooManySegments n)) h = refused_so s t (threads.Emit (emit.TooManySegments n)) h.0 h.1
-  refused s t threads.Memory (inl e) = inl (e, tt)
-  refused s t threads.Memory (inr h) =
-      stopped (threads_writing p) (patch_texts x) s t h.0 NoMemory (only_this (Accepted h.0) h.1) (inl (inr h.2))
-  refused s t (threads.Elf error) h = refused_so s t (threads.Elf error) h.0 h.1
-  refused s t (threads.Start error) h = refused_so s t (threads.Start error) h.0 h.1
-  refused s t (threads.Turn error) h = refused_so s t (threads.Turn error) h.0 h.1
+  refused s t error h = unfinished (threads_writing p) (patch_texts x) a p.names.out (λ j u v e q. inl q) only_this s t error h
+
+-- ---- as it does with one
+
+module _ (p : Patching) (x : Inputs) (a : Asked) (g : IsGiven (rewriting_in for_threads p) x a) where
+  -- what is judged is to be said of the texts
+  only_so : (v : Verdict ThreadJob) → IsThreadJudged a v → IsOnly v (OfTexts (rewriting_in for_threads p) (patch_texts x))
+  only_so v h = verdict_of (rewriting_in for_threads p) one_thread_judged x a v g h
+
+  -- the file was rewritten, and its report was written or not
+  pub reported : (report : ReportValue) (s u t : DeskState) (r : Result Answer Failed) → HasJob a (IsReported a p.names.out s u report)
+      → WritesReport Threaded p.names.report report u t r → Works (reported_writing p) (patch_texts x) s t r
+  reported report s u t r h w =
+      let of_job : IsOfJob h.0 report =
+      record { told = h.2.told; action = h.2.action_is; private = h.2.private_is; rows = h.2.rows_are } in
+      reported_in for_threads p one_thread_judged x a g h.0 s u t r h.1 h.2.holds
+      (record { of_job = subst (IsOfJob h.0) h.2.report_is of_job; followed = h.2.followed })
+      (subst (λ (v : ReportValue). WritesReport Threaded p.names.report v u t r) h.2.report_is w)
+
+  -- nothing was rewritten, or OUT isn't whole
+  pub unreported_so : (s t : DeskState) (error : ThreadError) → RewritesThreads a p.names.out s t (Err error)
+      → Works (reported_writing p) (patch_texts x) s t (Err (thread_failed p.names.out error))
+  unreported_so s t error h = unfinished (reported_writing p) (patch_texts x) a p.names.out (λ j u v e q. inl q) only_so s t error h

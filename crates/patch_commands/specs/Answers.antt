@@ -11,7 +11,7 @@ use Rattle.command_io.specs.Summary.{summary_text, done_status}
 use Rattle.command_io.specs.Messages.{Answer, TellsOne}
 use Rattle.command_io.specs.Inputs.{Inputs, WhereTold}
 use Rattle.command_io.specs.Writing.{Verdict, Outputs, Writing, IsInputVerdict, Writes}
-use Rattle.command_io.specs.Verdict.{Patching, starts_of, Form, plain, rewriting_in, OfTexts, HoldsBytes}
+use Rattle.command_io.specs.Verdict.{Patching, starts_of, Form, reported_text, plain, rewriting_in, OfTexts, HoldsBytes}
 use Rattle.command_io.specs.declared.ends.Input.TheVariants as input
 
 -- Words that are of no command's form: the usage is told, with status 2, and what the desk
@@ -28,13 +28,13 @@ IsDone status = status ≤ 1
 abbrev pub listed_inputs : (file starts sites : List ℕ) → Inputs
 listed_inputs file starts sites = (input.File, file) ∷ (input.Starts, starts) ∷ (input.Sites, sites) ∷ []
 
--- So are those of `patch` and `load`.
+-- So are those of each form.
 abbrev pub patch_inputs : Names → Inputs
 patch_inputs n = listed_inputs n.file n.starts n.sites
 
 -- OUT is written, and then REPORT.
 abbrev pub form_outputs : {J : Type 0} → Form J → Names → Outputs J
-form_outputs f n = (n.out, f.file) ∷ (n.report, λ job. report_text (f.report job)) ∷ []
+form_outputs f n = (n.out, f.file) ∷ (n.report, reported_text f) ∷ []
 
 -- What is promised of texts of FILE and STARTS: STARTS lists instructions, and the patched file follows the original.
 pub record ListFollowed {J : Type 0} (Follows : List ℕ → List ℕ → J → Type 0) (file starts : List ℕ) (job : J) : Type 0 where
@@ -70,7 +70,7 @@ HasOneVerdict {J = J} f =
     → IsInputVerdict (form_writing f p) files v → IsInputVerdict (form_writing f p) files w → v ≡ w
 
 -- What is promised, of the files before and after patching in a form. FILE held an original and STARTS the list of its instructions;
--- OUT holds the file of a job and REPORT the text of its report.
+-- OUT holds the file of a job and REPORT the text of its report, in the form's mode.
 pub record FormFollowed {J : Type 0} (f : Form J) (n : Names) (old new : Files) : Type 0 where
   pub file : List ℕ
   pub starts : List ℕ
@@ -78,7 +78,7 @@ pub record FormFollowed {J : Type 0} (f : Form J) (n : Names) (old new : Files) 
   pub held_file : old n.file ≡ Some file
   pub held_starts : old n.starts ≡ Some starts
   pub holds_out : new n.out ≡ Some (f.file job)
-  pub holds_report : new n.report ≡ Some (report_text (f.report job))
+  pub holds_report : new n.report ≡ Some (reported_text f job)
   -- the addresses that the text of STARTS lists
   pub list : List ℕ
   pub listed : starts_of starts ≡ Ok list

@@ -10,6 +10,7 @@ use Rattle.command_io.specs.Inputs.{WhereTold}
 use Rattle.command_io.specs.Refusals.{Rewrite, Load}
 use Rattle.command_io.specs.Writing.{Verdict, Refused, Accepted, Writing, Writes}
 use Rattle.command_io.specs.Verdict.{Patching, Form}
+use Rattle.command_io.specs.declared.report_mode.Mode.TheVariants.{Plain}
 use Rattle.patch_commands.specs.Answers.{IsDone, form_writing, FormFollowed}
 
 -- The verdict is what the rewriting into the loader form is judged to be.
@@ -24,6 +25,7 @@ abbrev pub with_stub : Form LoaderJob
 with_stub = record {
   Judged = IsLoaderJudged;
   file = file_of;
+  mode = Plain;
   report = λ job. job.job.report;
   Follows = λ file starts job. IsLoaderFollowed file starts job job.job.report;
 }

@@ -1,5 +1,5 @@
 -- What the code of `patch` holds, and what the functions do that each command calls that rewrites FILE. Theorems cite it.
-use Rattle.std.specs.Prelude.{◌≡◌, ◌⊎◌, ℕ, ◌≤◌, List, [], ◌∷◌, length, Result, Ok, Err}
+use Rattle.std.specs.Prelude.{◌≡◌, ◌⊎◌, ℕ, ◌≤◌, List, [], ◌∷◌, ◌++◌, length, Result, Ok, Err}
 use Rattle.std.specs.List.Sorted.{IsStrictlyIncreasing}
 use Rattle.pun_base.specs.Shown.{DeskState}
 use Rattle.pun_base.specs.Limits.{most_sites}
@@ -7,11 +7,13 @@ use Rattle.list_text.specs.declared.refusal.ListError.{ListError}
 use Rattle.patch_report.specs.Values.{RowValue, ReportValue}
 use Rattle.patch_report.specs.Spelling.{report_text}
 use Rattle.command_io.specs.Summary.{summary_text, done_status}
+use Rattle.command_io.specs.ReportModes.{mode_text}
 use Rattle.command_io.specs.Refusals.{Refusal, BadList}
 use Rattle.command_io.specs.Verdict.{starts_of, sites_of}
 use Rattle.command_io.specs.Failing.{Failed, Refused, NoMemory, Answer}
 use Rattle.command_io.specs.Works.{TellsOnly, Finishes}
 use Rattle.command_io.specs.declared.ends.Input.TheVariants as input
+use Rattle.command_io.specs.declared.report_mode.Mode.{Mode}
 use Rattle.patch_commands.specs.declared.patch.Inputs.{Inputs}
 use Rattle.patch_commands.specs.declared.patch.Listed.{Listed}
 
@@ -50,8 +52,8 @@ ReadsLists x (Err other) = ⊥
 abbrev pub TellsSummary : List RowValue → Result Answer Failed → Type 0
 TellsSummary rows r = TellsOnly (summary_text rows, done_status rows) r
 
--- REPORT was written, and the summary is answered; or not.
-abbrev pub WritesReport : List ℕ → ReportValue → DeskState → DeskState → Result Answer Failed → Type 0
-WritesReport name report s t result =
-    Finishes ((name, report_text) ∷ []) report
+-- REPORT was written in a mode, and the summary is answered; or not.
+abbrev pub WritesReport : Mode → List ℕ → ReportValue → DeskState → DeskState → Result Answer Failed → Type 0
+WritesReport mode name report s t result =
+    Finishes ((name, λ (v : ReportValue). mode_text mode ++ report_text v) ∷ []) report
     (summary_text report.body.rows, done_status report.body.rows) s t result

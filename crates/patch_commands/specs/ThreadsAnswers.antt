@@ -1,20 +1,23 @@
--- What `threads` reads, judges, writes, prints and promises. Theorems cite it. In all of it s and t are what the desk shows before and
+-- What `threads` reads, judges, writes, prints and promises, without a report and with one. Theorems cite it. In all of it s and t are what the desk shows before and
 -- after, k and l what the sink shows.
 use Rattle.std.specs.Prelude.{◌≡◌, ℕ, List, [], ◌∷◌, Some, Ok, Err}
 use Rattle.pun_base.specs.Shown.{Files, DeskState, SinkState}
 use Rattle.pun_base.specs.declared.action.Action.TheVariants.{Count}
 use Rattle.elf_emit.specs.Layout.{layout}
+use Rattle.patch_report.specs.Grammar.{IsReport}
+use Rattle.patch_report.specs.Values.{ReportValue}
 use Rattle.rewrite_core.specs.Asked.{Asked}
 use Rattle.guest_threads.specs.declared.rewriting.ThreadError.{ThreadError}
 use Rattle.guest_threads.specs.ThreadRewriting.{ThreadJob, Judges, IsFollowedInThreads}
-use Rattle.command_words.specs.Words.{ThreadNames}
+use Rattle.command_words.specs.Words.{Names, ThreadNames}
 use Rattle.command_io.specs.Refusals.{Rewrite}
 use Rattle.command_io.specs.Summary.{summary_text, done_status}
 use Rattle.command_io.specs.Inputs.{Inputs, WhereTold}
 use Rattle.command_io.specs.Writing.{Verdict, Refused, Accepted, Outputs, Writing, IsInputVerdict, Writes}
-use Rattle.command_io.specs.Verdict.{starts_of, Rewriting, OfTexts, HoldsBytes}
-use Rattle.patch_commands.specs.Answers.{IsDone, listed_inputs, TextsFollowed}
+use Rattle.command_io.specs.Verdict.{Patching, patching, Form, starts_of, Rewriting, OfTexts, HoldsBytes}
+use Rattle.patch_commands.specs.Answers.{IsDone, listed_inputs, TextsFollowed, form_writing, FormFollowed}
 use Rattle.command_io.specs.Failing.{as_rewriting}
+use Rattle.command_io.specs.declared.report_mode.Mode.TheVariants.{Threaded}
 
 -- What `threads` is given: names, and the ranges in which no new code stands, each by its ends.
 pub record ThreadPatching : Type 0 where
@@ -89,3 +92,41 @@ pub record PatchesThreads (p : ThreadPatching) (s t : DeskState) (k l : SinkStat
   pub writes : Writes (threads_writing p) s t k l status
   -- what is promised of the patched file
   pub followed : WhereTold s (λ files. (new : Files) → t.held ≡ Some new → IsDone status → FilesFollowedInThreads p.names files new)
+
+-- ---- with a report
+
+-- What a report tells of a job: that each event counts, and the private range and the rows of the job. It is one that a text tells.
+pub record IsOfJob (job : ThreadJob) (report : ReportValue) : Type 0 where
+  pub told : IsReport report
+  pub action : report.body.action ≡ Count
+  pub private : report.body.private ≡ (job.private.lo, job.private.hi)
+  pub rows : report.body.rows ≡ job.rows
+
+-- What is promised with a report: the report is of the job, and all else is as without one.
+pub record FollowsReported (file starts : List ℕ) (job : ThreadJob) : Type 0 where
+  pub of_job : IsOfJob job job.report
+  pub followed : FollowsInThreads file starts job
+
+-- The form of `threads` with a report: the report is in the mode of threads.
+abbrev pub for_threads : Form ThreadJob
+for_threads = record {
+  Judged = IsThreadJudged;
+  file = file_of;
+  mode = Threaded;
+  report = λ job. job.report;
+  Follows = FollowsReported;
+}
+
+-- What `threads` is given with a report: each event counts.
+abbrev pub reported_patching : Names → List (ℕ × ℕ) → Patching
+reported_patching n reserves = patching n Count reserves
+
+-- `threads` with a report, with what it is given.
+abbrev pub reported_writing : Patching → Writing ThreadJob
+reported_writing p = form_writing for_threads p
+
+-- What `threads` does with a report, with what it is given.
+pub record PatchesReported (p : Patching) (s t : DeskState) (k l : SinkState) (status : ℕ) : Type 0 where
+  pub writes : Writes (reported_writing p) s t k l status
+  -- what is promised of the patched file and its report
+  pub followed : WhereTold s (λ files. (new : Files) → t.held ≡ Some new → IsDone status → FormFollowed for_threads p.names files new)

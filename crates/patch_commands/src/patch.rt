@@ -18,6 +18,7 @@ use command_io::ends::{Failure, Input, Told};
 use command_io::failures::{list_failure, loader_failure, rewrite_failure};
 use command_io::inputs::read_input;
 use command_io::outputs::write_output;
+use command_io::report_mode::{Mode, print_report};
 use command_io::site_rows::SiteRows;
 use command_io::summary::{done_status, summary};
 use command_words::words::Names;
@@ -126,7 +127,7 @@ fn rewrite_inputs<'a, D: Desk>(
         Err(failure) => return Err(failure),
     };
     match rewrite_listed(alloc, given, &listed, desk) {
-        Ok(report) => write_report(alloc, &report, given.names.report, desk),
+        Ok(report) => write_report(alloc, Mode::Plain, &report, given.names.report, desk),
         Err(failure) => Err(failure),
     }
 }
@@ -208,18 +209,19 @@ pub fn judge_lists<'a>(alloc: Global, inputs: Inputs) -> Result<Listed, Failure<
     })
 }
 
-/// Writes REPORT, and answers the summary.
+/// Writes REPORT in a mode, and answers the summary.
 pub fn write_report<'a, D: Desk>(
     alloc: Global,
+    mode: Mode,
     report: &Report,
     name: &'a str,
     desk: &mut D,
 ) -> Result<Told, Failure<'a>>
     requires { (D.seen desk.old).writing ≡ None }
-    ensures { WritesReport name.entry.now report.now (D.seen desk.old) (D.seen desk.new)
+    ensures { WritesReport mode name.entry.now report.now (D.seen desk.old) (D.seen desk.new)
         (seen_as told_of result) }
 {
-    let Ok(text) = report.print(alloc) else {
+    let Ok(text) = print_report(alloc, mode, report) else {
         return Err(Failure::Memory);
     };
     match write_output(alloc, text, name, desk) {

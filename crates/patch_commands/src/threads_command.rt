@@ -1,18 +1,19 @@
-//! The command `threads`.
+//! The command `threads`, without a report and with one.
 ghost use Rattle.std.specs.Prelude.{◌≡◌, None, map};
 ghost use Rattle.pun_base.specs.Ranges.{ends};
-ghost use Rattle.command_words.specs.Named.{thread_names_of};
-ghost use Rattle.patch_commands.specs.ThreadsAnswers.{thread_patching, threads_writing};
+ghost use Rattle.command_words.specs.Named.{names_of, thread_names_of};
+ghost use Rattle.patch_commands.specs.ThreadsAnswers.{reported_patching, reported_writing, thread_patching, threads_writing};
 ghost use Rattle.command_io.specs.Failing.{seen_as, told_of};
 ghost use Rattle.command_io.specs.Works.{Works, Carries};
 ghost use Rattle.patch_commands.specs.Patching.{patch_texts};
 
-use crate::patch::{Inputs, bytes_of, judge_lists, read_inputs, told_summary};
+use crate::patch::{Inputs, bytes_of, judge_lists, read_inputs, told_summary, write_report};
 use command_io::ends::{Failure, Told};
 use command_io::failures::thread_failure;
+use command_io::report_mode::Mode;
 use command_io::site_rows::SiteRows;
-use command_words::words::ThreadNames;
-use guest_threads::rewriting::rewrite_threads;
+use command_words::words::{Names, ThreadNames};
+use guest_threads::rewriting::{rewrite_threads, rewrite_threads_reported};
 use pun_base::desk::Desk;
 use pun_base::range::Range;
 use std::alloc::Global;
@@ -64,6 +65,57 @@ fn rewrite_inputs<'a, D: Desk>(
         desk,
     ) {
         Ok(report) => told_summary(alloc, &SiteRows::Listed(report.rows.as_slice())),
+        Err(error) => Err(thread_failure(error, names.out)),
+    }
+}
+
+/// Reads the inputs, and writes the file that is patched for a guest of several threads, and its report.
+///
+/// No new code stands in the reserved ranges.
+pub fn patch_reported<'a, D: Desk>(
+    alloc: Global,
+    names: &Names<'a>,
+    reserves: &[Range],
+    desk: &mut D,
+) -> Result<Told, Failure<'a>>
+    requires { (D.seen desk.old).writing ≡ None }
+    ensures { Carries (reported_writing (reported_patching (names_of names.now)
+        (map ends reserves.now))) (D.seen desk.old) (D.seen desk.new) (seen_as told_of result) }
+{
+    match read_inputs(alloc, names.file, names.starts, names.sites, desk) {
+        Ok(inputs) => report_inputs(alloc, inputs, names, reserves, desk),
+        Err(failure) => Err(failure),
+    }
+}
+
+/// Judges the lists, lets go of their texts, writes the patched file and then its report, and answers the summary.
+fn report_inputs<'a, D: Desk>(
+    alloc: Global,
+    inputs: Inputs,
+    names: &Names<'a>,
+    reserves: &[Range],
+    desk: &mut D,
+) -> Result<Told, Failure<'a>>
+    requires { (D.seen desk.old).writing ≡ None }
+    ensures { Works (reported_writing (reported_patching (names_of names.now)
+        (map ends reserves.now))) (patch_texts inputs) (D.seen desk.old) (D.seen desk.new)
+        (seen_as told_of result) }
+{
+    let listed = match judge_lists(alloc, inputs) {
+        Ok(listed) => listed,
+        Err(failure) => return Err(failure),
+    };
+    let file = bytes_of(&listed.file);
+    match rewrite_threads_reported(
+        alloc,
+        file,
+        &listed.starts,
+        &listed.sites,
+        reserves,
+        names.out,
+        desk,
+    ) {
+        Ok(report) => write_report(alloc, Mode::Threaded, &report, names.report, desk),
         Err(error) => Err(thread_failure(error, names.out)),
     }
 }

@@ -2,7 +2,8 @@ use Rattle.command_io.specs.Verdict.{plain}
 use Rattle.patch_commands.specs.LoadAnswers.{with_stub}
 use Rattle.patch_commands.proofs.TextVerdicts.{one_judged, one_verdict}
 use Rattle.patch_commands.proofs.LoaderRewritings.{one_loader_judged}
-use Rattle.patch_commands.proofs.ThreadRewritings.{one_threads_verdict}
+use Rattle.patch_commands.specs.ThreadsAnswers.{for_threads}
+use Rattle.patch_commands.proofs.ThreadRewritings.{one_thread_judged, one_threads_verdict}
 use Rattle.patch_commands.proofs.UnpatchVerdicts.{one_unpatch_verdict}
 use Rattle.patch_commands.proofs.laws.one_verdict.Goals as goal
 
@@ -14,6 +15,9 @@ returns-clause-load c = one_verdict with_stub (λ p. one_loader_judged)
 
 pub returns-clause-threads : goal.returns-clause-threads
 returns-clause-threads c = one_threads_verdict
+
+pub returns-clause-threads_reported : goal.returns-clause-threads_reported
+returns-clause-threads_reported c = one_verdict for_threads (λ p. one_thread_judged)
 
 pub returns-clause-unpatch : goal.returns-clause-unpatch
 returns-clause-unpatch c = one_unpatch_verdict

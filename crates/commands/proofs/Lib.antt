@@ -5,6 +5,7 @@ pub mod ReversedPlans
 pub mod ReversedThreads
 pub mod PatchReversal
 pub mod LoadReversal
+pub mod ThreadsReversal
 pub mod InspectingRuns
 pub mod GenRuns
 pub mod LostWords

@@ -1,7 +1,7 @@
 -- Memory ran out before the words were read: any command may end so.
 use Rattle.std.proofs.Common.{◌≡◌, ℕ, inr, List, Err, refl, arith}
 use Rattle.pun_base.specs.Shown.{DeskState, SinkState}
-use Rattle.command_words.specs.Words.{Command, Usage, Patch, Check, Step, Gen, Load, Threads, Unpatch, command_of}
+use Rattle.command_words.specs.Words.{Command, Usage, Patch, Check, Step, Gen, Load, Threads, ThreadsReported, Unpatch, command_of}
 use Rattle.command_io.specs.Inputs.{Inputs, OnlyReads}
 use Rattle.command_io.specs.Inspecting.{Accepting, Refusing, Telling, Inspects}
 use Rattle.inspect_commands.specs.CheckAnswers.{check_inputs, CheckAccepts, CheckRefuses, CheckTells, IsCheckStatus}
@@ -13,7 +13,7 @@ use Rattle.inspect_commands.proofs.CheckVerdicts.{check_agrees}
 use Rattle.inspect_commands.proofs.StepVerdicts.{step_agrees}
 use Rattle.commands.proofs.PatchRuns.{patch_lost}
 use Rattle.commands.proofs.LoadRuns.{load_lost}
-use Rattle.commands.proofs.ThreadsRuns.{threads_lost}
+use Rattle.commands.proofs.ThreadsRuns.{threads_lost, reported_lost}
 use Rattle.commands.proofs.PatchReversal.{unpatch_lost}
 
 only_none : (s : DeskState) → OnlyReads s s
@@ -38,4 +38,5 @@ words_lost words (Step n count) s k e =
 words_lost words (Gen seed blocks) s k e = record { untouched = refl; told = inr (refl, refl) }
 words_lost words (Load n action reserves) s k e = load_lost words n action reserves s k e
 words_lost words (Threads n reserves) s k e = threads_lost n reserves s k
+words_lost words (ThreadsReported n reserves) s k e = reported_lost words n reserves s k e
 words_lost words (Unpatch n) s k e = unpatch_lost n s k

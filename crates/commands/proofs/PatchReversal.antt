@@ -4,8 +4,6 @@ use Rattle.std.proofs.lemmas.Bool.Decides.{nat_tests}
 use Rattle.pun_base.specs.Shown.{Files, DeskState, SinkState, with_file, Told}
 use Rattle.pun_base.proofs.HeldFiles.{with_file-same}
 use Rattle.list_text.specs.declared.refusal.ListError.{ListError}
-use Rattle.patch_report.specs.Spelling.{report_text}
-use Rattle.patch_report.specs.Values.{ReportValue}
 use Rattle.patch_report.specs.Grammar.{IsReport}
 use Rattle.rewrite_core.specs.Asked.{Asked, IsInOrder}
 use Rattle.commands.specs.Planned.{IsReversed}
@@ -15,11 +13,9 @@ use Rattle.commands.specs.Commands.{Does}
 use Rattle.command_io.specs.Inputs.{most, Gathered, TooLong, All, with_first, first_of, gathered, IsWithin}
 use Rattle.command_io.specs.Endings.{Delivers}
 use Rattle.command_io.specs.Writing.{Verdict, Accepted, OfGathered, IsInputVerdict, KeepsRest, files_after, Writes}
-use Rattle.command_io.specs.Verdict.{Patching, Form, plain, rewriting_in, starts_of, sites_of, asked, OfLists, OfTexts, HoldsBytes}
+use Rattle.command_io.specs.Verdict.{Patching, Form, reported_text, plain, rewriting_in, starts_of, sites_of, asked, OfLists, OfTexts, HoldsBytes}
 use Rattle.patch_commands.specs.Answers.{IsDone, patch_inputs, form_outputs, TextsFollowed, form_writing}
-use Rattle.command_io.specs.ReportModes.{IsModedText}
 use Rattle.command_io.specs.declared.report_mode.Mode.{Mode}
-use Rattle.command_io.specs.declared.report_mode.Mode.TheVariants.{Plain}
 use Rattle.command_io.specs.Failing.{NoMemory, Failed, Answer, end_message}
 use Rattle.command_io.specs.Works.{IsOnly, AreApart, Ends, Carries}
 use Rattle.patch_commands.specs.UnpatchAnswers.{unpatch_inputs, unpatch_outputs, OfBoth, restored_text, unpatch_writing}
@@ -115,7 +111,7 @@ first_few o x b bs g e = few (nat_lt most (length b)) refl (ap (λ (z : Option (
     few false q h = grind (arith, nat_tests)
     few true q h = absurd (let k : (if true then TooLong x.0 else with_first b g) ≡ All (b ∷ bs) = ap (λ (c : Bool). if c then TooLong x.0 else with_first b g) (sym q) ∙ h in cc)
 
--- Each job of a form is undone by its report, which a text tells.
+-- Each job of a form is undone by its report, and a text tells the report.
 pub record IsTakenBack {J : Type 0} (f : Form J) : Type 0 where
   pub undone : (a : Asked) (job : J) → IsInOrder a → length a.file < 2 ^ 63 → f.Judged a (Accepted job) → IsReversed a.file (f.file job) (f.report job)
   pub told : (file starts : List ℕ) (job : J) → f.Follows file starts job → IsReport (f.report job)
@@ -129,10 +125,6 @@ lists_reversed f back p file (Err error) sites job size o h = absurd cc
 lists_reversed f back p file (Ok ns) (Err error) job size o h = absurd cc
 lists_reversed f back p file (Ok ns) (Ok ms) job size o h = back.undone (asked p.action h.0 file ns ms) job (o ns ms h.0 refl refl) size h.2
 
--- a plain report's own text
-own_text : (v : ReportValue) → IsReport v → IsModedText (report_text v) Plain v
-own_text v h = record { holds = h; spelled = refl }
-
 within : (files : Files) (name bytes : List ℕ) → files name ≡ Some bytes → IsWithin files name → length bytes ≤ most
 within files name bytes e w = subst (λ (o : Option (List ℕ)). IsSomeAnd o (λ b. length b ≤ most)) e w
 
@@ -141,27 +133,27 @@ texts_reversed : {J : Type 0} → (f : Form J) → IsTakenBack f → (p : Patchi
     → (p.names.out ≡ p.names.report → ⊥)
     → HoldsBytes files p.names.file → files p.names.file ≡ Some orig → gathered files (patch_inputs p.names) ≡ All texts → OfTexts (rewriting_in f p) texts (Accepted job)
     → TextsFollowed f.Follows texts job → files_after files (form_outputs f p.names) job ≡ new → IsWithin new p.names.out → IsWithin new p.names.report
-    → (n : UnpatchNames) → n.patched ≡ p.names.out → n.report ≡ p.names.report → HoldsPatch Plain new n orig
+    → (n : UnpatchNames) → n.patched ≡ p.names.out → n.report ≡ p.names.report → HoldsPatch f.mode new n orig
 texts_reversed f back p files new (file ∷ starts ∷ sites ∷ []) job orig apart bytes held e j h same w x n a b =
     let first = (first_read (files p.names.file) _ file _ _ e).0 in
     let few = first_few (files p.names.file) _ file _ _ e in
     let is : file ≡ orig = cc in
     let out : new p.names.out ≡ Some (f.file job) =
     ap (λ (z : Files). z p.names.out) (sym same)
-    ∙ (with_file-other (with_file files p.names.out (f.file job)) p.names.report p.names.out (report_text (f.report job)) (λ q. apart (sym q))
+    ∙ (with_file-other (with_file files p.names.out (f.file job)) p.names.report p.names.out (reported_text f job) (λ q. apart (sym q))
     ∙ with_file-same files p.names.out (f.file job)) in
-    let report : new p.names.report ≡ Some (report_text (f.report job)) =
+    let report : new p.names.report ≡ Some (reported_text f job) =
     ap (λ (z : Files). z p.names.report) (sym same)
-    ∙ with_file-same (with_file files p.names.out (f.file job)) p.names.report (report_text (f.report job)) in
+    ∙ with_file-same (with_file files p.names.out (f.file job)) p.names.report (reported_text f job) in
     record {
       patched = f.file job;
-      text = report_text (f.report job);
+      text = reported_text f job;
       report = f.report job;
       held_patched = ap new a ∙ out;
       held_report = ap new b ∙ report;
       few_patched = within new p.names.out (f.file job) out w;
-      few_report = within new p.names.report (report_text (f.report job)) report x;
-      told = own_text (f.report job) (back.told file h.list job h.followed);
+      few_report = within new p.names.report (reported_text f job) report x;
+      told = record { holds = back.told file h.list job h.followed; spelled = refl };
       reversed = subst (λ (o : List ℕ). IsReversed o (f.file job) (f.report job)) is
           (lists_reversed f back p file (starts_of starts) (sites_of sites) job (omega arith)
           (λ ns ms rs c d. in_order p.action rs file starts sites ns ms (bytes file first) c d) j);
@@ -173,7 +165,7 @@ pub form_is_reversed : {J : Type 0} → (f : Form J) → IsTakenBack f → (p : 
     → (orig : List ℕ) → (p.names.out ≡ p.names.report → ⊥)
     → s.held ≡ Some files → HoldsBytes files p.names.file → files p.names.file ≡ Some orig → Writes (form_writing f p) s t k l status → IsDone status
     → t.held ≡ Some new → IsWithin new p.names.out → IsWithin new p.names.report
-    → (n : UnpatchNames) → n.patched ≡ p.names.out → n.report ≡ p.names.report → HoldsPatch Plain new n orig
+    → (n : UnpatchNames) → n.patched ≡ p.names.out → n.report ≡ p.names.report → HoldsPatch f.mode new n orig
 form_is_reversed f back p files new s t k l status orig apart h bytes held w o g i x n a b =
     let d = (w.held files h).done o in
     let z = d.1.outputs in

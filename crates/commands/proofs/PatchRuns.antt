@@ -12,7 +12,7 @@ use Rattle.command_io.specs.Summary.{summary_text, sites_line}
 use Rattle.command_io.specs.Inputs.{All, gathered, WhereTold}
 use Rattle.command_io.specs.Endings.{Delivers}
 use Rattle.command_io.specs.Writing.{KeepsRest, files_after, Writes}
-use Rattle.command_io.specs.Verdict.{Patching, patching, Form, plain}
+use Rattle.command_io.specs.Verdict.{Patching, patching, Form, reported_text, plain}
 use Rattle.patch_commands.specs.Answers.{IsDone, patch_inputs, form_outputs, TextsFollowed, form_writing, patch_writing, FormFollowed, FilesFollowed, Patches}
 use Rattle.command_io.specs.Failing.{Failed, NoMemory, Answer, end_message}
 use Rattle.command_io.specs.Works.{AreApart, Ends, Carries}
@@ -60,9 +60,9 @@ followed f n files new (file ∷ starts ∷ sites ∷ []) job apart e h same =
       job = job;
       held_file = a.0;
       held_starts = b.0;
-      holds_out = with_file-other (with_file files n.out (f.file job)) n.report n.out (report_text (f.report job)) (λ q. apart (sym q))
+      holds_out = with_file-other (with_file files n.out (f.file job)) n.report n.out (reported_text f job) (λ q. apart (sym q))
           ∙ with_file-same files n.out (f.file job);
-      holds_report = with_file-same (with_file files n.out (f.file job)) n.report (report_text (f.report job));
+      holds_report = with_file-same (with_file files n.out (f.file job)) n.report (reported_text f job);
       list = h.list;
       listed = h.listed;
       followed = h.followed;

@@ -2,10 +2,10 @@
 -- k and l what the sink shows.
 use Rattle.std.specs.Prelude.{◌≡◌, ℕ, ◌≤◌, ◌⊎◌}
 use Rattle.pun_base.specs.Shown.{DeskState, SinkState, Rose}
-use Rattle.command_words.specs.Words.{Command, Usage, Patch, Check, Step, Gen, Load, Threads, Unpatch}
+use Rattle.command_words.specs.Words.{Command, Usage, Patch, Check, Step, Gen, Load, Threads, ThreadsReported, Unpatch}
 use Rattle.patch_commands.specs.Answers.{IsUsage, Patches}
 use Rattle.patch_commands.specs.LoadAnswers.{Loads}
-use Rattle.patch_commands.specs.ThreadsAnswers.{thread_patching, PatchesThreads}
+use Rattle.patch_commands.specs.ThreadsAnswers.{thread_patching, PatchesThreads, reported_patching, PatchesReported}
 use Rattle.command_io.specs.Verdict.{patching}
 use Rattle.inspect_commands.specs.CheckAnswers.{Checks}
 use Rattle.inspect_commands.specs.StepAnswers.{Steps}
@@ -23,6 +23,7 @@ IsLoad other = ⊥
 
 abbrev pub IsThreads : Command → Type 0
 IsThreads (Threads names reserves) = Unit {0}
+IsThreads (ThreadsReported names reserves) = Unit {0}
 IsThreads other = ⊥
 
 abbrev pub IsCheck : Command → Type 0
@@ -59,3 +60,4 @@ Does (Gen seed blocks) s t k l status = Generates seed blocks s t k l status
 Does (Unpatch names) s t k l status = Unpatches names s t k l status
 Does (Load names action reserves) s t k l status = Loads (patching names action reserves) s t k l status
 Does (Threads names reserves) s t k l status = PatchesThreads (thread_patching names reserves) s t k l status
+Does (ThreadsReported names reserves) s t k l status = PatchesReported (reported_patching names reserves) s t k l status

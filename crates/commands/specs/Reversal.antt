@@ -10,9 +10,10 @@ use Rattle.command_io.specs.Writing.{Accepted, Answers, DoneIfFaultless, Writes}
 use Rattle.command_io.specs.Verdict.{Patching, HoldsBytes}
 use Rattle.patch_commands.specs.Answers.{IsDone, Patches}
 use Rattle.patch_commands.specs.LoadAnswers.{Loads}
+use Rattle.patch_commands.specs.ThreadsAnswers.{PatchesReported}
 use Rattle.command_io.specs.ReportModes.{IsModedText}
 use Rattle.command_io.specs.declared.report_mode.Mode.{Mode}
-use Rattle.command_io.specs.declared.report_mode.Mode.TheVariants.{Plain}
+use Rattle.command_io.specs.declared.report_mode.Mode.TheVariants.{Plain, Threaded}
 use Rattle.patch_commands.specs.UnpatchAnswers.{IsRestored, unpatch_writing}
 
 -- PATCHED and REPORT hold texts that can be read: a file that can be loaded, and a report in this mode that undoes it as this original.
@@ -55,3 +56,11 @@ LoadIsReversed =
     → s.held ≡ Some files → HoldsBytes files p.names.file → files p.names.file ≡ Some orig → Loads p s t k l status → IsDone status
     → t.held ≡ Some new → IsWithin new p.names.out → IsWithin new p.names.report
     → (n : UnpatchNames) → n.patched ≡ p.names.out → n.report ≡ p.names.report → HoldsPatch Plain new n orig
+
+-- So after `threads` with a report.
+abbrev pub ThreadsAreReversed : Type 0
+ThreadsAreReversed =
+    (p : Patching) (files new : Files) (s t : DeskState) (k l : SinkState) (status : ℕ) (orig : List ℕ) → (p.names.out ≡ p.names.report → ⊥)
+    → s.held ≡ Some files → HoldsBytes files p.names.file → files p.names.file ≡ Some orig → PatchesReported p s t k l status → IsDone status
+    → t.held ≡ Some new → IsWithin new p.names.out → IsWithin new p.names.report
+    → (n : UnpatchNames) → n.patched ≡ p.names.out → n.report ≡ p.names.report → HoldsPatch Threaded new n orig

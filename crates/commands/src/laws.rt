@@ -1,6 +1,6 @@
 //! Laws of files that were planned and written, and of what commands answer one after the other.
 ghost use Rattle.commands.specs.Planned.{FrameIsReversed, PlannedIsTold, PlannedIsReversed, PlannedLoaderIsReversed, JudgedIsReversed, JudgedThreadsAreReversed};
-ghost use Rattle.commands.specs.Reversal.{PatchIsReversed, LoadIsReversed};
+ghost use Rattle.commands.specs.Reversal.{PatchIsReversed, LoadIsReversed, ThreadsAreReversed};
 
 /// What is written for an original can be loaded, and a report that tells it undoes it, whatever follows the private
 /// range. The report of what was planned for a file tells it; so what is written for the plan, as a patched file or in the
@@ -30,4 +30,9 @@ pub fn patch_is_reversed()
 /// What `load` leaves under OUT and REPORT gives FILE back, where it is within the limit of a read.
 pub fn load_is_reversed()
     ensures { LoadIsReversed }
+{}
+
+/// What `threads` leaves under OUT and REPORT gives FILE back, where it is within the limit of a read.
+pub fn threads_are_reversed()
+    ensures { ThreadsAreReversed }
 {}

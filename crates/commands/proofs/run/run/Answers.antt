@@ -1,11 +1,11 @@
 use Rattle.std.proofs.Common.{◌≡◌, map, string_bytes, refl, ap, ◌∙◌}
 use Rattle.pun_base.specs.Ranges.{ends}
 use Rattle.command_words.specs.Named.{names_of, check_names_of, step_names_of, thread_names_of, unpatch_names_of}
-use Rattle.command_words.specs.Words.{Patch, Load, Threads, command_of}
+use Rattle.command_words.specs.Words.{Patch, Load, Threads, ThreadsReported, command_of}
 use Rattle.command_io.specs.Failing.{seen_as, told_of}
 use Rattle.commands.proofs.PatchRuns.{ran}
 use Rattle.commands.proofs.LoadRuns.{load_ran}
-use Rattle.commands.proofs.ThreadsRuns.{threads_ran}
+use Rattle.commands.proofs.ThreadsRuns.{threads_ran, reported_ran}
 use Rattle.commands.proofs.GenRuns.{gen_ran}
 use Rattle.commands.proofs.InspectingRuns.{check_ran, step_ran}
 use Rattle.commands.proofs.PatchReversal.{unpatch_ran}
@@ -70,6 +70,15 @@ returns-in-Ok-Threads-clause-does g c =
     rw c.in-Ok-Threads.field-0-is at c.in-Ok-Threads.ensures in
     threads_ran (map string_bytes c.args.words.now) n (map ends c.deref-in-Ok-Threads.result.now) _ _ _ _ (seen_as told_of c.patch_threads.result) _
     (ap (λ rs. Threads n (map ends rs)) c.deref-in-Ok-Threads.ensures.value ∙ q) c.patch_threads.ensures c.tell-in-Ok-Threads.ensures.printed
+
+pub returns-in-Ok-ThreadsReported-clause-does : goal.returns-in-Ok-ThreadsReported-clause-does
+returns-in-Ok-ThreadsReported-clause-does g c =
+    let n = names_of c.in-Ok-ThreadsReported.names in
+    let q : ThreadsReported n (map ends c.in-Ok-ThreadsReported.reserves.items) ≡ command_of (map string_bytes c.args.words.now) =
+    rw c.in-Ok-ThreadsReported.field-0-is at c.in-Ok-ThreadsReported.ensures in
+    reported_ran (map string_bytes c.args.words.now) n (map ends c.deref-in-Ok-ThreadsReported.result.now) _ _ _ _ (seen_as told_of c.patch_reported.result) _
+    (ap (λ rs. ThreadsReported n (map ends rs)) c.deref-in-Ok-ThreadsReported.ensures.value ∙ q) c.patch_reported.ensures
+    c.tell-in-Ok-ThreadsReported.ensures.printed
 
 pub returns-in-Ok-Unpatch-clause-does : goal.returns-in-Ok-Unpatch-clause-does
 returns-in-Ok-Unpatch-clause-does g c =

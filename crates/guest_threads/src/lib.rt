@@ -1,6 +1,6 @@
 //! Files that are patched for guests of several threads.
 //!
-//! Stands on `rewrite_core`, `site_turns` and `thread_runs`; `command_io` stands on it.
+//! Stands on `rewrite_core`, `site_turns` and `thread_runs`; `thread_check` and `command_io` stand on it.
 #![tactic(auto)]
 
 pub mod laws;

@@ -1,0 +1,2 @@
+pub mod LinesOfRows
+pub mod RulesForThreads

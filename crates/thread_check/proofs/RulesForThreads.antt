@@ -1,0 +1,543 @@
+-- Where no rule for threads fails, the patched image is sound for threads.
+use Rattle.std.proofs.Common.{◌≡◌, ◌≢◌, ◌⊎◌, inl, inr, ℕ, zero, suc, ◌+◌, ◌*◌, ◌-◌, ◌<◌, ◌≤◌, Bool, true, false, not, ◌&&◌, ◌||◌, eqb, leb, ltb, List, [], ◌∷◌, length, slice_index, Option, Some, None, refl, sym, ap, ap₂, ◌∙◌, subst, arith}
+use Rattle.std.specs.Prelude.{Contains, slice_get}
+use Rattle.std.specs.Option.{is_some, option_map, option_to_list}
+use Rattle.std.specs.List.{list_any, count_by, flat_map}
+use Rattle.std.proofs.lemmas.Bool.{cases_Bool, cases_eq, cases_lt, cases_order, and_parts, and_from, or_parts, or_cases, or_left, or_right, eqb-true, eq-eqb, leb-true, ltb-true, le-leb, lt-ltb, not-false, true_from_ne_false, false_from_ne_true, false≢true, true≢false}
+use Rattle.pun_base.specs.Memory.{Cell, Bytes}
+use Rattle.pun_base.specs.declared.action.Action.{Action}
+use Rattle.pun_base.specs.declared.action.Action.TheVariants.{Cover, Count, Ring, When}
+use Rattle.pun_base.specs.Actions.{private_len}
+use Rattle.cpu_state.specs.Bytes.{Stands}
+use Rattle.length_decode.specs.Spelling.{Fields, IsInstruction, spelling}
+use Rattle.insn_form.specs.declared.form.Insn.{Insn}
+use Rattle.insn_form.specs.Instruction.{insn_of}
+use Rattle.insn_form.specs.Displacing.{displaced_len}
+use Rattle.insn_form.specs.Step.{next_after}
+use Rattle.trampoline.specs.Atomic.{is_atomic, thread_len, back, can_by}
+use Rattle.start_entries.specs.declared.entry.StartEntry.{StartEntry}
+use Rattle.start_entries.specs.SharedBytes.{has_byte}
+use Rattle.start_entries.specs.Finding.{entry_at}
+use Rattle.start_entries.specs.Leading.{JumpsTo}
+use Rattle.start_entries.specs.Standing.{IsEntry, AreEntries}
+use Rattle.patch_report.specs.Values.{RowValue}
+use Rattle.patch_report.specs.Bounds.{IsBounded}
+use Rattle.patch_report.specs.Grammar.{IsTold}
+use Rattle.patch_report.proofs.ReportBounds.{bounded}
+use Rattle.patch_report.proofs.ListPlaces.{In, some_is, found, any_at, contains_at, place_of, counted_twice, finds, in_flat, from_flat}
+use Rattle.image_check.specs.Reports.{Line, lines, is_written, starts_line, in_private, on_page, tramps_of}
+use Rattle.image_check.specs.Rules.{Case, times_owned, belongs, differs, displaced_by, displaced_from, displaced_at, LiesInWith, HoldsCode, is_unexpected, is_expected, is_own, ByteFails, WriteFails, RangeFails, SiteFails}
+use Rattle.image_check.proofs.SoundFacts.{Owned, none_unless, only_one}
+use Rattle.image_check.proofs.LoadedCode.{loaded_fixed}
+use Rattle.image_check.proofs.LeadingBytes.{jump_or_not, one_target}
+use Rattle.image_check.proofs.CodeAtStarts.{found_address}
+use Rattle.image_check.proofs.ReportLines.{place_low, number_low}
+use Rattle.site_turns.specs.Modes.{can_in_threads}
+use Rattle.site_turns.proofs.PlanForms.{entry_here}
+use Rattle.site_turns.proofs.CodeSizes.{one_standing}
+use Rattle.thread_runs.specs.ThreadCode.{thread_code}
+use Rattle.thread_runs.specs.Threading.{ThreadSite, Threading, IsThreadSite, is_code_of, IsThreadSound}
+use Rattle.thread_runs.proofs.ThreadsTheorem.{threads_followed, threads_followed_with}
+use Rattle.thread_runs.proofs.WorkSize.{told}
+use Rattle.guest_threads.specs.FromTurns.{site_of}
+use Rattle.thread_check.specs.ThreadRules.{moved_from, moved_at, is_marked, shares_at, ThreadLineFails, ThreadEntryFails, thread_coding, ThreadCodeFails, ThreadSiteFails, ThreadFails, IsThreadCaseSound}
+use Rattle.thread_check.specs.ThreadSoundness.{threading_of, IsThreadCaseFollowed, ThreadCaseIsFollowed}
+use Rattle.thread_check.proofs.LinesOfRows.{IsOwn, HasEvent, number_once}
+
+-- an option that can't be nothing is something
+some_unless : {X : Type 0} (o : Option X) → (o ≡ None → ⊥) → (x : X) × (o ≡ Some x)
+some_unless None n = absurd (n refl)
+some_unless (Some x) n = (x, refl)
+
+-- of two facts both can't hold
+both_is : (x y : Bool) → ((x && y) ≡ true → ⊥) → x ≡ true → y ≡ false
+both_is x true n e = absurd (n (and_from x true e refl))
+both_is x false n e = refl
+
+-- a cell that is known by its tests
+cell_is : (d : Cell) (b p : ℕ) → eqb d.byte b ≡ true → eqb d.perms p ≡ true → d ≡ record { byte = b; perms = p }
+cell_is d b p e f = λ i. record { byte = eqb-true d.byte b e i; perms = eqb-true d.perms p f i }
+
+-- whether a cell is held is decided
+held_or_not : (o : Option Cell) (b p : ℕ) → ((o ≡ Some (record { byte = b; perms = p }) → ⊥) → ⊥) → o ≡ Some (record { byte = b; perms = p })
+held_or_not None b p n = absurd (n (λ e. cc))
+held_or_not (Some d) b p n = elim (cases_Bool (eqb d.byte b && eqb d.perms p)) [
+  | inl e ↦ (let q = and_parts (eqb d.byte b) (eqb d.perms p) e in ap Some (cell_is d b p q.0 q.1))
+  | inr e ↦ absurd (n (λ k. let f : d ≡ record { byte = b; perms = p } = some_is d (record { byte = b; perms = p }) k in
+      true≢false (sym (and_from (eqb d.byte b) (eqb d.perms p) (eq-eqb d.byte b (ap (λ (z : Cell). z.byte) f))
+      (eq-eqb d.perms p (ap (λ (z : Cell). z.perms) f))) ∙ e)))
+]
+
+-- rule 1: what is loaded and not written stays
+same_unless : (o q : Option Cell) → is_some o ≡ true → (differs o q false ≡ true → ⊥) → q ≡ o
+same_unless None q h n = absurd (false≢true h)
+same_unless (Some d) None h n = absurd (n refl)
+same_unless (Some d) (Some g) h n =
+    let k = or_parts (not (eqb d.perms g.perms)) (not (eqb d.byte g.byte)) (false_from_ne_true _ n) in
+    ap Some (λ i. record {
+      byte = sym (eqb-true d.byte g.byte (not-false (eqb d.byte g.byte) k.1)) i;
+      perms = sym (eqb-true d.perms g.perms (not-false (eqb d.perms g.perms) k.0)) i;
+    })
+
+-- whether a jump leads from an address to a place is decided
+jumps_unless : (m : Bytes) (a place : ℕ) → ((JumpsTo m a place → ⊥) → ⊥) → JumpsTo m a place
+jumps_unless m a place n = elim (jump_or_not m a) [
+  | inl j ↦ elim (cases_eq j.0 place) [
+    | inl e ↦ subst (λ (z : ℕ). JumpsTo m a z) e j.1
+    | inr away ↦ absurd (n (λ k. away (one_target m a j.0 place j.1 k)))
+  ]
+  | inr none ↦ absurd (n (λ k. none place k))
+]
+
+-- an entry that can be displaced where threads share memory has a known form
+known_form : (o : Option Insn) (len a : ℕ) → is_some (can_by o len a) ≡ true → is_some o ≡ true
+known_form None len a h = h
+known_form (Some i) len a h = refl
+
+-- where a sum with an option is there, the option is
+some_of : (o : Option ℕ) (k : ℕ) → is_some (option_map (λ n. n + k) o) ≡ true → (n : ℕ) × (o ≡ Some n)
+some_of None k h = absurd (false≢true h)
+some_of (Some n) k h = (n, refl)
+
+-- the only element of a list made of an option
+one_of : {X Y : Type 0} (f : X → Y) (o : Option X) (y : Y) → In (option_to_list (option_map f o)) y → (x : X) × (o ≡ Some x) × (f x ≡ y)
+one_of f None y c = absurd (none c.0 c.1)
+  where
+    none : (i : ℕ) → slice_get [] i ≡ Some y → ⊥
+    none i e = cc
+one_of f (Some x) y c = (x, refl, by_place c.0 c.1)
+  where
+    by_place : (i : ℕ) → slice_get (f x ∷ []) i ≡ Some y → f x ≡ y
+    by_place zero e = some_is (f x) y e
+    by_place (suc i) e = absurd cc
+
+-- the action is to count
+is_count : (a : Action) → ((a ≢ Count) → ⊥) → a ≡ Count
+is_count Cover n = absurd (n (λ e. cc))
+is_count Count n = refl
+is_count (Ring len) n = absurd (n (λ e. cc))
+is_count (When b list) n = absurd (n (λ e. cc))
+
+-- a trampoline's instruction: it is listed and alone, stands in the original, and can be displaced where threads share memory; a jump leads to
+-- the trampoline's place
+pub record Enters (c : Case) (l : Line) : Type 0 where
+  pub entry : StartEntry
+  pub at : entry_at c.listed l.tramp.start ≡ Some entry
+  pub listed : Contains c.listed entry
+  pub addr : entry.addr ≡ l.tramp.start
+  pub alone : entry.shared ≡ false
+  pub fields : Fields
+  pub spelled : IsInstruction fields
+  pub stands : Stands c.original entry.addr (spelling fields)
+  pub len : length (spelling fields) ≡ entry.len
+  pub form : entry.form ≡ Some (insn_of fields)
+  pub size : ℕ
+  pub displaced : thread_len (insn_of fields) entry.len entry.addr ≡ Some size
+  pub low : entry.addr + entry.len ≤ 0x7FFF0000
+
+-- the code of a trampoline whose instruction has these fields
+abbrev pub code_with : Case → Line → Fields → List ℕ
+code_with c l f = thread_coding c.report l f
+
+-- an entry of the original that can be displaced where threads share memory is such an instruction
+pub entered : (c : Case) (l : Line) (e : StartEntry) → AreEntries c.original c.listed → entry_at c.listed l.tramp.start ≡ Some e
+    → is_some (can_in_threads e) ≡ true → e.shared ≡ false → Enters c l
+entered c l e A at can alone =
+    let f = finds (λ (e : StartEntry). eqb e.addr l.tramp.start) c.listed e at in
+    let listed = contains_at c.listed f.place e f.at in
+    let E = A.each e listed in
+    let k = E.known (known_form e.form e.len e.addr can) in
+    let s = some_of (thread_len (insn_of k.fields) e.len e.addr) (back (insn_of k.fields)) (ap (λ (o : Option Insn). is_some (can_by o e.len e.addr)) (sym k.form) ∙ can) in
+    record {
+      entry = e;
+      at = at;
+      listed = listed;
+      addr = eqb-true e.addr l.tramp.start f.passes;
+      alone = alone;
+      fields = k.fields;
+      spelled = k.spelled;
+      stands = k.stands;
+      len = k.len;
+      form = k.form;
+      size = s.0;
+      displaced = s.1;
+      low = E.low;
+    }
+
+-- such an instruction can be displaced by the rules of any patched image, too
+pub displaced_too : (c : Case) (l : Line) → (e : Enters c l) → is_some (displaced_at c.listed l.tramp.start) ≡ true
+displaced_too c l e =
+    let x = insn_of e.fields in
+    ap is_some (ap displaced_from e.at ∙ ap (λ (o : Option Insn). displaced_by o e.entry.len e.entry.addr) e.form
+    ∙ (told (is_atomic x) (displaced_len x e.entry.len e.entry.addr) e.size e.displaced).1)
+
+-- it stands at the trampoline's start
+pub stands_there : (c : Case) (l : Line) (e : Enters c l) → Stands c.original l.tramp.start (spelling e.fields)
+stands_there c l e = subst (λ (z : ℕ). Stands c.original z (spelling e.fields)) e.addr e.stands
+
+-- an address of its code lies in the code of the trampoline at its index
+pub lies_in : (c : Case) (i : ℕ) (l : Line) (e : Enters c l) (x : ℕ) → slice_get (lines c.report) i ≡ Some l → l.tramp.place ≤ x
+    → x < l.tramp.place + length (code_with c l e.fields) → LiesInWith (thread_coding c.report) c i x
+lies_in c i l e x h lo hi = record {
+  line = l;
+  listed = h;
+  code = code_with c l e.fields;
+  has = record { fields = e.fields; spelled = e.spelled; stands = stands_there c l e; displaced = displaced_too c l e; is = refl };
+  low = lo;
+  high = hi;
+}
+
+module _ (c : Case) (A : AreEntries c.original c.listed) (T : IsTold c.report) (S : IsThreadCaseSound c) where
+  abbrev B : IsBounded c.report
+  B = bounded c.report T
+
+  abbrev R : Threading
+  R = threading_of c
+
+  -- the rules, one by one
+  rule_1 : (x : ℕ) → ByteFails c x → ⊥
+  rule_1 x h = S 1 x (inl (refl, h))
+
+  -- rule 2 fails nowhere
+  rule_2 : (x : ℕ) → WriteFails c x → ⊥
+  rule_2 x h = S 2 x (inr (inl (refl, h)))
+
+  -- rule 3 fails nowhere
+  rule_3 : (x : ℕ) → ThreadEntryFails c x → ⊥
+  rule_3 x h = S 3 x (inr (inr (inl (refl, h))))
+
+  -- rule 4 fails nowhere
+  rule_4 : (x : ℕ) → ThreadCodeFails c x → ⊥
+  rule_4 x h = S 4 x (inr (inr (inr (inl (refl, h)))))
+
+  -- rule 5 fails nowhere
+  rule_5 : (x : ℕ) → RangeFails c x → ⊥
+  rule_5 x h = S 5 x (inr (inr (inr (inr (inl (refl, h))))))
+
+  -- rule 6 fails nowhere
+  rule_6 : (x : ℕ) → ThreadSiteFails c x → ⊥
+  rule_6 x h = S 6 x (inr (inr (inr (inr (inr (refl, h))))))
+
+  -- rule 3 for a trampoline
+  line_holds : (l : Line) → In (lines c.report) l → ThreadLineFails c l.tramp.start l → ⊥
+  line_holds l h f = rule_3 l.tramp.start (l, contains_at (lines c.report) h.0 l h.1, refl, f)
+
+  -- its instruction
+  enters : (l : Line) → In (lines c.report) l → Enters c l
+  enters l h =
+      let m = some_unless (moved_at c.listed l.tramp.start) (λ e. line_holds l h (inl e)) in
+      by_entry (entry_at c.listed l.tramp.start) refl (ap is_some m.1) (false_from_ne_true (shares_at c.listed l.tramp.start) (λ e. line_holds l h (inr (inl e))))
+    where
+      by_entry : (o : Option StartEntry) → entry_at c.listed l.tramp.start ≡ o → is_some (moved_at c.listed l.tramp.start) ≡ true
+          → shares_at c.listed l.tramp.start ≡ false → Enters c l
+      by_entry None e m s = absurd (false≢true (ap (λ (z : Option StartEntry). is_some (moved_from z)) (sym e) ∙ m))
+      by_entry (Some x) e m s =
+          entered c l x A e (ap (λ (z : Option StartEntry). is_some (moved_from z)) (sym e) ∙ m) (ap is_marked (sym e) ∙ s)
+
+  -- its event
+  has_event : (l : Line) → In (lines c.report) l → HasEvent l
+  has_event l h = true_from_ne_false l.tramp.event (λ e. line_holds l h (inr (inr (inr (inl e)))))
+
+  -- its jump
+  jumps : (l : Line) → In (lines c.report) l → JumpsTo c.patched l.tramp.start l.tramp.place
+  jumps l h = jumps_unless c.patched l.tramp.start l.tramp.place (λ n. line_holds l h (inr (inr (inr (inr n)))))
+
+  -- trampolines with one start have one index
+  started_once : (i j : ℕ) (l m : Line) → slice_get (lines c.report) i ≡ Some l → slice_get (lines c.report) j ≡ Some m
+      → l.tramp.start ≡ m.tramp.start → i ≡ j
+  started_once i j l m e f same =
+      let a = l.tramp.start in
+      let x = eq-eqb l.tramp.start a refl in
+      let y = eq-eqb m.tramp.start a (sym same) in
+      elim (cases_order i j) [
+        | inl k ↦ k
+        | inr (inl k) ↦ absurd (line_holds l (i, e) (inr (inr (inl (counted_twice (λ (z : Line). eqb z.tramp.start a) (lines c.report) i j l m k e x f y)))))
+        | inr (inr k) ↦ absurd (line_holds l (i, e) (inr (inr (inl (counted_twice (λ (z : Line). eqb z.tramp.start a) (lines c.report) j i m l k f y e x)))))
+      ]
+
+  -- each row's first trampoline is its own
+  own_rows : (r : RowValue) → In c.report.rows r → IsOwn r
+  own_rows r h = true_from_ne_false (is_own r.site (tramps_of r.outcome)) (λ n. rule_6 r.site (inl (inl (h.0, r, h.1, refl, inr (inr n)))))
+
+  -- trampolines with one number have one index
+  numbered_once : (i j : ℕ) (l m : Line) → slice_get (lines c.report) i ≡ Some l → slice_get (lines c.report) j ≡ Some m
+      → l.number ≡ m.number → i ≡ j
+  numbered_once i j l m e f same =
+      let n = l.number in
+      let x = eq-eqb l.number n refl in
+      let y = eq-eqb m.number n (sym same) in
+      let few : count_by (λ (z : Line). eqb z.number n) (lines c.report) ≤ 1 = number_once c.report own_rows has_event T.1.numbers n in
+      elim (cases_order i j) [
+        | inl k ↦ k
+        | inr (inl k) ↦ absurd (omega (arith, few, counted_twice (λ (z : Line). eqb z.number n) (lines c.report) i j l m k e x f y))
+        | inr (inr k) ↦ absurd (omega (arith, few, counted_twice (λ (z : Line). eqb z.number n) (lines c.report) j i m l k f y e x))
+      ]
+
+  -- the code stands
+  holds_code : (i : ℕ) (l : Line) (e : Enters c l) (x : ℕ) → slice_get (lines c.report) i ≡ Some l → l.tramp.place ≤ x
+      → x < l.tramp.place + length (code_with c l e.fields) → HoldsCode c x (slice_index (code_with c l e.fields) (x - l.tramp.place))
+  unfolding lies_in
+  holds_code i l e x h lo hi = held_or_not (c.patched x) (slice_index (code_with c l e.fields) (x - l.tramp.place)) 5
+      (λ n. rule_4 x (i, lies_in c i l e x h lo hi, inl n))
+
+  -- on pages of the report
+  code_on_page : (i : ℕ) (l : Line) (e : Enters c l) (x : ℕ) → slice_get (lines c.report) i ≡ Some l → l.tramp.place ≤ x
+      → x < l.tramp.place + length (code_with c l e.fields) → on_page c.report x ≡ true
+  code_on_page i l e x h lo hi = true_from_ne_false (on_page c.report x) (λ n. rule_4 x (i, lies_in c i l e x h lo hi, inr (inr n)))
+
+  -- which end early
+  page_low : (x : ℕ) → on_page c.report x ≡ true → x < 0x7FFF1000
+  page_low x h =
+      let q = found (λ (p : ℕ × ℕ). leb p.0 x && ltb x (p.0 + 4096)) c.report.pages h in
+      let k = and_parts (leb q.is.0 x) (ltb x (q.is.0 + 4096)) q.passes in
+      let u : x < q.is.0 + 4096 = ltb-true x (q.is.0 + 4096) k.1 in
+      let b : q.is.0 < 0x7FFF0000 = B.pages q.is (contains_at c.report.pages q.place q.is q.at) in
+      omega arith
+
+  -- code ends where the last page does, at the latest
+  code_low : (i : ℕ) (l : Line) (e : Enters c l) → slice_get (lines c.report) i ≡ Some l
+      → l.tramp.place + length (code_with c l e.fields) ≤ 0x7FFF1000
+  code_low i l e h = elim (cases_lt 0x7FFF1000 (l.tramp.place + length (code_with c l e.fields))) [
+    | inl k ↦ (let p : l.tramp.place < 0x7FFF0000 = place_low c.report l B (i, h) in
+        let b : 0x7FFF1000 < 0x7FFF1000 = page_low 0x7FFF1000 (code_on_page i l e 0x7FFF1000 h (omega arith) k) in absurd
+        (omega (arith, b)))
+    | inr k ↦ k
+  ]
+
+  -- the original has no byte on the report's pages and in the private range
+  new_none : (x : ℕ) → (in_private c.report x || on_page c.report x) ≡ true → c.original x ≡ None
+  new_none x h = none_unless (c.original x) (λ e. rule_5 x (inr (h, inr (inl (x, refl, e)))))
+
+  -- the private range is zeros
+  zero_at : (x : ℕ) → c.report.private.0 ≤ x → x < c.report.private.1 → (c.patched x ≡ Some (record { byte = 0; perms = 6 }))
+      × (c.original x ≡ None)
+  zero_at x lo hi =
+      let p : in_private c.report x ≡ true = and_from (leb c.report.private.0 x) (ltb x c.report.private.1) (le-leb c.report.private.0 x lo)
+      (lt-ltb x c.report.private.1 hi) in
+      let e = or_left (in_private c.report x) (on_page c.report x) p in
+      let n = new_none x e in
+      let d = some_unless (c.patched x) (λ f. rule_5 x (inr (e, inl f))) in
+      let away : on_page c.report x ≡ false = both_is (in_private c.report x) (on_page c.report x)
+      (λ f. rule_5 x (inr (e, inr (inr (inl f))))) p in
+      let high : x < 0x20000 → ⊥ = λ f. rule_5 x (inr (e, inr (inr (inr f)))) in
+      (d.1 ∙ ap Some (by_kind d.0 away high (expected d.0 d.1 n)), n)
+    where
+      expected : (d : Cell) → c.patched x ≡ Some d → c.original x ≡ None → is_expected c.report x d ≡ true
+      expected d e n = true_unless (is_expected c.report x d) (λ f. rule_5 x (inl ((λ i. is_unexpected c.report x (n i) (e i)) ∙ f)))
+        where
+          true_unless : (b : Bool) → (not b ≡ true → ⊥) → b ≡ true
+          true_unless true k = refl
+          true_unless false k = absurd (k refl)
+
+      by_kind : (d : Cell) → on_page c.report x ≡ false → (x < 0x20000 → ⊥) → is_expected c.report x d ≡ true
+          → d ≡ record { byte = 0; perms = 6 }
+      by_kind d away high h = elim (or_cases (leb 0x10000 x && (ltb x 0x1E000 && eqb d.perms 4))
+          ((in_private c.report x && (eqb d.byte 0 && eqb d.perms 6)) || (on_page c.report x && eqb d.perms 5)) h) [
+            | inl k ↦ (let q = and_parts (ltb x 0x1E000) (eqb d.perms 4) (and_parts (leb 0x10000 x) (ltb x 0x1E000 && eqb d.perms 4) k).1 in
+                let u : x < 0x1E000 = ltb-true x 0x1E000 q.0 in absurd (high (omega arith)))
+            | inr k ↦ elim (or_cases (in_private c.report x && (eqb d.byte 0 && eqb d.perms 6)) (on_page c.report x && eqb d.perms 5) k) [
+              | inl j ↦ (let q = and_parts (eqb d.byte 0) (eqb d.perms 6) (and_parts (in_private c.report x)
+                  (eqb d.byte 0 && eqb d.perms 6) j).1 in cell_is d 0 6 q.0 q.1)
+              | inr j ↦ absurd (true≢false (sym (and_parts (on_page c.report x) (eqb d.perms 5) j).0 ∙ away))
+            ]
+          ]
+
+  -- a trampoline's counter is in the private range
+  room : (l : Line) → In (lines c.report) l → c.report.private.0 + 72 + 8 * l.number ≤ c.report.private.1
+  room l h =
+      let counts : c.report.action ≡ Count = is_count c.report.action (λ n. rule_6 c.report.private.0 (inr (refl, n))) in
+      let long : private_len c.report.action (length c.report.rows) ≡ 64 + 8 * length c.report.rows = ap (λ a. private_len a (length c.report.rows)) counts in
+      let below = number_low c.report l B h in
+      elim (cases_lt c.report.private.1 (c.report.private.0 + private_len c.report.action (length c.report.rows))) [
+        | inl k ↦ absurd (rule_6 c.report.private.0 (inl (inr (inr (refl, k)))))
+        | inr k ↦ omega (arith, k, long, below)
+      ]
+
+  -- a site and the trampoline of which it comes
+  record Of (s : ThreadSite) : Type 0 where
+    line : Line
+    in_lines : In (lines c.report) line
+    entry : StartEntry
+    at : entry_at c.listed line.tramp.start ≡ Some entry
+    is : record { number = line.number; entry = entry; place = line.tramp.place } ≡ s
+
+  -- each site is that of a trampoline
+  of_site : (s : ThreadSite) → Contains R.sites s → Of s
+  of_site s k =
+      let q = from_flat (site_of c.listed) (lines c.report) s (place_of R.sites s k) in
+      let o = one_of (λ (e : StartEntry). record { number = q.0.number; entry = e; place = q.0.tramp.place }) (entry_at c.listed q.0.tramp.start) s q.2 in
+      record { line = q.0; in_lines = q.1; entry = o.0; at = o.1; is = o.2 }
+
+  -- the code of a trampoline, by its entry
+  code_is : (l : Line) (e : Enters c l) → thread_code c.report.private.0 l.number e.fields (e.entry.addr + e.entry.len) l.tramp.place ≡ code_with c l e.fields
+  code_is l e =
+      let a = e.addr in
+      let n = e.len in
+      let low = e.low in
+      let next : e.entry.addr + e.entry.len ≡ next_after l.tramp.start e.fields = omega (arith, a, n, low) in
+      ap (λ z. thread_code c.report.private.0 l.number e.fields z l.tramp.place) next
+
+  -- the site of a trampoline is a patched one
+  site_sound : (l : Line) (h : In (lines c.report) l) → IsThreadSite R (record { number = l.number; entry = (enters l h).entry; place = l.tramp.place })
+  site_sound l h =
+      let e = enters l h in
+      let same = code_is l e in
+      let code = thread_code c.report.private.0 l.number e.fields (e.entry.addr + e.entry.len) l.tramp.place in
+      let n : length code ≡ length (code_with c l e.fields) = ap length same in
+      let low : l.tramp.place + length code ≤ 0x7FFF1000 = (let k = code_low h.0 l e h.1 in omega (arith, n, k)) in
+      let cells : (k : ℕ) → k < length code → c.patched (l.tramp.place + k) ≡ Some (record { byte = slice_index code k; perms = 5 }) =
+      (λ k j. let d : l.tramp.place + k - l.tramp.place ≡ k = omega arith in
+        holds_code h.0 l e (l.tramp.place + k) h.1 (omega arith) (omega (arith, j, n))
+        ∙ ap (λ (z : ℕ). Some (record { byte = slice_index (code_with c l e.fields) z; perms = 5 })) d
+        ∙ ap (λ (z : List ℕ). Some (record { byte = slice_index z k; perms = 5 })) (sym same)) in
+      record {
+        listed = e.listed;
+        alone = e.alone;
+        fields = e.fields;
+        spelled = e.spelled;
+        stands = e.stands;
+        len = e.len;
+        form = e.form;
+        size = e.size;
+        displaced = e.displaced;
+        jump = subst (λ (z : ℕ). JumpsTo c.patched z l.tramp.place) (sym e.addr) (jumps l h);
+        code = loaded_fixed c.patched l.tramp.place code (omega (arith, low)) cells;
+        new = λ x lo hi.
+            let hi' : x < l.tramp.place + length (code_with c l e.fields) = omega (arith, hi, n) in
+            new_if (c.patched x) (c.original x) (ap is_some (holds_code h.0 l e x h.1 lo hi'))
+            (new_none x (or_right (in_private c.report x) (on_page c.report x) (code_on_page h.0 l e x h.1 lo hi')));
+        low = low;
+      }
+    where
+      new_if : (o q : Option Cell) → is_some o ≡ true → q ≡ None → (is_some o && not (is_some q)) ≡ true
+      new_if o q e f = ap₂ (λ x (y : Option Cell). x && not (is_some y)) e f
+
+  -- the site of a trampoline has the entry that is found at the start
+  same_site : (s : ThreadSite) (o : Of s) → record { number = o.line.number; entry = (enters o.line o.in_lines).entry; place = o.line.tramp.place } ≡ s
+  same_site s o =
+      let e : (enters o.line o.in_lines).entry ≡ o.entry = some_is (enters o.line o.in_lines).entry o.entry (sym (enters o.line o.in_lines).at ∙ o.at) in
+      ap (λ (z : StartEntry). (let t : ThreadSite = record { number = o.line.number; entry = z; place = o.line.tramp.place } in t)) e ∙ o.is
+
+  -- each site is a patched one
+  sites : (s : ThreadSite) → Contains R.sites s → IsThreadSite R s
+  sites s k = let o = of_site s k in subst (λ (z : ThreadSite). IsThreadSite R z) (same_site s o) (site_sound o.line o.in_lines)
+
+  -- two sites of one trampoline are one
+  one_line : (s t : ThreadSite) (o : Of s) (p : Of t) → o.in_lines.0 ≡ p.in_lines.0 → s ≡ t
+  one_line s t o p e =
+      let l : o.line ≡ p.line = some_is o.line p.line (sym o.in_lines.1 ∙ ap (slice_get (lines c.report)) e ∙ p.in_lines.1) in
+      let n : o.entry ≡ p.entry = some_is o.entry p.entry (sym o.at ∙ ap (λ (z : Line). entry_at c.listed z.tramp.start) l ∙ p.at) in
+      sym o.is ∙ (λ i. record { number = (l i).number; entry = n i; place = (l i).tramp.place }) ∙ p.is
+
+  -- each start has one site
+  once : (s t : ThreadSite) → Contains R.sites s → Contains R.sites t → s.entry.addr ≡ t.entry.addr → s ≡ t
+  once s t h k e =
+      let o = of_site s h in
+      let p = of_site t k in
+      let a : s.entry.addr ≡ o.line.tramp.start = ap (λ (z : ThreadSite). z.entry.addr) (sym o.is) ∙ found_address c.listed o.line.tramp.start o.entry o.at in
+      let b : t.entry.addr ≡ p.line.tramp.start = ap (λ (z : ThreadSite). z.entry.addr) (sym p.is) ∙ found_address c.listed p.line.tramp.start p.entry p.at in
+      one_line s t o p (started_once o.in_lines.0 p.in_lines.0 o.line p.line o.in_lines.1 p.in_lines.1 (sym a ∙ e ∙ b))
+
+  -- each number has one site
+  numbers : (s t : ThreadSite) → Contains R.sites s → Contains R.sites t → s.number ≡ t.number → s ≡ t
+  numbers s t h k e =
+      let o = of_site s h in
+      let p = of_site t k in
+      one_line s t o p (numbered_once o.in_lines.0 p.in_lines.0 o.line p.line o.in_lines.1 p.in_lines.1
+      (ap (λ (z : ThreadSite). z.number) o.is ∙ e ∙ sym (ap (λ (z : ThreadSite). z.number) p.is)))
+
+  -- an address of a site's code lies in the code of its trampoline
+  of_code : (s : ThreadSite) (o : Of s) (h : IsThreadSite R s) (x : ℕ) → is_code_of R s h x → LiesInWith (thread_coding c.report) c o.in_lines.0 x
+  of_code s o h x q =
+      let l = o.line in
+      let e = enters l o.in_lines in
+      let site = same_site s o in
+      let same : h.fields ≡ e.fields = one_standing c.original e.entry.addr h.fields e.fields h.spelled e.spelled
+      (subst (λ (z : ThreadSite). Stands c.original z.entry.addr (spelling h.fields)) (sym site) h.stands) e.stands in
+      let first : thread_code c.report.private.0 s.number h.fields (s.entry.addr + s.entry.len) s.place
+          ≡ thread_code c.report.private.0 l.number e.fields (e.entry.addr + e.entry.len) l.tramp.place =
+      (λ i. thread_code c.report.private.0 (sym site i).number (same i) ((sym site i).entry.addr + (sym site i).entry.len) (sym site i).place) in
+      let code = first ∙ code_is l e in
+      let p : s.place ≡ l.tramp.place = ap (λ (z : ThreadSite). z.place) (sym site) in
+      let n = ap length code in
+      lies_in c o.in_lines.0 l e x o.in_lines.1 (omega (arith, q.0, p)) (omega (arith, q.1, p, n))
+
+  -- codes of sites don't meet
+  apart : (s t : ThreadSite) (h : Contains R.sites s) (k : Contains R.sites t) (x : ℕ) → is_code_of R s (sites s h) x → is_code_of R t (sites t k) x → s ≡ t
+  apart s t h k x a b =
+      let o = of_site s h in
+      let p = of_site t k in
+      elim (cases_eq o.in_lines.0 p.in_lines.0) [
+        | inl e ↦ one_line s t o p e
+        | inr n ↦ absurd (rule_4 x (o.in_lines.0, of_code s o (sites s h) x a, inr (inl (p.in_lines.0, n, of_code t p (sites t k) x b))))
+      ]
+
+  -- a written byte is that of a trampoline's instruction
+  owned_at : (x : ℕ) → is_written c.report x ≡ true → Owned c x
+  owned_at x w =
+      let b = and_parts (eqb (times_owned c x) 1) (list_any (λ (e : StartEntry). has_byte x e && starts_line c.report e.addr) c.listed)
+      (true_from_ne_false (belongs c x) (λ n. rule_2 x (w, inr (inr n)))) in
+      let q = found (λ (e : StartEntry). has_byte x e && starts_line c.report e.addr) c.listed b.1 in
+      let k = and_parts (has_byte x q.is) (starts_line c.report q.is.addr) q.passes in
+      let j = and_parts (leb q.is.addr x) (ltb x (q.is.addr + q.is.len)) k.0 in
+      let l = found (λ (l : Line). eqb l.tramp.start q.is.addr) (lines c.report) k.1 in
+      record {
+        line = l.is;
+        entry = q.is;
+        in_lines = (l.place, l.at);
+        in_list = contains_at c.listed q.place q.is q.at;
+        start = eqb-true l.is.tramp.start q.is.addr l.passes;
+        above = leb-true q.is.addr x j.0;
+        below = ltb-true x (q.is.addr + q.is.len) j.1;
+        alone = λ e d lo hi. let r = place_of c.listed e d in
+            only_one (has_byte x) c.listed r.0 q.place e q.is (eqb-true (times_owned c x) 1 b.0) r.1
+            (and_from (leb e.addr x) (ltb x (e.addr + e.len)) (le-leb e.addr x lo) (lt-ltb x (e.addr + e.len) hi)) q.at k.0;
+      }
+
+  -- what is in no site's instruction stays
+  stays : (x : ℕ) → is_some (c.original x) ≡ true → list_any (λ (s : ThreadSite). leb s.entry.addr x && ltb x (s.entry.addr + s.entry.len)) R.sites ≡ false
+      → c.patched x ≡ c.original x
+  stays x h n =
+      let w : is_written c.report x ≡ false = false_from_ne_true (is_written c.report x) (λ w. true≢false (sym (owned w) ∙ n)) in
+      same_unless (c.original x) (c.patched x) h (λ d. rule_1 x (ap (differs (c.original x) (c.patched x)) w ∙ d))
+    where
+      owned : is_written c.report x ≡ true → list_any (λ (s : ThreadSite). leb s.entry.addr x && ltb x (s.entry.addr + s.entry.len)) R.sites ≡ true
+      owned w =
+          let o = owned_at x w in
+          let at : entry_at c.listed o.line.tramp.start ≡ Some o.entry = ap (entry_at c.listed) o.start ∙ entry_here c.original c.listed o.entry A o.in_list in
+          let s : ThreadSite = record { number = o.line.number; entry = o.entry; place = o.line.tramp.place } in
+          let k : In (site_of c.listed o.line) s = (0, ap (λ (q : Option StartEntry). slice_get (option_to_list (option_map (λ (e : StartEntry). record { number = o.line.number; entry = e; place = o.line.tramp.place }) q)) 0) at) in
+          let i = in_flat (site_of c.listed) (lines c.report) o.line s o.in_lines k in
+          any_at (λ (s : ThreadSite). leb s.entry.addr x && ltb x (s.entry.addr + s.entry.len)) R.sites i.0 s i.1
+          (and_from (leb o.entry.addr x) (ltb x (o.entry.addr + o.entry.len)) (le-leb o.entry.addr x o.above) (lt-ltb x (o.entry.addr + o.entry.len) o.below))
+
+  -- each site has a counter
+  room_of : (s : ThreadSite) → Contains R.sites s → c.report.private.0 + 72 + 8 * s.number ≤ c.report.private.1
+  room_of s k = let o = of_site s k in subst (λ (z : ThreadSite). c.report.private.0 + 72 + 8 * z.number ≤ c.report.private.1) o.is (room o.line o.in_lines)
+
+  -- the patched image is sound for threads
+  pub case_sound : IsThreadSound R
+  case_sound = record {
+    stays = stays;
+    sites = sites;
+    once = once;
+    numbers = numbers;
+    apart = apart;
+    counters = λ s k x a b. let h = room_of s k in zero_at x (omega (arith, a)) (omega (arith, b, h));
+    low = λ s k. let h = room_of s k in let e = B.end in omega (arith, h, e);
+  }
+
+  -- the entry points are equal
+  pub entry_same : c.patched_entry ≡ c.entry
+  entry_same = elim (cases_eq c.patched_entry c.entry) [
+    | inl e ↦ e
+    | inr n ↦ absurd (rule_6 c.patched_entry (inl (inr (inl (refl, n)))))
+  ]
+
+-- where no rule fails, the patched image is followed
+pub thread_case_is_followed : ThreadCaseIsFollowed
+thread_case_is_followed c A T S =
+    let sound = case_sound c A T S in
+    let r = threads_followed (threading_of c) A sound in
+    let d = threads_followed_with (threading_of c) A sound in
+    record { entry = entry_same c A T S; sound = sound; followed = r.0; out = r.1; followed_with = d.0; out_with = d.1 }

@@ -1,0 +1,3 @@
+pub mod ThreadRules
+pub mod ThreadVerdict
+pub mod ThreadSoundness

@@ -1,2 +1,6 @@
 pub mod LinesOfRows
 pub mod RulesForThreads
+pub mod HeldCode
+pub mod PlacesApart
+pub mod VerdictsOfLines
+pub mod BuiltCode

@@ -1,7 +1,7 @@
 -- Where each trampoline has an event, and a row's first one is its own, a row has one trampoline at most, and numbers and starts differ.
 use Rattle.std.proofs.Common.{◌≡◌, ◌≢◌, ◌⊎◌, inl, inr, ℕ, zero, suc, ◌+◌, ◌<◌, ◌≤◌, Bool, true, false, cond, not, ◌&&◌, eqb, List, [], ◌∷◌, ◌++◌, length, map, refl, sym, ap, ◌∙◌, subst, arith}
 use Rattle.std.specs.Prelude.{count_by}
-use Rattle.std.specs.List.{list_any, flat_map, AllByRecursion}
+use Rattle.std.specs.List.{list_any, flat_map}
 use Rattle.std.proofs.lemmas.Bool.{cases_Bool, and_parts, eqb-true, eq-eqb, or_left, true≢false, false_from_ne_true}
 use Rattle.pun_base.specs.declared.tramp.Tramp.{Tramp}
 use Rattle.patch_report.specs.Values.{BodyValue, RowValue}
@@ -122,11 +122,11 @@ numbered_once [] k d n = omega arith
 numbered_once (r ∷ rs) k d n =
     step (λ (l : Line). eqb l.number n) r rs k
     (λ o e. none_counted (λ (l : Line). eqb l.number n) (flat_map row_lines rs) (λ m c. false_from_ne_true (eqb m.number n) (λ f.
-        let q = of_rows rs (rest_kept r rs k) m c in
-        let below = number_of rs q.0 d.1 q.1 in
-        let same = eqb-true m.number n f in
-        let first = eqb-true o.line.number n e in
-        absurd (omega (arith, below, same, first, q.2, o.number, d.0)))))
+    let q = of_rows rs (rest_kept r rs k) m c in
+    let below = number_of rs q.0 d.1 q.1 in
+    let same = eqb-true m.number n f in
+    let first = eqb-true o.line.number n e in
+    absurd (omega (arith, below, same, first, q.2, o.number, d.0)))))
     (numbered_once rs (rest_kept r rs k) d.1 n)
 
 -- a site that is new is none of some rows
@@ -155,9 +155,9 @@ started_once before [] k s x = omega arith
 started_once before (r ∷ rs) k s x =
     step (λ (l : Line). eqb l.tramp.start x) r rs k
     (λ o e. none_counted (λ (l : Line). eqb l.tramp.start x) (flat_map row_lines rs) (λ m c. false_from_ne_true (eqb m.tramp.start x) (λ f.
-        let q = of_rows rs (rest_kept r rs k) m c in
-        later_site (before ++ r ∷ []) rs r q.0 s.1 (in_right before (r ∷ []) r (zero, refl)) q.1
-        (sym q.3 ∙ eqb-true m.tramp.start x f ∙ sym (eqb-true o.line.tramp.start x e) ∙ o.start))))
+    let q = of_rows rs (rest_kept r rs k) m c in
+    later_site (before ++ r ∷ []) rs r q.0 s.1 (in_right before (r ∷ []) r (zero, refl)) q.1
+    (sym q.3 ∙ eqb-true m.tramp.start x f ∙ sym (eqb-true o.line.tramp.start x e) ∙ o.start))))
     (started_once (before ++ r ∷ []) rs (rest_kept r rs k) s.1 x)
 
 module _ (v : BodyValue) (own : (r : RowValue) → In v.rows r → IsOwn r) (events : (l : Line) → In (lines v) l → HasEvent l) where

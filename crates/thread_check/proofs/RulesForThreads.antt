@@ -1,8 +1,8 @@
 -- Where no rule for threads fails, the patched image is sound for threads.
-use Rattle.std.proofs.Common.{◌≡◌, ◌≢◌, ◌⊎◌, inl, inr, ℕ, zero, suc, ◌+◌, ◌*◌, ◌-◌, ◌<◌, ◌≤◌, Bool, true, false, not, ◌&&◌, ◌||◌, eqb, leb, ltb, List, [], ◌∷◌, length, slice_index, Option, Some, None, refl, sym, ap, ap₂, ◌∙◌, subst, arith}
+use Rattle.std.proofs.Common.{◌≡◌, ◌≢◌, inl, inr, ℕ, zero, suc, ◌+◌, ◌*◌, ◌-◌, ◌<◌, ◌≤◌, Bool, true, false, not, ◌&&◌, ◌||◌, eqb, leb, ltb, List, [], ◌∷◌, length, slice_index, Option, Some, None, refl, sym, ap, ap₂, ◌∙◌, subst, arith}
 use Rattle.std.specs.Prelude.{Contains, slice_get}
 use Rattle.std.specs.Option.{is_some, option_map, option_to_list}
-use Rattle.std.specs.List.{list_any, count_by, flat_map}
+use Rattle.std.specs.List.{list_any, count_by}
 use Rattle.std.proofs.lemmas.Bool.{cases_Bool, cases_eq, cases_lt, cases_order, and_parts, and_from, or_parts, or_cases, or_left, or_right, eqb-true, eq-eqb, leb-true, ltb-true, le-leb, lt-ltb, not-false, true_from_ne_false, false_from_ne_true, false≢true, true≢false}
 use Rattle.pun_base.specs.Memory.{Cell, Bytes}
 use Rattle.pun_base.specs.declared.action.Action.{Action}
@@ -19,14 +19,14 @@ use Rattle.start_entries.specs.declared.entry.StartEntry.{StartEntry}
 use Rattle.start_entries.specs.SharedBytes.{has_byte}
 use Rattle.start_entries.specs.Finding.{entry_at}
 use Rattle.start_entries.specs.Leading.{JumpsTo}
-use Rattle.start_entries.specs.Standing.{IsEntry, AreEntries}
+use Rattle.start_entries.specs.Standing.{AreEntries}
 use Rattle.patch_report.specs.Values.{RowValue}
 use Rattle.patch_report.specs.Bounds.{IsBounded}
 use Rattle.patch_report.specs.Grammar.{IsTold}
 use Rattle.patch_report.proofs.ReportBounds.{bounded}
 use Rattle.patch_report.proofs.ListPlaces.{In, some_is, found, any_at, contains_at, place_of, counted_twice, finds, in_flat, from_flat}
 use Rattle.image_check.specs.Reports.{Line, lines, is_written, starts_line, in_private, on_page, tramps_of}
-use Rattle.image_check.specs.Rules.{Case, times_owned, belongs, differs, displaced_by, displaced_from, displaced_at, LiesInWith, HoldsCode, is_unexpected, is_expected, is_own, ByteFails, WriteFails, RangeFails, SiteFails}
+use Rattle.image_check.specs.Rules.{Case, times_owned, belongs, differs, displaced_by, displaced_from, displaced_at, LiesInWith, HoldsCode, is_unexpected, is_expected, is_own, ByteFails, WriteFails, RangeFails}
 use Rattle.image_check.proofs.SoundFacts.{Owned, none_unless, only_one}
 use Rattle.image_check.proofs.LoadedCode.{loaded_fixed}
 use Rattle.image_check.proofs.LeadingBytes.{jump_or_not, one_target}
@@ -40,8 +40,8 @@ use Rattle.thread_runs.specs.Threading.{ThreadSite, Threading, IsThreadSite, is_
 use Rattle.thread_runs.proofs.ThreadsTheorem.{threads_followed, threads_followed_with}
 use Rattle.thread_runs.proofs.WorkSize.{told}
 use Rattle.guest_threads.specs.FromTurns.{site_of}
-use Rattle.thread_check.specs.ThreadRules.{moved_from, moved_at, is_marked, shares_at, ThreadLineFails, ThreadEntryFails, thread_coding, ThreadCodeFails, ThreadSiteFails, ThreadFails, IsThreadCaseSound}
-use Rattle.thread_check.specs.ThreadSoundness.{threading_of, IsThreadCaseFollowed, ThreadCaseIsFollowed}
+use Rattle.thread_check.specs.ThreadRules.{moved_from, moved_at, is_marked, shares_at, ThreadLineFails, ThreadEntryFails, thread_coding, ThreadCodeFails, ThreadSiteFails, IsThreadCaseSound}
+use Rattle.thread_check.specs.ThreadSoundness.{threading_of, ThreadCaseIsFollowed}
 use Rattle.thread_check.proofs.LinesOfRows.{IsOwn, HasEvent, number_once}
 
 -- an option that can't be nothing is something
@@ -387,9 +387,9 @@ module _ (c : Case) (A : AreEntries c.original c.listed) (T : IsTold c.report) (
       let low : l.tramp.place + length code ≤ 0x7FFF1000 = (let k = code_low h.0 l e h.1 in omega (arith, n, k)) in
       let cells : (k : ℕ) → k < length code → c.patched (l.tramp.place + k) ≡ Some (record { byte = slice_index code k; perms = 5 }) =
       (λ k j. let d : l.tramp.place + k - l.tramp.place ≡ k = omega arith in
-        holds_code h.0 l e (l.tramp.place + k) h.1 (omega arith) (omega (arith, j, n))
-        ∙ ap (λ (z : ℕ). Some (record { byte = slice_index (code_with c l e.fields) z; perms = 5 })) d
-        ∙ ap (λ (z : List ℕ). Some (record { byte = slice_index z k; perms = 5 })) (sym same)) in
+      holds_code h.0 l e (l.tramp.place + k) h.1 (omega arith) (omega (arith, j, n))
+      ∙ ap (λ (z : ℕ). Some (record { byte = slice_index (code_with c l e.fields) z; perms = 5 })) d
+      ∙ ap (λ (z : List ℕ). Some (record { byte = slice_index z k; perms = 5 })) (sym same)) in
       record {
         listed = e.listed;
         alone = e.alone;
@@ -455,7 +455,7 @@ module _ (c : Case) (A : AreEntries c.original c.listed) (T : IsTold c.report) (
       let same : h.fields ≡ e.fields = one_standing c.original e.entry.addr h.fields e.fields h.spelled e.spelled
       (subst (λ (z : ThreadSite). Stands c.original z.entry.addr (spelling h.fields)) (sym site) h.stands) e.stands in
       let first : thread_code c.report.private.0 s.number h.fields (s.entry.addr + s.entry.len) s.place
-          ≡ thread_code c.report.private.0 l.number e.fields (e.entry.addr + e.entry.len) l.tramp.place =
+      ≡ thread_code c.report.private.0 l.number e.fields (e.entry.addr + e.entry.len) l.tramp.place =
       (λ i. thread_code c.report.private.0 (sym site i).number (same i) ((sym site i).entry.addr + (sym site i).entry.len) (sym site i).place) in
       let code = first ∙ code_is l e in
       let p : s.place ≡ l.tramp.place = ap (λ (z : ThreadSite). z.place) (sym site) in

@@ -1,3 +1,4 @@
 pub mod ThreadRules
+pub mod LineParts
 pub mod ThreadVerdict
 pub mod ThreadSoundness

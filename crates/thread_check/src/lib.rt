@@ -1,6 +1,11 @@
 //! The checker of files that are patched for guests of several threads.
 //!
-//! Stands on `image_check`, `thread_runs` and `guest_threads`; nothing stands on it yet.
+//! Stands on `image_check`, `thread_runs` and `guest_threads`; `inspect_commands` and `thread_tests` stand on it.
 #![tactic(auto)]
 
 pub mod laws;
+mod line_rule;
+mod lines;
+mod loaded;
+mod places;
+pub mod verdict;

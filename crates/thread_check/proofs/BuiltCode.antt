@@ -1,0 +1,151 @@
+-- The code that is built for a trampoline is the one that it has for threads.
+use Rattle.std.proofs.Common.{◌≡◌, ◌⊎◌, ◌↔◌, inl, inr, ℕ, ◌+◌, ◌<◌, Bool, false, true, List, length, take, get_or, map, Option, Some, None, refl, sym, ap, ◌∙◌, subst, arith}
+use Rattle.std.specs.Option.{is_some, option_map}
+use Rattle.std.proofs.lemmas.Bool.{true≢false}
+use Rattle.std.proofs.lemmas.Option.{slice_get-map, slice_get-get_or}
+use Rattle.pun_base.specs.Memory.{Bytes}
+use Rattle.cpu_state.specs.Bytes.{Stands}
+use Rattle.elf_read.specs.Image.{image_of}
+use Rattle.length_decode.specs.Spelling.{Fields, IsInstruction, spelling}
+use Rattle.insn_form.specs.declared.form.Insn.{Insn}
+use Rattle.insn_form.specs.Displacing.{displaced_len}
+use Rattle.insn_form.specs.Step.{next_after}
+use Rattle.trampoline.specs.Atomic.{is_atomic, thread_len, back, can_by}
+use Rattle.start_entries.specs.declared.entry.StartEntry.{StartEntry}
+use Rattle.start_entries.specs.Finding.{entry_at}
+use Rattle.start_entries.specs.Leading.{JumpsTo}
+use Rattle.patch_report.specs.Grammar.{IsTold}
+use Rattle.patch_report.specs.Values.{BodyValue}
+use Rattle.patch_report.proofs.ReportBounds.{bounded}
+use Rattle.patch_report.proofs.ListPlaces.{In, contains_at}
+use Rattle.image_check.specs.CodeParts.{IsLow}
+use Rattle.image_check.specs.Reports.{Line, lines}
+use Rattle.image_check.specs.Rules.{Case, displaced_by, displaced_from}
+use Rattle.image_check.specs.declared.verdict.Verdict.{Verdict}
+use Rattle.image_check.specs.declared.verdict.Verdict.TheVariants.{Yes, No}
+use Rattle.image_check.proofs.CodeAtStarts.{IsReadAt, read_at, found_address}
+use Rattle.image_check.proofs.ReportLines.{number_low, place_low}
+use Rattle.site_turns.proofs.TrampolineCodes.{IsTaken, within, taken_spelled}
+use Rattle.thread_runs.specs.Building.{thread_size}
+use Rattle.thread_runs.specs.ThreadCode.{thread_code}
+use Rattle.thread_runs.proofs.WorkSize.{told}
+use Rattle.thread_check.specs.declared.lines.ThreadLine.{ThreadLine}
+use Rattle.thread_check.specs.ThreadRules.{moved_from, is_marked, ThreadLineFails}
+use Rattle.thread_check.specs.LineParts.{line_of, first_broken, IsThreadCode, IsCodeFound, IsCodeVerdict, IsSoundLine, IsLineFailure, IsLinesVerdict}
+
+-- an option that is mapped to something is something
+mapped_from : (f : ℕ → ℕ) (o : Option ℕ) (n : ℕ) → option_map f o ≡ Some n → (k : ℕ) × (o ≡ Some k)
+mapped_from f None n h = absurd cc
+mapped_from f (Some k) n h = (k, refl)
+
+-- the code that is built of what is taken of the file
+pub built : (c : Case) (l : Line) (file : List ℕ) (e : StartEntry) (i : Insn) (n : ℕ) (ws code : List ℕ) (private : ℕ)
+    → c.original ≡ image_of file → (got : IsTaken file c.listed l.tramp.start e i n ws) → e.shared ≡ false → private ≡ c.report.private.0
+    → ((f : Fields) → IsInstruction f → take n ws ≡ spelling f → code ≡ thread_code private l.number f (e.addr + length (take n ws)) l.tramp.place)
+    → thread_size i (length (take n ws)) e.addr ≡ Some (length code) → IsThreadCode c l code
+built c l file e i n ws code private o got alone p k s =
+    let q : IsReadAt file e i = read_at file c.listed l.tramp.start e i got.accepted got.own got.at got.form in
+    let spelled = taken_spelled file c.listed l.tramp.start e i n ws got in
+    let size : length (take n ws) ≡ e.len = sym (within file c.listed l.tramp.start e i n ws got) ∙ got.len in
+    let a : e.addr ≡ l.tramp.start = found_address c.listed l.tramp.start e got.at in
+    let w = mapped_from _ (thread_len i (length (take n ws)) e.addr) (length code) s in
+    let long : thread_len i e.len e.addr ≡ Some w.0 = ap (λ z. thread_len i z e.addr) (sym size) ∙ w.1 in
+    let low = q.low in
+    let long_is = q.size in
+    let next : e.addr + length (take n ws) ≡ next_after e.addr q.fields = omega (arith, size, low, long_is) in
+    record {
+      moved = ap (λ (z : Option StartEntry). is_some (moved_from z)) got.at ∙ ap (λ (z : Option Insn). is_some (can_by z e.len e.addr)) got.form
+          ∙ ap (λ z. is_some (option_map (λ n. n + back i) z)) long;
+      alone = ap is_marked got.at ∙ alone;
+      has = record {
+        fields = q.fields;
+        spelled = q.is;
+        stands = subst (λ (m : Bytes). Stands m l.tramp.start (spelling q.fields)) (sym o)
+            (subst (λ (x : ℕ). Stands (image_of file) x (spelling q.fields)) a q.stands);
+        displaced = ap is_some (ap displaced_from got.at ∙ ap (λ (z : Option Insn). displaced_by z e.len e.addr) got.form
+            ∙ (told (is_atomic i) (displaced_len i e.len e.addr) w.0 long).1);
+        is = k q.fields q.is spelled ∙ (λ j. thread_code (p j) l.number q.fields (next j) l.tramp.place)
+            ∙ ap (λ z. thread_code c.report.private.0 l.number q.fields (next_after z q.fields) l.tramp.place) a;
+      };
+    }
+
+-- where nothing is built, the instruction can't be displaced
+pub not_built : (c : Case) (l : Line) (file : List ℕ) (e : StartEntry) (i : Insn) (n : ℕ) (ws : List ℕ)
+    → (got : IsTaken file c.listed l.tramp.start e i n ws) → thread_len i (length (take n ws)) e.addr ≡ None → IsCodeFound c l None
+not_built c l file e i n ws got s =
+    let size : length (take n ws) ≡ e.len = sym (within file c.listed l.tramp.start e i n ws got) ∙ got.len in
+    inl (ap moved_from got.at ∙ ap (λ (z : Option Insn). can_by z e.len e.addr) got.form
+    ∙ ap (option_map (λ n. n + back i)) (ap (λ z. thread_len i z e.addr) (sym size) ∙ s))
+
+-- where no start is listed, nothing can be displaced
+pub not_listed : (c : Case) (l : Line) → entry_at c.listed l.tramp.start ≡ None → IsCodeFound c l None
+not_listed c l h = inl (ap moved_from h)
+
+-- where an instruction is unknown, it can't be displaced
+pub not_known : (c : Case) (l : Line) (e : StartEntry) → entry_at c.listed l.tramp.start ≡ Some e → e.form ≡ None → IsCodeFound c l None
+not_known c l e h f = inl (ap moved_from h ∙ ap (λ (z : Option Insn). can_by z e.len e.addr) f)
+
+-- where an entry is marked, its instruction shares a byte
+pub not_alone : (c : Case) (l : Line) (e : StartEntry) → entry_at c.listed l.tramp.start ≡ Some e → e.shared ≡ true → IsCodeFound c l None
+not_alone c l e h s = inr (ap is_marked h ∙ s)
+
+-- without code rule 3 fails
+pub no_code_fails : (c : Case) (l : Line) (start : ℕ) → start ≡ l.tramp.start → IsCodeFound c l None → IsLineFailure c l (No start 3)
+no_code_fails c l start e h = inl (refl, e, elim h [ inl m ↦ inl m | inr s ↦ inr (inl s) ])
+
+-- each trampoline of a report is as low as its code asks
+pub line_low : (v : BodyValue) (ls : List ThreadLine) (k : ℕ) (d : ThreadLine) → IsTold v → map line_of ls ≡ lines v → k < length ls
+    → In (lines v) (line_of (get_or ls k d)) × IsLow v (line_of (get_or ls k d))
+line_low v ls k d r e h =
+    let b = bounded v r in
+    let l = line_of (get_or ls k d) in
+    let listed : In (lines v) l = subst (λ (z : List Line). In z l) e
+    (k, slice_get-map line_of ls k ∙ ap (option_map line_of) (slice_get-get_or ls k d h)) in (
+      listed,
+      record {
+        action = b.action;
+        place = place_low v l b listed;
+        number = omega (arith, number_low v l b listed, b.sites);
+        private_low = omega (arith, b.range, b.end);
+      },
+    )
+
+-- a trampoline that isn't sound settles the verdict
+pub line_settles : (c : Case) (l : Line) (v : Verdict) → In (lines c.report) l → IsLineFailure c l v → IsLinesVerdict c v
+line_settles c l Yes h f = absurd f
+line_settles c l (No addr rule) h f = inl (l, contains_at (lines c.report) h.0 l h.1, f)
+
+-- a trampoline of which rules 3 and 4 show nothing is sound
+pub sound_line : (c : Case) (l : Line) (start place : ℕ) (code bytes : List ℕ) → start ≡ l.tramp.start → place ≡ l.tramp.place → bytes ≡ code
+    → IsThreadCode c l code → IsCodeVerdict c.original c.patched start place l.tramp.event bytes Yes → IsSoundLine c l code
+sound_line c l start place code bytes s p b k v = record {
+  code_is = k;
+  event = v.0;
+  jump = subst (λ (z : ℕ). JumpsTo c.patched l.tramp.start z) p (subst (λ (z : ℕ). JumpsTo c.patched z place) s v.1);
+  held = ap (λ (z : ℕ). first_broken c.original c.patched z code) (sym p) ∙ ap (first_broken c.original c.patched place) (sym b) ∙ v.2;
+}
+
+-- a trampoline of which they show something isn't
+pub failing_line : (c : Case) (l : Line) (start place : ℕ) (code bytes : List ℕ) (addr rule : ℕ) → start ≡ l.tramp.start → place ≡ l.tramp.place
+    → bytes ≡ code → IsThreadCode c l code → IsCodeVerdict c.original c.patched start place l.tramp.event bytes (No addr rule)
+    → IsLineFailure c l (No addr rule)
+failing_line c l start place code bytes addr rule s p b k (inl v) = inl (v.0, v.1 ∙ s, by_kind v.2)
+  where
+    by_kind : (l.tramp.event ≡ false) ⊎ (JumpsTo c.patched start place → ⊥) → ThreadLineFails c l.tramp.start l
+    by_kind (inl e) = inr (inr (inr (inl e)))
+    by_kind (inr n) = inr (inr (inr (inr (λ j.
+        n (subst (λ (z : ℕ). JumpsTo c.patched start z) (sym p) (subst (λ (z : ℕ). JumpsTo c.patched z l.tramp.place) (sym s) j))))))
+failing_line c l start place code bytes addr rule s p b k (inr v) = inr (
+  v.0,
+  record {
+    code = code;
+    code_is = k;
+    first = ap (λ (z : ℕ). first_broken c.original c.patched z code) (sym p) ∙ ap (first_broken c.original c.patched place) (sym b) ∙ v.1;
+  },
+)
+
+-- where a trampoline isn't entered, it has no event, or no jump leads to its place
+pub not_entered : (m : Bytes) (start place : ℕ) (event b : Bool) → (b ≡ true) ↔ (event ≡ true) × JumpsTo m start place → b ≡ false
+    → (event ≡ false) ⊎ (JumpsTo m start place → ⊥)
+not_entered m start place false b h e = inl refl
+not_entered m start place true b h e = inr (λ j. true≢false (sym (h.1 (refl, j)) ∙ e))

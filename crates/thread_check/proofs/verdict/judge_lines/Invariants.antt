@@ -1,0 +1,10 @@
+use Rattle.std.proofs.Common.{◌≡◌, map, take}
+use Rattle.std.specs.List.{AllByRecursion}
+use Rattle.image_check.specs.Verdict.{case_of}
+use Rattle.thread_check.specs.LineParts.{line_of, IsSoundCode}
+use Rattle.thread_check.proofs.verdict.judge_lines.Given as goal
+
+abbrev pub invariant-loop-line : goal.invariant-loop-line
+invariant-loop-line l =
+    (map (λ p. line_of p.line) l.codes.items ≡ map line_of (take l.line-index l.line-items))
+    × AllByRecursion (IsSoundCode (case_of l.orig.bytes l.patched.bytes l.starts l.report.body)) l.codes.items

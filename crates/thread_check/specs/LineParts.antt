@@ -1,0 +1,143 @@
+-- What the checker keeps of a report's trampolines, and when each is sound. Contracts of private functions alone cite it.
+use Rattle.std.specs.Prelude.{◌≡◌, ◌⊎◌, ℕ, ◌+◌, Bool, true, false, ◌&&◌, nat_le, nat_lt, if◌then◌else◌, List, [], ◌∷◌, map, length, Option, Some, None, is_some, Contains}
+use Rattle.std.specs.List.{AllByRecursion}
+use Rattle.std.specs.List.Sorted.{IsPermutation, IsNonDecreasingBy}
+use Rattle.pun_base.specs.Memory.{Cell, Bytes}
+use Rattle.pun_base.specs.declared.action.Action.{Action}
+use Rattle.pun_base.specs.declared.action.Action.TheVariants.{Cover, Count, Ring, When}
+use Rattle.start_entries.specs.Leading.{JumpsTo}
+use Rattle.image_check.specs.CodeParts.{holds_code}
+use Rattle.image_check.specs.Reports.{Line, lines}
+use Rattle.image_check.specs.Rules.{Case, HasCodeWith, ByteFails, WriteFails, RangeFails, SiteFails}
+use Rattle.image_check.specs.declared.verdict.Verdict.{Verdict}
+use Rattle.image_check.specs.declared.verdict.Verdict.TheVariants.{Yes, No}
+use Rattle.thread_check.specs.declared.lines.ThreadLine.{ThreadLine}
+use Rattle.thread_check.specs.declared.loaded.LoadedByte.{LoadedByte}
+use Rattle.thread_check.specs.declared.places.ThreadCode.{ThreadCode}
+use Rattle.thread_check.specs.ThreadRules.{moved_at, shares_at, ThreadLineFails, thread_coding}
+
+-- A trampoline of the code as rules read it.
+abbrev pub line_of : ThreadLine → Line
+line_of l = record { number = l.number; tramp = l.tramp }
+
+-- The cell of a loaded byte.
+abbrev pub cell_of : LoadedByte → Cell
+cell_of b = record { byte = b.byte; perms = b.perms }
+
+-- This byte is loaded, R-X, where the original loads none.
+abbrev pub is_new_code : Option Cell → Option Cell → ℕ → Bool
+is_new_code (Some c) now b = false
+is_new_code None now b = holds_code now b
+
+-- The first address, from one on, at which that isn't so of these bytes.
+abbrev pub first_broken : Bytes → Bytes → ℕ → List ℕ → Option ℕ
+first_broken m n a [] = None
+first_broken m n a (b ∷ bs) = if is_new_code (m a) (n a) b then first_broken m n (a + 1) bs else Some a
+
+-- The code that a trampoline has for threads: of an instruction that can be displaced and is alone.
+pub record IsThreadCode (c : Case) (l : Line) (code : List ℕ) : Type 0 where
+  pub moved : is_some (moved_at c.listed l.tramp.start) ≡ true
+  pub alone : shares_at c.listed l.tramp.start ≡ false
+  pub has : HasCodeWith (thread_coding c.report) c l code
+
+-- A trampoline has this code, or rule 3 fails for its instruction.
+abbrev pub IsCodeFound : Case → Line → Option (List ℕ) → Type 0
+IsCodeFound c l None = (moved_at c.listed l.tramp.start ≡ None) ⊎ (shares_at c.listed l.tramp.start ≡ true)
+IsCodeFound c l (Some code) = IsThreadCode c l code
+
+-- What rules 3 and 4 show for a trampoline with this code, but for its instruction: it has an event,
+-- a jump leads to its place, and the code is held there; or which rule fails, and where.
+abbrev pub IsCodeVerdict : Bytes → Bytes → ℕ → ℕ → Bool → List ℕ → Verdict → Type 0
+IsCodeVerdict m n start place event code Yes = (event ≡ true) × JumpsTo n start place × (first_broken m n place code ≡ None)
+IsCodeVerdict m n start place event code (No addr rule) =
+    ((rule ≡ 3) × (addr ≡ start) × ((event ≡ false) ⊎ (JumpsTo n start place → ⊥)))
+    ⊎ ((rule ≡ 4) × (first_broken m n place code ≡ Some addr))
+
+-- A trampoline with this code: it has an event, a jump leads to its place, and the code is held
+-- there.
+pub record IsSoundLine (c : Case) (l : Line) (code : List ℕ) : Type 0 where
+  pub code_is : IsThreadCode c l code
+  pub event : l.tramp.event ≡ true
+  pub jump : JumpsTo c.patched l.tramp.start l.tramp.place
+  pub held : first_broken c.original c.patched l.tramp.place code ≡ None
+
+-- The code of a trampoline isn't held at an address.
+pub record IsBrokenLine (c : Case) (l : Line) (x : ℕ) : Type 0 where
+  pub code : List ℕ
+  pub code_is : IsThreadCode c l code
+  pub first : first_broken c.original c.patched l.tramp.place code ≡ Some x
+
+-- A trampoline isn't sound: rule 3 fails for it at its start, or rule 4 at an address of its code.
+abbrev pub IsLineFailure : Case → Line → Verdict → Type 0
+IsLineFailure c l Yes = ⊥
+IsLineFailure c l (No addr rule) =
+    ((rule ≡ 3) × (addr ≡ l.tramp.start) × ThreadLineFails c l.tramp.start l) ⊎ ((rule ≡ 4) × IsBrokenLine c l addr)
+
+-- A trampoline with its code is sound.
+abbrev pub IsSoundCode : Case → ThreadCode → Type 0
+IsSoundCode c p = IsSoundLine c (line_of p.line) p.bytes
+
+-- An address is in a trampoline's code.
+abbrev pub in_code : ℕ → ThreadCode → Bool
+in_code x p = nat_le p.line.tramp.place x && nat_lt x (p.line.tramp.place + length p.bytes)
+
+-- The first place below the end of the code before it.
+abbrev pub first_overlap : ℕ → List ThreadCode → Option ℕ
+first_overlap reached [] = None
+first_overlap reached (p ∷ ps) =
+    if nat_lt p.line.tramp.place reached then Some p.line.tramp.place else first_overlap (p.line.tramp.place + length p.bytes) ps
+
+-- All trampolines of a report, each sound, with their codes also sorted by place.
+pub record AreSoundLines (c : Case) (sorted : List ThreadCode) : Type 0 where
+  pub codes : List ThreadCode
+  pub lines_are : map (λ p. line_of p.line) codes ≡ lines c.report
+  pub each : AllByRecursion (IsSoundCode c) codes
+  pub moved : IsPermutation codes sorted
+  pub rise : IsNonDecreasingBy (λ p. p.line.tramp.place) sorted
+
+-- What the trampolines of a report show: each is sound, and codes don't meet; or one isn't sound, or
+-- two codes meet at an address.
+abbrev pub IsLinesVerdict : Case → Verdict → Type 0
+IsLinesVerdict c Yes = (sorted : List ThreadCode) × AreSoundLines c sorted × (first_overlap 0 sorted ≡ None)
+IsLinesVerdict c (No addr rule) =
+    ((l : Line) × Contains (lines c.report) l × IsLineFailure c l (No addr rule))
+    ⊎ ((rule ≡ 4) × ((sorted : List ThreadCode) × AreSoundLines c sorted × (first_overlap 0 sorted ≡ Some addr)))
+
+-- Rules 1, 2, 5 and 6 of any patched image hold everywhere.
+pub record IsSoundImage (c : Case) : Type 0 where
+  pub bytes : (x : ℕ) → ByteFails c x → ⊥
+  pub writes : (x : ℕ) → WriteFails c x → ⊥
+  pub ranges : (x : ℕ) → RangeFails c x → ⊥
+  pub sites : (x : ℕ) → SiteFails c x → ⊥
+
+-- One of these rules fails at an address.
+abbrev pub ImageFails : Case → ℕ → ℕ → Type 0
+ImageFails c rule x =
+    ((rule ≡ 1) × ByteFails c x) ⊎ ((rule ≡ 2) × WriteFails c x) ⊎ ((rule ≡ 5) × RangeFails c x) ⊎ ((rule ≡ 6) × SiteFails c x)
+
+-- What these rules show: each holds everywhere, or one fails at an address.
+abbrev pub IsImageVerdict : Case → Verdict → Type 0
+IsImageVerdict c Yes = IsSoundImage c
+IsImageVerdict c (No addr rule) = ImageFails c rule addr
+
+-- The first of the rules 1, 2, 5 and 6 that fails, where each first fails there, if it does.
+abbrev pub first_failure : Option ℕ → Option ℕ → Option ℕ → Option ℕ → Verdict
+first_failure (Some x) write range site = No x 1
+first_failure None (Some x) range site = No x 2
+first_failure None None (Some x) site = No x 5
+first_failure None None None (Some x) = No x 6
+first_failure None None None None = Yes
+
+-- An action is to count.
+abbrev pub counts : Action → Bool
+counts Count = true
+counts Cover = false
+counts (Ring len) = false
+counts (When b list) = false
+
+-- The verdict of these: of the rules of any patched file, of whether the action is to count, where
+-- the private range begins at an address, and of the trampolines.
+abbrev pub whole : Bool → ℕ → Verdict → Verdict → Verdict
+whole counts low (No addr rule) lines = No addr rule
+whole true low Yes lines = lines
+whole false low Yes lines = No low 6

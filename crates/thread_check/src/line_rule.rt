@@ -1,0 +1,129 @@
+//! Rules 3 and 4 for one trampoline.
+ghost use Rattle.std.specs.Prelude.{◌≡◌, ◌↔◌, ◌+◌, ◌<◌, ◌^◌, ℕ, true, List, None, IsTrue, MatchResult, length};
+ghost use Rattle.elf_read.specs.Image.{image_of};
+ghost use Rattle.elf_read.specs.Refusals.{refusal};
+ghost use Rattle.start_entries.specs.Laws.{IsBuilt};
+ghost use Rattle.start_entries.specs.Leading.{JumpsTo};
+ghost use Rattle.image_check.specs.CodeParts.{IsLow};
+ghost use Rattle.image_check.specs.Verdict.{case_of};
+ghost use Rattle.thread_check.specs.LineParts.{line_of, IsCodeFound, IsCodeVerdict, IsSoundLine, IsLineFailure};
+
+use crate::lines::ThreadLine;
+use crate::loaded::first_broken;
+use code_bytes::code::CodeBytes;
+use elf_read::elf::Elf;
+use image_check::jumps::jump_at;
+use image_check::verdict::Verdict;
+use patch_report::report::Report;
+use start_entries::starts::Starts;
+use thread_runs::thread_build;
+
+/// The code of a trampoline, made of the instruction at its start in the original; none where that
+/// isn't listed, shares a byte with another one, or can't be displaced where threads share memory.
+fn code_of(orig: &Elf<'_>, starts: &Starts, report: &Report, line: &ThreadLine) -> Option<CodeBytes>
+    requires accepted { refusal 0x10000 orig.now.bytes ≡ None }
+    requires built { IsBuilt orig.now.bytes starts.now }
+    requires low { IsLow report.now.body (line_of line.now) }
+    ensures { (p : List ℕ) → IsCodeFound
+        (case_of orig.now.bytes p starts.now report.now.body) (line_of line.now) result }
+{
+    let Some(entry) = starts.at(line.tramp.start) else {
+        return None;
+    };
+    if entry.shared {
+        return None;
+    }
+    let Some(insn) = entry.form else {
+        return None;
+    };
+    let private = report.private().lo;
+    let bytes = &orig.window(entry.addr)[..usize::from(entry.len)];
+    match thread_build(
+        &insn,
+        bytes,
+        entry.addr,
+        line.tramp.place,
+        line.number,
+        private,
+    ) {
+        Ok(code) => Some(code.bytes),
+        Err(_) => None,
+    }
+}
+
+/// Whether the jump at an address leads to a place.
+fn jumps_to(elf: &Elf<'_>, addr: u64, place: u64) -> bool
+    ensures { IsTrue result ↔ JumpsTo (image_of elf.now.bytes) addr place }
+{
+    match jump_at(elf, addr) {
+        None => false,
+        Some(target) => target == place,
+    }
+}
+
+/// Whether a trampoline has an event, and the jump at its start leads to its place.
+fn enters(patched: &Elf<'_>, start: u64, place: u64, event: bool) -> bool
+    ensures { IsTrue result ↔ (event ≡ true) × JumpsTo (image_of patched.now.bytes) start place }
+{
+    event && jumps_to(patched, start, place)
+}
+
+/// What rule fails of 3 and 4, and where, for a trampoline with this code.
+fn judge_code(
+    orig: &Elf<'_>,
+    patched: &Elf<'_>,
+    start: u64,
+    place: u64,
+    event: bool,
+    code: &[u8],
+) -> Verdict
+    requires { place + length code.now < 2 ^ 64 }
+    ensures { IsCodeVerdict (image_of orig.now.bytes) (image_of patched.now.bytes)
+        start place event code.now result }
+{
+    if enters(patched, start, place, event) {
+        match first_broken(orig, patched, place, code) {
+            None => Verdict::Yes,
+            Some(addr) => Verdict::No { addr, rule: 4 },
+        }
+    } else {
+        Verdict::No {
+            addr: start,
+            rule: 3,
+        }
+    }
+}
+
+/// The code of a trampoline that is sound; what fails where it isn't.
+pub(crate) fn judge(
+    orig: &Elf<'_>,
+    patched: &Elf<'_>,
+    starts: &Starts,
+    report: &Report,
+    line: &ThreadLine,
+) -> Result<CodeBytes, Verdict>
+    requires accepted { refusal 0x10000 orig.now.bytes ≡ None }
+    requires built { IsBuilt orig.now.bytes starts.now }
+    requires low { IsLow report.now.body (line_of line.now) }
+    ensures { MatchResult result
+        (IsSoundLine (case_of orig.now.bytes patched.now.bytes starts.now report.now.body)
+        (line_of line.now))
+        (IsLineFailure (case_of orig.now.bytes patched.now.bytes starts.now report.now.body)
+        (line_of line.now)) }
+{
+    let start = u64::from(line.tramp.start);
+    let place = u64::from(line.tramp.place);
+    match code_of(orig, starts, report, line) {
+        None => Err(Verdict::No {
+            addr: start,
+            rule: 3,
+        }),
+        Some(code) => {
+            let bytes = code.as_slice();
+            match judge_code(orig, patched, start, place, line.tramp.event, bytes) {
+                Verdict::Yes => Ok(code),
+                Verdict::No { addr, rule } => Err(Verdict::No { addr, rule }),
+            }
+        }
+    }
+}

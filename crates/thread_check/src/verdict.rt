@@ -1,0 +1,138 @@
+//! The verdict on a file that is patched for threads.
+ghost use Rattle.std.specs.Prelude.{◌≡◌, IfOk};
+ghost use Rattle.start_entries.specs.Laws.{IsBuilt};
+ghost use Rattle.image_check.specs.declared.verdict.Verdict.TheVariants.{Yes};
+ghost use Rattle.image_check.specs.Verdict.{case_of, case_in};
+ghost use Rattle.thread_check.specs.LineParts as parts;
+ghost use Rattle.thread_check.specs.LineParts.{IsLinesVerdict, IsImageVerdict};
+ghost use Rattle.thread_check.specs.ThreadSoundness.{IsThreadCaseFollowed};
+ghost use Rattle.thread_check.specs.ThreadVerdict.{IsThreadVerdict};
+
+use crate::line_rule::judge;
+use crate::lines::lines_of;
+use crate::places::{ThreadCode, by_place, first_overlap};
+use elf_read::elf::Elf;
+use image_check::checked::Checked;
+use image_check::rule::Rule;
+use image_check::verdict::Verdict;
+use patch_report::report::Report;
+use pun_base::action::Action;
+use start_entries::starts::Starts;
+use std::alloc::{AllocError, Global};
+
+/// The first of the rules 1, 2, 5 and 6 that fails, where each first fails there, if it does.
+fn first_failure(
+    byte: Option<u64>,
+    write: Option<u64>,
+    range: Option<u64>,
+    site: Option<u64>,
+) -> Verdict
+    ensures { result ≡ parts.first_failure byte write range site }
+{
+    if let Some(addr) = byte {
+        return Verdict::No { addr, rule: 1 };
+    }
+    if let Some(addr) = write {
+        return Verdict::No { addr, rule: 2 };
+    }
+    if let Some(addr) = range {
+        return Verdict::No { addr, rule: 5 };
+    }
+    match site {
+        None => Verdict::Yes,
+        Some(addr) => Verdict::No { addr, rule: 6 },
+    }
+}
+
+/// Judges by rules 1, 2, 5 and 6 of any patched file.
+fn judge_image(alloc: Global, checked: &Checked<'_>) -> Result<Verdict, AllocError>
+    ensures { IfOk result (λ v. IsImageVerdict (case_in checked.now) v) }
+{
+    let byte = checked.least(alloc, Rule::Byte)?;
+    let write = checked.least(alloc, Rule::Write)?;
+    let range = checked.least(alloc, Rule::Range)?;
+    let site = checked.least(alloc, Rule::Site)?;
+    Ok(first_failure(byte, write, range, site))
+}
+
+/// Judges the trampolines by rules 3 and 4, but for what follows where the other rules hold.
+fn judge_lines(
+    alloc: Global,
+    orig: &Elf<'_>,
+    patched: &Elf<'_>,
+    starts: &Starts,
+    report: &Report,
+) -> Result<Verdict, AllocError>
+    requires built { IsBuilt orig.now.bytes starts.now }
+    ensures { IfOk result (λ v. IsLinesVerdict
+        (case_of orig.now.bytes patched.now.bytes starts.now report.now.body) v) }
+{
+    report.keeps();
+    let _accepted = orig.file();
+    let lines = lines_of(alloc, report)?;
+    let mut codes = Vec::new(alloc);
+    for line in lines.as_slice() {
+        match judge(orig, patched, starts, report, line) {
+            Ok(bytes) => codes.push(ThreadCode { line: *line, bytes })?,
+            Err(verdict) => return Ok(verdict),
+        }
+    }
+    let sorted = by_place(codes)?;
+    match first_overlap(&sorted) {
+        None => Ok(Verdict::Yes),
+        Some(addr) => Ok(Verdict::No { addr, rule: 4 }),
+    }
+}
+
+/// Whether an action is to count.
+fn counts(action: Action) -> bool
+    ensures { result ≡ parts.counts action }
+{
+    match action {
+        Action::Count => true,
+        Action::Cover | Action::Ring { .. } | Action::When { .. } => false,
+    }
+}
+
+/// The verdict of these: of the rules of any patched file, of whether the action is to count, where
+/// the private range begins at `low`, and of the trampolines.
+fn whole(counts: bool, low: u64, image: Verdict, lines: Verdict) -> Verdict
+    ensures { result ≡ parts.whole counts low image lines }
+{
+    match image {
+        Verdict::No { addr, rule } => Verdict::No { addr, rule },
+        Verdict::Yes => {
+            if counts {
+                lines
+            } else {
+                Verdict::No { addr: low, rule: 6 }
+            }
+        }
+    }
+}
+
+/// Judges a file that is patched for threads by the six rules for threads. The starts are those of
+/// the original. Where the verdict is Yes, the patched file starts where the original does, and runs
+/// with any number of threads as the original does, and counts. Where it is No, the rule fails at the
+/// address.
+pub fn check_threads(
+    alloc: Global,
+    orig: &Elf<'_>,
+    patched: &Elf<'_>,
+    starts: &Starts,
+    report: &Report,
+) -> Result<Verdict, AllocError>
+    requires built { IsBuilt orig.now.bytes starts.now }
+    ensures verdict { IfOk result (λ verdict. IsThreadVerdict
+        (case_of orig.now.bytes patched.now.bytes starts.now report.now.body) verdict) }
+    ensures followed { IfOk result (λ verdict. verdict ≡ Yes → IsThreadCaseFollowed
+        (case_of orig.now.bytes patched.now.bytes starts.now report.now.body)) }
+{
+    report.keeps();
+    let _accepted = orig.file();
+    let checked = Checked::new(alloc, orig, patched, starts, report)?;
+    let image = judge_image(alloc, &checked)?;
+    let lines = judge_lines(alloc, orig, patched, starts, report)?;
+    let low = u64::from(report.private().lo);
+    Ok(whole(counts(report.action()), low, image, lines))
+}

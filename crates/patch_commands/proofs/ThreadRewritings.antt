@@ -1,5 +1,5 @@
 -- OUT is rewritten for threads, its report is written where one is asked for, and the summary is told.
-use Rattle.std.proofs.Common.{◌≡◌, inl, inr, List, map, Result, Ok, Err, refl, sym, ap, ◌∙◌, subst}
+use Rattle.std.proofs.Common.{◌≡◌, ℕ, inl, inr, List, map, Result, Ok, Err, refl, sym, ap, ◌∙◌, subst}
 use Rattle.pun_base.specs.Shown.{DeskState}
 use Rattle.elf_emit.specs.declared.emit.EmitError.TheVariants as emit
 use Rattle.patch_report.specs.Values.{RowValue, ReportValue, row_value}

@@ -135,11 +135,11 @@ def our_tools(source: str) -> list[Tool]:
     return [
         ours("which own blocks ran", "cover", "--own"),
         ours("how often each own block ran", "count", "--own"),
-        ours("the same", "count", "--fast", "--own"),
+        ours("the same counts, with fewer sites", "count", "--fast", "--own"),
         ours("the last 100 own blocks", "ring", "100", "--own"),
         ours("calls, the C library's too", "count", "--functions"),
         ours("how often each block ran, the C library's too", "count", "--blocks"),
-        ours("the same", "count", "--fast", "--blocks"),
+        ours("the same counts, with fewer sites", "count", "--fast", "--blocks"),
     ]
 
 
@@ -175,7 +175,7 @@ def section(source: str, least: dict[str, Cost], columns: tuple[list[Tool], list
             f"`{os.path.relpath(source, TOP)}` ({' '.join(GCC)}) sorts, counts divisors and sieves. The least of "
             f"{TURNS} runs, in turns with the others{', beside other work' if is_busy else ''}; {model()}, Linux "
             f"{'.'.join(os.uname().release.split('.')[:2])}. Patching and showing the record are left out. "
-            f"`bench/costs.py` measures any C program so, and makes this section.")
+            f"`bench/costs.py` makes this section, and measures any C program in this way.")
     cells = [[f"`{tool.name}`: {tool.records} | {least[tool.name].times(least[''])}" for tool in column]
              for column in columns]
     rows = [f"| {ours} | {other} |" for ours, other in itertools.zip_longest(*cells, fillvalue="|")]

@@ -3,9 +3,9 @@
 
 speed.py [--write] [--only ROW].. [E9TOOL] measures crates/e9tool/out/e9tool, $E9TOOL or the one that is named, and
 prints a table for each row; --write puts them into the page, where a line names each, and README's section on costs
-(row factors). Times are the least of some runs, of the processor unless the table says "by the clock"; they tell
-something where nothing else runs. Instructions are counted by callgrind and are the same from run to run; MiB are peak
-memory. A tool or a program that isn't installed is called so in its row.
+(row factors). Times are the least of some runs, of the processor unless the table says "by the clock"; they mean
+something only if nothing else runs. Instructions are counted by callgrind and are the same from run to run; MiB are
+peak memory. The row of a tool or a program that isn't installed says so.
 """
 import argparse
 import datetime

@@ -1,5 +1,5 @@
 #!/bin/sh
-# What the package puts in PATH as e9tool: the proved program's own words are fixed, so --help and --version are answered here.
+# What the package puts in PATH as e9tool: the proved program has neither --help nor --version, so they are answered here.
 here=$(dirname "$(realpath "$0")")
 case ${1-} in
 --version)

@@ -2,7 +2,7 @@
 """Tries the must-fail edits that the gate leaves out: those of more-edits/CRATE/*.edit.
 
 For a crate whose contracts change; CONTRIBUTING.md says what an edit is. A clone of what is committed gets them in the
-place of the crate's own edits, which the gate tries, and `rt must-fail` tries them there. Where the clone has nothing
+place of the crate's own edits, which the gate tries, and `rt must-fail` tries them there. If the clone has nothing
 proved yet, it proves these crates and those below first. The clone is removed, and the status is that of `rt
 must-fail`.
 """

@@ -1,10 +1,10 @@
 #!/usr/bin/env python3
 """Runs commands at each stated limit, with memory at hand, on built programs, and compares every byte that they print and leave.
 
-So none of them answers that memory is wanting (status 6). The files of a case are made when it comes, and the longest are of 256 MB, nearly
-all of it zeros. Some 2 GB of memory and as much room for temporary files are enough.
+None of them may run out of memory (status 6). The files of a case are made when its turn comes; the longest have 256 MB, nearly all of it
+zeros. Some 2 GB of memory and as much room for temporary files are enough.
 
-The exit status is 1 where a case fails, and 2 where a program or the named group is missing.
+The exit status is 1 if a case fails, and 2 if a program or the named group is missing.
 """
 import argparse
 import os
@@ -60,7 +60,7 @@ def main() -> None:
     parser = argparse.ArgumentParser(description=__doc__, formatter_class=argparse.RawDescriptionHelpFormatter)
     parser.add_argument("programs", metavar="PROGRAM", nargs="+", help="crates/e9tool/out/e9tool, say")
     parser.add_argument("--only", metavar="GROUP", help=", ".join(GROUPS))
-    parser.add_argument("--told", action="store_true", help="a line for each case")
+    parser.add_argument("--verbose", action="store_true", help="a line for each case")
     asked = parser.parse_args()
     missing = [it for it in asked.programs if not os.access(it, os.X_OK)]
     missing += [] if asked.only in (None, *GROUPS) else [f"a group {asked.only}"]
@@ -73,7 +73,7 @@ def main() -> None:
             for program in (os.path.realpath(it) for it in asked.programs):
                 told = try_case(program, case)
                 passed, failed = passed + (not told), failed + bool(told)
-                if told or asked.told:
+                if told or asked.verbose:
                     print(f"{os.path.basename(program)}: {group}: {case.name}: {'; '.join(told) or 'passed'}", flush=True)
     print(f"limits: {passed} passed, {failed} failed")
     sys.exit(1 if failed else 0)

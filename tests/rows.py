@@ -2,15 +2,15 @@
 """Runs rows, commands with files before and after them, on built programs, and compares every byte.
 
 A row is a folder tests/rows/NAME:
-  words    the words after the program's name, one a line
-  before/  the files that stand before; none where it is missing
+  words    the program's arguments, one a line
+  before/  the files that are there before; if it is missing, none
   status   the exit status
   stdout   what is printed, exactly; standard error stays empty
   after/   the files that the command makes or changes; every other file stays, and there is no further one
-  why      what the row shows, in a line, where its name doesn't say it
+  why      what the row shows, in a line, if its name doesn't say it
 
-Rows that a rule or a table gives better than files do stand in made_rows.py, refused_rows.py and verdict_rows.py. The exit status is 1
-where a row fails, and 2 where a program or the named row is missing.
+Rows that a rule or a table makes are in made_rows.py, refused_rows.py and verdict_rows.py. The exit status is 1 if a row fails, and 2 if a
+program or the named row is missing.
 """
 import argparse
 import os
@@ -82,7 +82,7 @@ def run(program, row):
 def main():
     parser = argparse.ArgumentParser(description=__doc__, formatter_class=argparse.RawDescriptionHelpFormatter)
     parser.add_argument("programs", metavar="PROGRAM", nargs="+", help="crates/e9tool/out/e9tool, say")
-    parser.add_argument("--only", metavar="NAME", default="", help="the rows whose names begin so")
+    parser.add_argument("--only", metavar="NAME", default="", help="only the rows whose names begin with NAME")
     asked = parser.parse_args()
     rows = [read_row(name) for name in sorted(os.listdir(f"{TESTS}/rows"))] + [*made_rows(), *refused_rows(), *verdict_rows()]
     rows = [row for row in rows if row.name.startswith(asked.only)]

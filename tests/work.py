@@ -1,13 +1,13 @@
 #!/usr/bin/env python3
 """Counts the processor's instructions that commands take, and their peak memory, and fails where one is above its ceiling.
 
-The figures of tests/work.txt are of the program that was there when they were taken. The ceiling of instructions is a tenth above, that of
-peak memory a twentieth. Instructions are counted by valgrind's callgrind, which gives the same from run to run; peak memory is what the
-system tells of a run without it, and moves by a hundredth. Another C library, or another processor, moves both a little. `--measure` takes them anew, and writes tests/work.txt: do so where a change of
-the program is meant to cost, and say why in the commit.
+The figures of tests/work.txt are those of the program that they were last measured with. The ceiling of instructions is a tenth above,
+that of peak memory a twentieth. Instructions are counted by valgrind's callgrind, which gives the same from run to run; peak memory is what
+the system reports of a run without callgrind, and varies by a hundredth. Another C library or processor changes both a little. `--measure`
+measures them anew and writes tests/work.txt: do so if a change of the program is meant to cost, and say why in the commit.
 
-The exit status is 1 where a figure is above its ceiling, a command answers something else or valgrind is missing (with
-VAKNUHOL_TESTS_MAY_SKIP=1 the memory alone is then measured), and 2 where the program is missing.
+The exit status is 1 if a figure is above its ceiling, a command answers something else or valgrind is missing (with
+VAKNUHOL_TESTS_MAY_SKIP=1 the memory alone is then measured), and 2 if the program is missing.
 """
 import argparse
 import os
@@ -111,9 +111,9 @@ def main() -> None:
     parser = argparse.ArgumentParser(description=__doc__, formatter_class=argparse.RawDescriptionHelpFormatter)
     parser.add_argument("program", metavar="PROGRAM", help="crates/e9tool/out/e9tool, say")
     parser.add_argument("--measure", action="store_true", help="write the figures in place of comparing with them")
-    parser.add_argument("--only", metavar="NAME", default="", help="the commands whose names begin so")
-    parser.add_argument("--told", action="store_true", help="a line for each command")
-    parser.add_argument("--processes", type=int, default=os.cpu_count() or 1, help="how many run at a time")
+    parser.add_argument("--only", metavar="NAME", default="", help="only the commands whose names begin with NAME")
+    parser.add_argument("--verbose", action="store_true", help="a line for each command")
+    parser.add_argument("--processes", type=int, default=os.cpu_count() or 1, help="how many run at once")
     asked = parser.parse_args()
     program = os.path.realpath(asked.program)
     if not os.access(program, os.X_OK):
@@ -132,7 +132,7 @@ def main() -> None:
         of = 100 * figure / figures[key]
         is_above = of > CEILINGS[key[0]]
         above += is_above
-        if is_above or asked.told:
+        if is_above or asked.verbose:
             print(f"work: {key[1]}: {figure} {key[0]}, {of:.1f} % of {figures[key]}{' ABOVE ITS CEILING' * is_above}", flush=True)
     print(f"work: {len(found) - above} within their ceilings, {above} above")
     sys.exit(1 if above else 0)

@@ -72,7 +72,7 @@ static int follows_on(const struct instruction *one, const struct instruction *b
     return before->addr + before->length == one->addr && before->kind == FALLS && one->kind != KERNEL;
 }
 
-/* The instructions, parted before and behind each that begins or ends a block, and where what fills room ends. */
+/* The instructions, parted before and after each that begins or ends a block, and where what fills room ends. */
 static void part(const struct evidence *it, const struct leaders *by, struct blocks *blocks) {
     int fills = 0;
     for (size_t at = 0; at < it->count; at++) {
@@ -87,7 +87,7 @@ static void part(const struct evidence *it, const struct leaders *by, struct blo
     }
 }
 
-/* Whether a block only fills the room behind what doesn't return, and nothing leads to it. */
+/* Whether a block only fills the room after what doesn't return, and nothing leads to it. */
 static int is_padding(const struct evidence *it, const struct leaders *by, const struct block *block) {
     const struct instruction *first = it->found + block->first, *last = first + block->size - 1;
     const struct instruction *before = block->first ? first - 1 : NULL;

@@ -1,7 +1,7 @@
 /* Blocks: runs of instructions that are executed equally often.
 
-   A block ends at a jump, a call, a return, before what a jump leads to, before a function, and before and behind a call of the
-   kernel, which may return twice or be made anew. It ends behind an instruction that shares bytes with another one, since both of
+   A block ends at a jump, a call, a return, before what a jump leads to, before a function, and before and after a call of the
+   kernel, which may return twice or be made anew. It ends after an instruction that shares bytes with another one, since both of
    them come to what follows. Where an indirect jump or call leads isn't known; so a block begins, too, at each instruction whose
    address the program holds: a word of its data, a number in an instruction, or a distance in a table of distances from the table
    itself, as compilers write them for `switch`. What only fills room is no block. */

@@ -9,7 +9,7 @@
 
 /* How many bytes from a start on have to read as code, by what there is of evidence. */
 enum { OF_WORD = 48, OF_NUMBER = 256, LOWEST_NUMBER = 0x10000 };
-/* A jump has five bytes; with pads before it, and that of a victim behind the site, so many bytes from the site on. */
+/* A jump has five bytes; with pads before it, and that of a victim after the site, so many bytes from the site on. */
 enum { JUMP_SIZE = 5, REACH = 15 };
 /* Compilers let functions begin at multiples of it. */
 enum { ALIGNED = 16 };
@@ -58,7 +58,7 @@ int are_prefixes(const struct evidence *it, uint32_t from, uint32_t to) {
     return 1;
 }
 
-/* The start of the instruction that has a byte behind its first one. */
+/* The start of the instruction that has a byte after its first one. */
 static uint32_t holder_of(const struct evidence *it, uint32_t addr) {
     while (addr > it->program->lo && !is_start(it, --addr))
         continue;
@@ -118,7 +118,7 @@ static int speaks_against(const struct evidence *it, const struct instruction *o
     return is_odd || is_data(it, one->addr) || enters_inside(it, one->target) || (level >= WORD && is_first && one->kind == END);
 }
 
-/* Whether it covers starts that are listed; `is_wrong` where they are behind more than its prefixes. */
+/* Whether it covers starts that are listed; `is_wrong` where they are after more than its prefixes. */
 static int meets_starts(const struct evidence *it, const struct instruction *one, int *is_wrong) {
     int meets = 0;
     for (uint32_t at = one->addr + 1; at < one->addr + one->length; at++)
@@ -129,8 +129,8 @@ static int meets_starts(const struct evidence *it, const struct instruction *one
     return meets;
 }
 
-/* Reads a run behind the listed instructions. Where it breaks off, 0 is answered, and `next` is the place; else `next` is what stands
-   behind the call that ends it, or 0. */
+/* Reads a run after the listed instructions. Where it breaks off, 0 is answered, and `next` is the place; else `next` is what stands
+   after the call that ends it, or 0. */
 static int read_run(struct evidence *it, uint32_t first, int level, int is_shared, uint32_t *next) {
     for (uint32_t addr = first;; ) {
         int is_odd, is_wrong = 0;

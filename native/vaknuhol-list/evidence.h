@@ -14,7 +14,7 @@
 enum level {
     ENTRY = 1,  /* the entry point, .init and .fini, functions that symbols or frames name, the arrays of functions */
     DIRECT,     /* a direct branch or call leads there, or what stands before it falls through */
-    AFTER_CALL, /* it stands behind a call, if that returns */
+    AFTER_CALL, /* it stands after a call, if that returns */
     EXTENT,     /* it lies in a function of known extent, and all up to the next start or the extent's end reads as code */
     WORD,       /* an eight-byte word of the loaded data has its address, or a jump table whose number of entries is known */
     NUMBER,     /* an instruction holds its address */
@@ -23,7 +23,7 @@ enum level {
     LEVELS
 };
 
-/* Of a byte: an instruction begins there, or has it behind its first one; when all is listed: its evidence is no weak one. */
+/* Of a byte: an instruction begins there, or has it after its first one; when all is listed: its evidence is no weak one. */
 enum { START = 1, INSIDE = 2, SURE = 4 };
 enum { NAMED = 1, FRAMED = 2 }; /* of a byte: a symbol or a section begins there, or a frame */
 
@@ -50,7 +50,7 @@ void begin_evidence(struct evidence *it, const struct program *program);
 
 static inline int is_start(const struct evidence *it, uint32_t addr) { return it->state[addr - it->program->lo] & START; }
 
-/* Whether the byte is only behind the first one of a listed instruction. */
+/* Whether the byte is only after the first one of a listed instruction. */
 static inline int is_inside(const struct evidence *it, uint32_t addr) { return it->state[addr - it->program->lo] == INSIDE; }
 
 static inline int is_data(const struct evidence *it, uint32_t addr) { return it->is_data[addr - it->program->lo]; }
@@ -67,13 +67,13 @@ void add_extent(struct evidence *it, uint64_t addr, uint64_t length);
 /* Says that bytes of the text are data. */
 void add_data(struct evidence *it, uint64_t addr, uint64_t length);
 
-/* Whether a jump from anywhere to an address would enter an accepted instruction behind more than its prefixes. */
+/* Whether a jump from anywhere to an address would enter an accepted instruction after more than its prefixes. */
 int enters_inside(const struct evidence *it, uint32_t addr);
 
 /* Whether there are only prefixes from one address up to another. */
 int are_prefixes(const struct evidence *it, uint32_t from, uint32_t to);
 
-/* Whether what stands behind an end only fills room: CC, several zeros, or one up to a start or to where functions are aligned. */
+/* Whether what stands after an end only fills room: CC, several zeros, or one up to a start or to where functions are aligned. */
 int is_filled(const struct evidence *it, uint32_t addr);
 
 /* Whether so many bytes from an address on read as code, or fewer up to a start or to what fills room. */

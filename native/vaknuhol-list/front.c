@@ -23,7 +23,7 @@ static int take_prefix(struct front *it, uint8_t byte) {
     return 1;
 }
 
-/* A VEX prefix of two or three bytes: its map, and the opcode behind it. */
+/* A VEX prefix of two or three bytes: its map, and the opcode after it. */
 static int take_vex(struct front *it, const uint8_t *bytes, int count) {
     int long_form = bytes[it->at] == 0xC4, map = 1;
     if (it->at + 2 + long_form >= count)

@@ -5,7 +5,7 @@
 
 /* The parts of a spelling up to its opcode. */
 struct front {
-    int at;           /* behind the opcode */
+    int at;           /* after the opcode */
     int rex;          /* the effective REX byte, or 0 */
     int operand_size; /* 66 stands there */
     int address_size; /* 67 */

@@ -92,7 +92,7 @@ static int is_body(const struct evidence *it, uint32_t addr, uint32_t end) {
     return leads && addr == end;
 }
 
-/* Whether a gap reads as code from there up to the start at its end, with nothing but fill behind what ends. */
+/* Whether a gap reads as code from there up to the start at its end, with nothing but fill after what ends. */
 static int is_seamless(const struct evidence *it, uint32_t addr, uint32_t end) {
     struct instruction one;
     int is_odd, count = 0;
@@ -111,7 +111,7 @@ static int is_seamless(const struct evidence *it, uint32_t addr, uint32_t end) {
     return addr == end && count > 0;
 }
 
-/* What stands behind the bytes that fill the gap from there on; nops are listed. */
+/* What stands after the bytes that fill the gap from there on; nops are listed. */
 static uint32_t skip_fill(struct evidence *it, struct gaps *gaps, uint32_t addr, uint32_t end) {
     struct instruction one;
     int is_odd;

@@ -5,8 +5,8 @@
 
 #include "elf_file.h"
 
-/* How an instruction goes on. BRANCH: a conditional one; KERNEL: a system call; TRAP: what ends a block and goes on behind it all
-   the same; END: nothing goes on behind it, and it leads nowhere. */
+/* How an instruction goes on. BRANCH: a conditional one; KERNEL: a system call; TRAP: what ends a block and goes on after it all
+   the same; END: nothing goes on after it, and it leads nowhere. */
 enum kind { FALLS, BRANCH, JUMP, CALL, RETURN, JUMP_INDIRECT, CALL_INDIRECT, END, KERNEL, TRAP };
 
 enum {
@@ -40,9 +40,9 @@ struct instruction {
    compiler writes it: such an instruction is good evidence against what leads to it. */
 int decode(const struct program *program, uint32_t addr, struct instruction *it, int *is_odd);
 
-/* Whether nothing falls through behind it, and nothing returns there. */
+/* Whether nothing falls through after it, and nothing returns there. */
 int ends(int kind);
 
-/* Whether it may come back behind itself from elsewhere, or may not. */
+/* Whether it may come back after itself from elsewhere, or may not. */
 int may_return(int kind);
 #endif

@@ -21,7 +21,7 @@
    written (bits of rflags); marks (instruction.h). Of one byte: length; kind (instruction.h); level of evidence (evidence.h). Blocks: the
    number of the first instruction, and how many it has, b numbers of four bytes each, and whether it is a function's first block
    (blocks.h), b numbers of one byte. Names: an address each, ascending, and where its text begins, f numbers of four bytes each. Ranges, by kind and
-   ascending: r first addresses, r ends (four bytes), r kinds (one byte). The texts of names, each with a zero behind it. */
+   ascending: r first addresses, r ends (four bytes), r kinds (one byte). The texts of names, each with a zero after it. */
 #ifndef LIST_FILE_H
 #define LIST_FILE_H
 #include "blocks.h"

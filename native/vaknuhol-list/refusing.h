@@ -8,6 +8,6 @@ _Noreturn void refuse(const char *format, ...) __attribute__((format(printf, 1, 
 /* Memory of so many zero bytes; it refuses where there is none. */
 void *zeros(size_t count, size_t size);
 
-/* Makes room for one more element behind `count` of them. */
+/* Makes room for one more element after `count` of them. */
 void *room_for_one(void *array, size_t count, size_t *capacity, size_t size);
 #endif

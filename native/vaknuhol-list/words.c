@@ -23,7 +23,7 @@ static int is_behind_end(const struct evidence *it, uint32_t addr) {
     return !bytes || !in_text(it->program, addr - 1) || may_end_before(bytes + LOOKED_AT);
 }
 
-/* The first place at or behind an address that is read to from one before it; 0 where that can't be read. */
+/* The first place at or after an address that is read to from one before it; 0 where that can't be read. */
 static uint32_t read_to(const struct evidence *it, uint32_t from, uint32_t addr) {
     struct instruction one;
     int is_odd;

@@ -1,6 +1,6 @@
 /* Runs a static program one instruction after the other, and writes the run as a world script (docs/reference/formats.md).
 
-   usage: vaknuhol-record WORLD STATES PATH EVERY LIMIT [--full] [--evex] [--keep=NUMBERS] PROGRAM [WORDS..]
+   usage: vaknuhol-record WORLD STATES PATH EVERY LIMIT [--full] [--evex] [--keep=NUMBERS] PROGRAM [ARGUMENTS..]
 
    WORLD gets the registers at the entry point, the memory beside the file's, the answers of the first LIMIT steps, and the
    deliveries: an entry for each instruction that asks, and for each exact one that leaves flags undefined, with what it
@@ -178,7 +178,7 @@ static int read_words(int count, char **words) {
             read_kept(words[at] + 7);
     }
     if (at >= count) {
-        fprintf(stderr, "usage: vaknuhol-record WORLD STATES PATH EVERY LIMIT [--full] [--evex] [--keep=NUMBERS] PROGRAM [WORDS..]\n");
+        fprintf(stderr, "usage: vaknuhol-record WORLD STATES PATH EVERY LIMIT [--full] [--evex] [--keep=NUMBERS] PROGRAM [ARGUMENTS..]\n");
         exit(2);
     }
     return at;

@@ -17,7 +17,7 @@ void count_step(struct record *record, const struct decoded *insn, struct user_r
     record->steps++;
 }
 
-/* What the kernel changed, behind what else belongs to the delivery. */
+/* What the kernel changed, after what else belongs to the delivery. */
 static void write_delivery(struct record *record, struct user_regs_struct *regs, const char *first_writes) {
     write_due(record->deliveries, record->steps, regs);
     fputs(first_writes, record->deliveries);
@@ -39,7 +39,7 @@ static char *begun_writes(const struct decoded *insn, struct user_regs_struct *b
     return text;
 }
 
-/* A step of a system call that leaves memory to the delivery behind it. */
+/* A step of a system call that leaves memory to the delivery after it. */
 static void write_call(struct record *record, const struct decoded *insn, struct user_regs_struct *before, uint64_t answer) {
     struct user_regs_struct called = *before;
     called.rip = called.rcx = insn->rip + insn->insn.length;

@@ -110,7 +110,7 @@ static int is_seen(pid_t tid, int number) {
 }
 
 /* A thread stands at an interrupted call where orig_rax is a call's number, which it never is in an event. Behind a relocated call the kernel would make
-   it again inside of the trampoline: the thread is put behind the original's, which is made again with its event, as single steps of the
+   it again inside of the trampoline: the thread is put after the original's, which is made again with its event, as single steps of the
    original make it again. An instruction at which the process ends by a fault keeps its event, as the last that the program came to. */
 void before_delivery(struct space *space, pid_t tid, int number) {
     struct user_regs_struct regs;

@@ -44,7 +44,7 @@ struct patch {
         uint64_t value;
     } comparisons[MOST_COMPARISONS];
     uint8_t undo[LONGEST_EVENT];
-    struct row rows[]; /* of rings by their numbers; and behind them the trampolines, as they ascend, and the rows' text */
+    struct row rows[]; /* of rings by their numbers; and after them the trampolines, as they ascend, and the rows' text */
 };
 extern const struct patch *patch;
 extern const char *row_text; /* a record's lines on blocks where none was executed: each has a count of 0, or why the block was left */
@@ -60,7 +60,7 @@ int read_memory(pid_t tid, uint64_t at, void *to, size_t length);
 int write_memory(pid_t tid, uint64_t at, const void *from, size_t length);
 /* The bytes at an address as a number; those that can't be read are 0. */
 uint64_t eight_at(pid_t tid, uint64_t at);
-/* What /proc says of a process behind a text (a word, and a newline before it, which no name of a process has), until it is asked again. */
+/* What /proc says of a process after a text (a word, and a newline before it, which no name of a process has), until it is asked again. */
 const char *status_of(pid_t pid, const char *word);
 /* To the next stop at a system call, as at the end of exec; whether the thread comes to one. SIGSTOP can't be blocked: it is put off. */
 int to_call_stop(pid_t tid, int *is_put_off);

@@ -1,4 +1,4 @@
-/* vaknuhol-step LIST STEPS OUT PROGRAM WORDS..: runs a program under single steps, and writes to OUT what doesn't fit its list:
+/* vaknuhol-step LIST STEPS OUT PROGRAM ARGUMENTS..: runs a program under single steps, and writes to OUT what doesn't fit its list:
 
      steps N            how many steps were made
      ended S            the exit status, or 128 and the number of the signal that ended it
@@ -93,7 +93,7 @@ int main(int count, char **words) {
     char *end;
     int told;
     if (count < 5)
-        refuse("usage: vaknuhol-step LIST STEPS OUT PROGRAM WORDS..");
+        refuse("usage: vaknuhol-step LIST STEPS OUT PROGRAM ARGUMENTS..");
     unsigned long most = strtoul(words[2], &end, 10);
     if (*end || !*words[2])
         refuse("%s is no number of steps", words[2]);

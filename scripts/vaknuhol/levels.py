@@ -64,7 +64,7 @@ def whole_number(text: str) -> int:
 
 
 def parted(given: list[str]) -> tuple[list[str], list[str] | None]:
-    """The command's own words, and those behind the first `--`, which are the program's; None where there is no
+    """The command's own arguments, and those after the first `--`, which are the program's; None where there is no
     `--`."""
     if "--" not in given:
         return given, None

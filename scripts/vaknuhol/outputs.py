@@ -1,8 +1,8 @@
 """Outputs are written where their names lead.
 
 `-` is standard output. A descriptor (/dev/stdout, /dev/fd/N) is written from where it stands; a pipe or a device is
-opened and written. A regular file, or a free name, gets a whole new file, or stays as it is where that fails; of a
-symbolic link it is the file behind it. As by `sed -i --follow-symlinks`, the new file has the mode of the one before,
+opened and written. A regular file, or a free name, gets a whole new file, or stays as it is if that fails; of a
+symbolic link it is the file it leads to. As by `sed -i --follow-symlinks`, the new file has the mode of the one before,
 and its owner and group where the system lets us give them; a hard link of the one before keeps what it held. A file
 that may not be written is refused, and one in a folder that may not be written is written in its place.
 """

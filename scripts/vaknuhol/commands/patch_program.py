@@ -3,15 +3,15 @@
 All files go to the folder PROGRAM.vak: PROGRAM.cover.patched is the patched program, PROGRAM.cover.report its report
 (`count` in place of `cover` with --count, `ring` with --ring, `cover-when` and `count-when` with --when); the lists
 starts and sites and the file blocks stand beside them. A site that e9tool's `patch` leaves gives way to another
-instruction of its block, in up to four rounds. Where the program header table would get too long, e9tool's `load` is
+instruction of its block, in up to four rounds. If the program header table would get too long, e9tool's `load` is
 called; with --no-loader, new code is kept nearer and nearer. The program e9tool is $E9TOOL if that is set, else
 crates/e9tool/out/e9tool of this repository, else the one in PATH.
 
 With --count --threads e9tool's `threads` is called: the program may have threads, and no count is lost. There is no
-report then: PROGRAM.threads.summary has what is printed, and where the table would get too long, new code is kept
+report then: PROGRAM.threads.summary has what is printed, and if the table would get too long, new code is kept
 nearer and nearer.
 
-The status is 0 where each chosen block is patched, 1 where some were left, and 2 where something is refused.
+The exit status is 0 if each chosen block is patched, 1 if some were left, and 2 if something is refused.
 """
 import argparse
 

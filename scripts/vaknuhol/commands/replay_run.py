@@ -1,11 +1,11 @@
 """Records a real run of a static program on this processor, and lets e9tool's `step` make it again, of the original and
 of the patched file.
 
-It says in four lines what came out: how long the run is; whether it met the premises of the theorem, and else at which
-step it left them; whether processor and model agree; whether original and patched file look alike at the outside state
-of the same number. The program runs once, as it is, with its own input and output; handlers that its signals enter are
-entered and left again. Sites are all direct jumps, if nothing else is chosen; they are covered, or recorded as --count,
---ring and --when say. Ends with 0 where all four are well, else with 1.
+It prints four lines: how long the run is; whether it met the premises of the theorem, or at which step it broke one;
+whether processor and model agree; whether original and patched file look alike at the outside state of the same number.
+The program runs once, as it is, with its own input and output; handlers of its signals are entered and left again.
+Sites are all direct jumps, if nothing else is chosen; they are covered, or recorded as --count, --ring and --when say.
+The exit status is 0 if all is well, otherwise 1.
 """
 import argparse
 import os
@@ -28,13 +28,13 @@ from vaknuhol.recording.run_recorder import RecordedRun, record, reserves, write
 def parse() -> argparse.Namespace:
     parser = Words(__doc__)
     parser.add_argument("program")
-    parser.add_argument("words", nargs=argparse.REMAINDER, help="the program's words")
+    parser.add_argument("words", nargs=argparse.REMAINDER, metavar="ARGUMENTS", help="the program's arguments")
     add_choices(parser, required=False)
     add_action(parser)
     parser.add_argument("--steps", type=int, default=500_000, metavar="N", help="record at most N steps (500000)")
     parser.add_argument("--every", type=int, default=1000, metavar="N",
                         help="keep the processor's state after each N steps (1000)")
-    parser.add_argument("--evex", action="store_true", help="let the program see AVX-512, where the processor has it")
+    parser.add_argument("--evex", action="store_true", help="let the program see AVX-512, if the processor has it")
     parser.add_argument("--full", action="store_true", help="compare all memory at each asked instruction (slow)")
     parser.add_argument("--keep", metavar="FOLDER",
                         help="leave the files in this folder: world, states, path, starts, sites, patched, report, "

@@ -75,7 +75,7 @@ def refuse_what_it_lacks(coverage: Coverage, words: argparse.Namespace) -> None:
     """A ring has no counts, and a program without debugging information no lines."""
     if coverage.record.action.is_ring and has_output(words):
         raise Refusal(f"{coverage.record.path} is the record of a ring: it has no counts; "
-                      "without these words its last events are shown")
+                      "without these options its last events are shown")
     if words.callgrind and not coverage.record.action.adds:
         raise Refusal(f"--callgrind: {coverage.record.path} has no counts: record by vaknuhol count")
     if (words.lcov or words.cobertura) and not coverage.files:

@@ -2,9 +2,9 @@
 
 With cover a count is 0 or 1; with count it is how often the block was executed. The record of a ring has the last
 events of each process in place of counts. The program's input, output and status are its own: this script ends with the
-same status, or with 128 and the signal's number, and with 125 where it refuses something. All processes that the
-program starts are followed, and it is waited for all of them: the record is their sum. It is read by ptrace as they
-end, however they end. While they run it is written every two seconds with what there is until then.
+same status, or with 128 and the signal's number, and with 125 if it refuses something. All processes that the program
+starts are followed and waited for: the record is their sum. It is read by ptrace as they end, however they end. While
+they run it is written every two seconds, as it is by then.
 
 A program patched with --threads has no report. With --threads SITES the list of its sites is given,
 PROGRAM.vak/PROGRAM.threads.sites, and in the report's place the summary that e9tool's `threads` printed,
@@ -34,7 +34,7 @@ def parse() -> argparse.Namespace:
     parser.add_argument("report", type=file_name, help="the report of the patch, PROGRAM.vak/PROGRAM.ACTION.report")
     parser.add_argument("record", type=output_name, help="the file to write")
     parser.add_argument("program", type=file_name, help="the patched program, PROGRAM.vak/PROGRAM.ACTION.patched")
-    parser.add_argument("words", nargs="...", help="the program's own words")
+    parser.add_argument("words", nargs="...", metavar="ARGUMENTS", help="the program's arguments")
     return parser.parse_args()
 
 

@@ -2,11 +2,11 @@
 
 PROGRAM is the original, with or without its symbols and debugging information. A block that was left has `left` in
 place of its site, and at its end the outcome of the site (NotRelocatable, NoPlan or Shared); its count is solved from
-those of the others, or `?`. A source line has the sum, over its copies, of how often it was entered; a line is unknown,
-and not in the tracefile, where no block tells that it was executed and one was left.
+those of the others, or `?`. A source line has the sum, over its copies, of how often it was entered; if no block shows
+that it was executed and one was left, the line is unknown, and not in the tracefile.
 
-Of a ring's record it shows what ran last: for each process its last sites, oldest first, with the line of each site.
-Where a signal ended one, those that ended otherwise are only counted, but with --all.
+Of a ring's record it shows what ran last: for each process its last sites, oldest first, with the line of each site. If
+a signal ended one, those that ended otherwise are only counted; --all shows them too.
 """
 import argparse
 

@@ -1,10 +1,10 @@
 """Writes the lists STARTS and SITES of a static program.
 
-STARTS has the address of every instruction that there is evidence for, and of each one that a direct jump enters behind
-the first byte of another one, as a jump past a lock prefix does. Bytes that nothing says to be code are left out, and
-told. SITES has an instruction of each block that --functions, --blocks, --jumps or --symbols choose: the one that is
-patched most surely, since all instructions of a block are executed equally often. With --ring and --when it stands at
-the block's front, where nothing can have faulted yet, and no register of the condition have changed.
+STARTS has the address of every instruction that there is evidence for, and of each one that a direct jump enters after
+the first byte of another one, as a jump past a lock prefix does. Bytes without evidence are left out and reported.
+SITES has an instruction of each block that --functions, --blocks, --jumps or --symbols choose: the one that is patched
+most surely, since all instructions of a block are executed equally often. With --ring and --when it stands at the
+block's front, where nothing can have faulted yet, and no register of the condition have changed.
 """
 from vaknuhol.arguments import Words, file_name, output_name
 from vaknuhol.outputs import write_whole

@@ -78,7 +78,7 @@ def sets_handlers(listing: Listing) -> int:
 
 
 def findings(listing: Listing) -> list[Finding]:
-    """All that the listing tells."""
+    """All that the listing shows."""
     found = [*of_ranges(listing), *of_instructions(listing)]
     handlers = sets_handlers(listing)
     if handlers:

@@ -10,7 +10,7 @@ FROM_RBP_8, FROM_RBP_32 = 0x45, 0x85
 
 
 def next_at(code: bytes, at: int) -> int:
-    """Where the instruction behind that at a place begins, where it is one of a way out but for `ret`; else 0."""
+    """Where the instruction after that at a place begins, if it is one of a way out but for `ret`; else 0."""
     if code[at] in POPS or code[at] == LEAVE:
         return at + 1
     if code[at:at + 1] == b"\x41" and code[at + 1:at + 2] and code[at + 1] in POPS:

@@ -20,7 +20,7 @@ MOV, LEA, GROUP_5 = 0x8B, 0x8D, 0xFF
 
 
 def opcode_at(code: bytes) -> int:
-    """Where the opcode stands, behind the prefixes that such instructions have."""
+    """Where the opcode stands, after the prefixes that such instructions have."""
     at = 1 if code[0] == NOTRACK and len(code) > 1 else 0
     return at + 1 if code[at] in REX and len(code) > at + 1 else at
 
@@ -89,7 +89,7 @@ class JumpTables:
             number = kinds.find(JUMP_INDIRECT, number + 1)
 
     def named_before(self, jump: int, before: int) -> tuple[int, int] | None:
-        """The last table that is named near a jump and behind the jump before it."""
+        """The last table that is named near a jump and after the jump before it."""
         addr = self.listing.addr
         low = addr[jump] - NEAR
         for number in range(jump, before, -1):

@@ -2,7 +2,7 @@
 are doubtful.
 
 It is mapped, and nothing of it is copied. It is kept in PROGRAM.vak, by a hash of the program and of the lister, and
-made again where one of them is another. The form is told in native/vaknuhol-list/list_file.h.
+made again where one of them is another. The form is described in native/vaknuhol-list/list_file.h.
 """
 import contextlib
 import glob

@@ -37,7 +37,7 @@ class RunFiles:
         raise AttributeError(ending)
 
     def report_path(self) -> str:
-        """The file that tells of the patch."""
+        """The file that describes the patch."""
         return f"{self.stem}.{self.report_kind}"
 
     @classmethod

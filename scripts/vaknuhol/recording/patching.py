@@ -81,7 +81,7 @@ class Patching:
         return self.near < len(RESERVES)
 
     def words(self, starts: str, files: RunFiles) -> list[str]:
-        """The words behind the command, but for any RESERVE."""
+        """The arguments after the command, except for any RESERVE."""
         return [self.program, starts, files.sites, self.action.name, files.patched, files.report]
 
     def outcomes(self, files: RunFiles, printed: str) -> dict[int, str]:
@@ -104,7 +104,7 @@ class Patching:
             if " TooManySegments " not in done.stdout or not self.goes_on():
                 break
         if done.returncode == 2:
-            raise Refusal(f"e9tool does not take these words: {' '.join(lists + reserves)}")
+            raise Refusal(f"e9tool does not take these arguments: {' '.join(lists + reserves)}")
         if done.returncode not in (0, 1) and self.sites:
             return None
         if done.returncode not in (0, 1):

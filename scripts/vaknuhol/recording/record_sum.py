@@ -16,8 +16,8 @@ class Sum:
         for record in records[1:]:
             self.compare(first, record)
         if first.action.is_ring:
-            raise Refusal(f"{first.path} is the record of a ring: which of two was where first nobody knows, so none "
-                          "are added")
+            raise Refusal(f"{first.path} is the record of a ring: the order of two rings is unknown, so they "
+                          "can't be added")
         self.action, self.program_hash = first.action, None if first.program_hash == "-" else first.program_hash
         hashes = sorted({record.report_hash for record in records})
         self.hash = hashes[0] if len(hashes) == 1 else hashlib.sha256("".join(hashes).encode()).hexdigest()

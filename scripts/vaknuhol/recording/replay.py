@@ -71,7 +71,7 @@ def why_loud(path: str, starts: Container[int], steps: Steps, record: RecordedRu
 def why_stopped(path: str, stop: Stop) -> str:
     name, addr = stop.lines["stop"].split()
     if name == "NoFit":
-        return f"delivery {int(stop.lines['deliveries']) + 1}, behind step {stop.steps}, doesn't fit at {addr}"
+        return f"delivery {int(stop.lines['deliveries']) + 1}, after step {stop.steps}, doesn't fit at {addr}"
     text = f"step {stop.steps + 1} is not made: {name} {addr}"
     if name == "UnknownInsn":
         code = bytes_at(path, int(addr, 16))
@@ -113,7 +113,7 @@ def steps_to(patched: Steps, starts: Container[int], outside: int, guess: int = 
     """A number of steps after which the patched file stands at its outside state of this number; None where there is
     none.
 
-    The first try is the guess; without one it is far enough for any: it mostly ends soon behind the state, since there
+    The first try is the guess; without one it is far enough for any: it mostly ends soon after the state, since there
     the world has no more answers.
     """
     low, high, guess, rate = outside - 2, MOST_STEPS + 1, guess or MOST_BETWEEN * outside, 1.5

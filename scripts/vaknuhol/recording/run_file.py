@@ -45,7 +45,7 @@ def tramps_of(report: Patch) -> Tramps:
 
 
 def rows_of_tramps(tramps: Tramps) -> bytes:
-    """The trampolines as they ascend, each up to the next one; what lies between two, and behind the last one, is
+    """The trampolines as they ascend, each up to the next one; what lies between two, and after the last one, is
     nowhere."""
     tramps, rows = sorted(tramps), array.array("I")
     for (place, end, start, number), (following, *_) in zip(tramps, [*tramps[1:], (1 << 32, 0, 0, 0)]):

@@ -55,9 +55,8 @@ def run_parts(parts: list[Part], command: list[str], record: str) -> tuple[int, 
     one."""
     halves = [f"{record}.{number}" for number in range(1, len(parts) + 1)]
     statuses: list[int] = []
-    note(f"the blocks are in {len(parts)} patched files, so the program runs {len(parts)} times with the same words "
-         "and input; "
-         "what the later runs print is left out")
+    note(f"the blocks are in {len(parts)} patched files, so the program runs {len(parts)} times with the same "
+         "arguments and input; what the later runs print is dropped")
     with input_again() as rewind:
         for part, half in zip(parts, halves):
             rewind()

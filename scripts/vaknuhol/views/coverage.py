@@ -1,4 +1,4 @@
-"""What a record tells of its program: functions and source lines with their counts, names as a reader knows them."""
+"""What a record shows of its program: functions and source lines with their counts, names as a reader knows them."""
 import functools
 import os
 from collections.abc import Callable, Iterable, Iterator

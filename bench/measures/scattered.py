@@ -25,7 +25,7 @@ def scattered(bench: Bench) -> list[str]:
         columns.append((f"{milliseconds(taken.seconds)}, {taken.mib:.0f}", f"{taken.seconds / first:.1f}, {ideal:.1f}"))
     times, growths = zip(*columns)
     head = " | ".join(["Sites, a page each", *(f"{number:,}" for number in NUMBERS)])
-    return table(head, [["`load`, ms, MiB", *times], ["growth, n log n's", *growths]])
+    return table(head, [["`load`, ms, MiB", *times], ["growth of the time, of n log n", *growths]])
 
 
 def least_times(told: str) -> list[float]:

@@ -45,7 +45,7 @@ ROWS = [
     Row("T2 and T3, one of each 256 KB", [*SITE, *SEVEN * 18, *NOPS], 1, 255, 64),
     Row("T2 and T3, 990 pages between segments", [*SITE, *SEVEN * 18, *NOPS], 1, 990, 64, BY_SEGMENTS, True),
     Row("T2 and T3, 255 pages that leave gaps", [*SITE, *SEVEN * 18, *NOPS], 1, 255, 0, has_gaps=True),
-    Row("the same, 990 pages between segments", [*SITE, *SEVEN * 18, *NOPS], 1, 990, 0, BY_SEGMENTS, True, True),
+    Row("T2 and T3, 990 pages between segments, with gaps", [*SITE, *SEVEN * 18, *NOPS], 1, 990, 0, BY_SEGMENTS, True, True),
 ]
 
 

@@ -173,8 +173,8 @@ def section(source: str, least: dict[str, Cost], columns: tuple[list[Tool], list
     is_busy = least[""].wall > BUSY * least[""].processor
     text = (f"Processor time of a run, as a factor of the original's {least[''].processor:.2f} s: "
             f"`{os.path.relpath(source, TOP)}` ({' '.join(GCC)}) sorts, counts divisors and sieves. The least of "
-            f"{TURNS} runs, in turns with the others{', beside other work' if is_busy else ''}; {model()}, Linux "
-            f"{'.'.join(os.uname().release.split('.')[:2])}. Patching and showing the record are left out. "
+            f"{TURNS} runs, in turns with the others{', while other programs ran' if is_busy else ''}; {model()}, "
+            f"Linux {'.'.join(os.uname().release.split('.')[:2])}. Patching and showing the record are left out. "
             f"`bench/costs.py` makes this section, and measures any C program in this way.")
     cells = [[f"`{tool.name}`: {tool.records} | {least[tool.name].times(least[''])}" for tool in column]
              for column in columns]

@@ -1,6 +1,6 @@
 """Each kept patched file in PROGRAM.vak is judged by its report (`e9tool check`): whether it does what the original
-does but for what the report says, whoever made it. `e9tool check` compares entry points, and so rejects each file of
-the loader form; a file for threads has no report. Such a file is written again from the original (`e9tool load`,
+does, except for what the report says, whoever made it. `e9tool check` compares entry points, and so rejects each file
+of the loader form; a file for threads has no report. Such a file is written again from the original (`e9tool load`,
 `e9tool threads`), and file and report must have the same bytes."""
 import argparse
 import os

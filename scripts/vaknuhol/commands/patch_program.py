@@ -4,8 +4,8 @@ All files go to the folder PROGRAM.vak: PROGRAM.cover.patched is the patched pro
 (`count` in place of `cover` with --count, `ring` with --ring, `cover-when` and `count-when` with --when); the lists
 starts and sites and the file blocks stand beside them. A site that e9tool's `patch` leaves gives way to another
 instruction of its block, in up to four rounds. If the program header table would get too long, e9tool's `load` is
-called; with --no-loader, new code is kept nearer and nearer. The program e9tool is $E9TOOL if that is set, else
-crates/e9tool/out/e9tool of this repository, else the one in PATH.
+called; with --no-loader, new code is kept nearer and nearer. e9tool is $E9TOOL if that is set, otherwise
+crates/e9tool/out/e9tool of this repository or, if there is none, the one in PATH.
 
 With --count --threads e9tool's `threads` is called: the program may have threads, and no count is lost. There is no
 report then: PROGRAM.threads.summary has what is printed, and if the table would get too long, new code is kept
@@ -34,7 +34,7 @@ def parse() -> argparse.Namespace:
                         help="with --count, for a program with threads: each counts in one instruction, and none "
                              "disturbs another")
     parser.add_argument("--reserve", metavar="LO-HI", type=address_range, action="append", default=[],
-                        help="where no new code may stand; may be repeated")
+                        help="addresses to keep free of new code; may be repeated")
     add_loader(parser)
     parser.add_argument("--into", metavar="FOLDER", type=file_name,
                         help="the folder to write to, in place of PROGRAM.vak")

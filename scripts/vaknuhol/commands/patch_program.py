@@ -5,7 +5,7 @@ All files go to the folder PROGRAM.vak: PROGRAM.cover.patched is the patched pro
 starts and sites and the file blocks stand beside them. A site that e9tool's `patch` leaves gives way to another
 instruction of its block, in up to four rounds. If the program header table would get too long, e9tool's `load` is
 called; with --no-loader, new code is kept nearer and nearer. e9tool is $E9TOOL if that is set, otherwise
-crates/e9tool/out/e9tool of this repository or, if there is none, the one in PATH.
+crates/e9tool/out/e9tool of this repository, the one in PATH, or the unproved one beside the first.
 
 With --count --threads e9tool's `threads` is called: the program may have threads, and no count is lost. There is no
 report then: PROGRAM.threads.summary has what is printed, and if the table would get too long, new code is kept

@@ -1,4 +1,4 @@
-"""Files that measures make: plain ELF files, lists of addresses, RESERVE words."""
+"""Files that measures make: plain ELF files, lists of addresses, RESERVE arguments."""
 import struct
 from collections.abc import Iterable
 from typing import NamedTuple
@@ -33,7 +33,7 @@ def lines(addresses: Iterable[int]) -> str:
 
 
 def free_only(low: int, ranges: list[tuple[int, int]]) -> list[str]:
-    """The RESERVE words that leave these ranges alone, and what lies below an address."""
+    """The RESERVE arguments that leave these ranges alone, and what lies below an address."""
     words = []
     for first, last in ranges:
         words.append(f"{low:x}-{first:x}")

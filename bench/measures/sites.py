@@ -20,13 +20,13 @@ class Search:
 SEARCHES = [
     # a jump over its own five bytes
     Search("B1 at once", "b800000000", []),
-    # the bytes behind the site lead 256 MB up
+    # the bytes after the site lead 256 MB up
     Search("B2 at once", "89d8 b800100000 0010", []),
     # they lead below 0, and one pad leads up
     Search("T1 at once", "89d8 b800e01000 0010", []),
     # two shared bytes: the jump that has them high lands below the text by the last of 65,536 values
     Search("T2 at the last values", "89d8 b800e0e000 c1ff05", free_only(PRIVATE, [(TEXT - 0x400000, TEXT)])),
-    # the same, and the instruction behind the site can't be displaced
+    # as before, and the instruction after the site can't be displaced
     Search("T3 at the last values", "89d8 f4 b800e0e000 c1ff05", free_only(PRIVATE, [(TEXT - 0x400000, TEXT)])),
     # no address is free, or one page that nearly no pair of jumps reaches
     Search("nothing, no page free", "89d8 b800e0e000 0010", free_only(PRIVATE, [])),

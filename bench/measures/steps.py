@@ -1,7 +1,7 @@
 """What a step of `step` takes, and a program of `gen`, beside decodings by Zydis.
 
 The loop has 25 instructions that ask nothing of the world: loads and stores, MOVZX, MOVSX, LEA, ADD, ADC, SUB, SBB,
-CMP, NEG, NOT, INC, DEC, SETcc, CMOVcc, PUSH, POP, XCHG, CDQE, CALL, RET, JMP and Jcc. Behind them the text goes on for
+CMP, NEG, NOT, INC, DEC, SETcc, CMOVcc, PUSH, POP, XCHG, CDQE, CALL, RET, JMP and Jcc. After them the text goes on for
 16 bytes, or ends, so that an instruction less than 15 bytes before its end is looked up byte by byte. Zydis decodes the
 loop's bytes as often. Each runs a few million times and a few times more, so that what it begins with drops out; the
 least of the rounds counts.

@@ -1,7 +1,7 @@
 """What `patch` takes for sites that were made to be slow, nothing found for any.
 
 A row has sites, each before its victims, and free pages: one of each 64 KB or more, but for the last one all at the
-same place in their 64 KB. RESERVE words take what lies between them, or segments without bytes in the file. So a jump
+same place in their 64 KB. RESERVE arguments take what lies between them, or segments without bytes in the file. So a jump
 whose targets lie 64 KB apart finds the free one in the last band alone, by value after value, and the other jump, which
 has the same value high, just misses a free page by each. In the rows with gaps the pages stand at four places of their
 64 KB, so that the values which lead to them leave gaps, and the other jump reaches a free page by a value in each gap.
@@ -14,7 +14,7 @@ from measures.running import Bench, point
 
 # the first free page, the eighth of its 64 KB; and where the last one stands in its own
 FIRST, LAST = 0x428, 0x1
-# behind the text and above its pages
+# after the text and above its pages
 ABOVE = 0x403000
 TEXT = 0x401000
 FIVE, SEVEN, NOPS = ["b890909090"], ["48c7c100000000"], ["90"] * 4
@@ -29,7 +29,7 @@ class Row(NamedTuple):
     # how many pages are free, and how many pages from each to the next
     free: int
     period: int
-    # the RESERVE words, if they don't follow from the free pages
+    # the RESERVE arguments, if they don't follow from the free pages
     reserve: list[str] = []
     # whether segments take what lies between the free pages
     by_segments: bool = False
@@ -80,7 +80,7 @@ def file_of(text: bytes, taken: list[tuple[int, int]]) -> bytes:
 
 
 def write_row(bench: Bench, row: Row) -> list[str]:
-    """The files `file`, `starts`, `sites` and, without a site, `none`; and the RESERVE words."""
+    """The files `file`, `starts`, `sites` and, without a site, `none`; and the RESERVE arguments."""
     parts = [bytes.fromhex(it) for it in row.block * row.sites]
     starts, at = [], TEXT
     for part in parts:

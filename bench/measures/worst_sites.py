@@ -1,7 +1,7 @@
 """What `patch` takes for sites that were made to be slow, nothing found for any.
 
-A row has sites, each before its victims, and free pages: one of each 64 KB or more, but for the last one all at the
-same place in their 64 KB. RESERVE arguments take what lies between them, or segments without bytes in the file. So a jump
+A row has sites, each before its victims, and free pages: one of each 64 KB or more, except the last all at the same
+place in their 64 KB. RESERVE arguments take what lies between them, or segments without bytes in the file. So a jump
 whose targets lie 64 KB apart finds the free one in the last band alone, by value after value, and the other jump, which
 has the same value high, just misses a free page by each. In the rows with gaps the pages stand at four places of their
 64 KB, so that the values which lead to them leave gaps, and the other jump reaches a free page by a value in each gap.
@@ -45,7 +45,7 @@ ROWS = [
     Row("T2 and T3, one of each 256 KB", [*SITE, *SEVEN * 18, *NOPS], 1, 255, 64),
     Row("T2 and T3, 990 pages between segments", [*SITE, *SEVEN * 18, *NOPS], 1, 990, 64, BY_SEGMENTS, True),
     Row("T2 and T3, 255 pages that leave gaps", [*SITE, *SEVEN * 18, *NOPS], 1, 255, 0, has_gaps=True),
-    Row("T2 and T3, 990 pages between segments, with gaps", [*SITE, *SEVEN * 18, *NOPS], 1, 990, 0, BY_SEGMENTS, True, True),
+    Row("T2 and T3, 990 such pages between segments", [*SITE, *SEVEN * 18, *NOPS], 1, 990, 0, BY_SEGMENTS, True, True),
 ]
 
 

@@ -53,7 +53,7 @@ def of_ranges(listing: Listing) -> Iterator[Finding]:
 def of_instructions(listing: Listing) -> Iterator[Finding]:
     shared, unknown, unsure = (marked(listing, mark) for mark in (SHARED, NO_LENGTH, UNSURE))
     if shared:
-        yield Finding(False, f"{count_of(len(shared), 'instruction')} share bytes, as where a jump goes past a prefix "
+        yield Finding(False, f"{count_of(len(shared), 'instruction')} share bytes, as when a jump skips a prefix "
                              f"(from {shared[0]:x} on): "
                              "they are left")
     if unknown:
@@ -82,9 +82,8 @@ def findings(listing: Listing) -> list[Finding]:
     found = [*of_ranges(listing), *of_instructions(listing)]
     handlers = sets_handlers(listing)
     if handlers:
-        found.append(Finding(False, f"it can set signal handlers (at {handlers:x}): vaknuhol holds signals back where "
-                                    "they would "
-                                    "disturb an event; run by itself, only a patch for `cover` is safe with them"))
+        found.append(Finding(False, f"it can set signal handlers (at {handlers:x}): vaknuhol holds signals back while "
+                                    "they would disturb an event; run by itself, only a patch for `cover` is safe with them"))
     return found
 
 

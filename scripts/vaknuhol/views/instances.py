@@ -1,8 +1,15 @@
-"""How often functions ran: those with code of their own, and the calls of them that were inlined."""
-from typing import Iterator
+"""How often functions ran: those with code of their own, and the calls of them that were inlined.
+
+An inlined call is entered where control comes from outside to a block in which one of its statements begins. Its ranges
+also have instructions that the compiler moved, such as the copy of its value to a variable of the caller: a block in
+which no statement of it begins counts only where control always goes on from it to the call.
+"""
+import array
+from typing import Iterator, NamedTuple
 
 from vaknuhol.program.copies import Copies
 from vaknuhol.program.debug_info import INLINED
+from vaknuhol.program.flow_graph import OUTSIDE
 from vaknuhol.views.flow_solving import Flow
 
 
@@ -19,6 +26,15 @@ class Function:
         self.places = 0
 
 
+class Parts(NamedTuple):
+    """Blocks of an inlined call: those where it may be entered, those that end in it, and of the former the one of its
+    entry; `is_whole` tells that this one begins outside, so that it enters the call wherever control comes from."""
+    begun: set[int]
+    inside: set[int]
+    entry: set[int]
+    is_whole: bool
+
+
 def added(total: int | None, count: int | None) -> int | None:
     return total if count is None else (total or 0) + count
 
@@ -29,6 +45,20 @@ class Instances:
     def __init__(self, copies: Copies, flow: Flow) -> None:
         self.copies, self.info, self.flow = copies, copies.info, flow
         self.kept: dict[int, list[int]] = {}
+        self.begun: dict[int, set[int]] = {}  # the blocks in which statements of a call, or of one inlined in it, begin
+        self.first: dict[int, tuple[int, set[int]]] = {}  # the first line of it that begins somewhere, and where
+        self.take_statements()
+
+    def take_statements(self) -> None:
+        info, copies = self.info, self.copies
+        for (file, line), of_copies in copies.begins.items():
+            for copy, blocks in of_copies.items():
+                copy = copies.holder(info.chain(copy), file, line) or copy
+                if copy and info.file[copy - 1] == file and line <= self.first.get(copy, (line, 0))[0]:
+                    self.first[copy] = line, blocks
+                for instance in info.chain(copy):
+                    if info.kind[instance - 1] & INLINED:
+                        self.begun.setdefault(instance, set()).update(blocks)
 
     def blocks(self, instance: int) -> list[int]:
         """The blocks with code of an instance, or of a call inlined in it."""
@@ -60,31 +90,67 @@ class Instances:
                                                  line) == instance == self.copies.holder(chain[::-1], file, line)
 
     def entered(self, instance: int) -> int | None:
-        """How often an inlined call was entered: the executions of its blocks, less the ways between them, but not more
-        than those of the block of its entry, since code of it may have been moved before a loop around it. Where not
-        all are known, the latter, or the greatest count."""
+        """How often an inlined call was entered. Where no statement of it begins, at most the count of the block of its
+        entry, since code of it may have been moved before a loop around it. Where not all counts are known, that count,
+        or the greatest one."""
         if self.flow.is_coverage:
             return self.greatest(instance)
-        entry = self.info.entry[instance - 1]
-        block = self.copies.block_at(entry) if entry else None
-        total = self.sum_of_entries(instance)
-        count = self.flow.counts[block] if block is not None else None
+        parts = self.parts_of(instance)
+        total = self.sum_of_entries(parts)
+        count = self.flow.counts[min(parts.entry)] if parts.entry else None
         if total is None:
             return count if count is not None else self.greatest(instance)
-        return total if count is None else min(total, count)
+        return total if count is None or instance in self.begun else min(total, count)
 
-    def sum_of_entries(self, instance: int) -> int | None:
-        """A block that begins outside and holds the entry begins a call, wherever control comes from."""
-        flow, firsts, entry = self.flow, self.copies.firsts, self.info.entry[instance - 1]
-        blocks, total = self.blocks(instance), 0
-        inside = {block for block in blocks if self.ends_in(instance, block)}
-        for block in blocks:
-            begins = firsts[block] < entry < self.copies.rows[block].end and not self.holds(instance, firsts[block])
-            count = flow.counts[block] if begins else flow.coming(block, inside)
+    def sum_of_entries(self, parts: Parts) -> int | None:
+        """The executions of the blocks where a call is entered, less the ways to them from within."""
+        total = 0
+        for block in sorted(parts.begun):
+            is_entry = block in parts.entry
+            count = (self.flow.counts[block] if is_entry and parts.is_whole
+                     else self.flow.coming(block, parts.inside if is_entry else parts.inside | parts.entry))
             if count is None:
                 return None
             total += count
-        return total if blocks else None
+        return total if parts.begun else None
+
+    def parts_of(self, instance: int) -> Parts:
+        """Where no statement of a call begins, all of its blocks may enter it."""
+        copies, graph, address = self.copies, self.flow.graph, self.info.entry[instance - 1]
+        at = copies.block_at(address) if address else None
+        entry = set() if at is None else {at}
+        is_whole = at is not None and copies.firsts[at] < address and not self.holds(instance, copies.firsts[at])
+        begun = self.begun.get(instance, set())
+        blocks = {*self.blocks(instance), *begun, *(entry if begun else ())}
+        ending = {block for block in blocks if self.ends_in(instance, block)}
+        if not begun:
+            return Parts(blocks, ending, entry, is_whole)
+        begun = begun | entry
+        inside = begun & ending
+        inside |= self.closed(ending - inside, inside | entry, graph.into, graph.source)
+        outside = entry if is_whole else set()
+        before = self.closed(ending - inside - outside, inside - outside, graph.out, graph.target)
+        inside |= before
+        inside |= self.gaps(inside, entry | self.first.get(instance, (0, set()))[1])
+        return Parts(begun | before, inside, entry, is_whole)
+
+    def closed(self, blocks: set[int], inside: set[int], ways: list[list[int]], ends: "array.array[int]") -> set[int]:
+        """Those blocks whose executed edges on one side all have their other end inside, or in one another."""
+        edges, graph = self.flow.edges, self.flow.graph
+        found = {block for block in blocks if ways[block] and not (ways is graph.into and graph.open_in[block])}
+        while wrong := {block for block in found
+                        if any(edges[edge] != 0 and ends[edge] not in found and ends[edge] not in inside
+                               for edge in ways[block])}:
+            found -= wrong
+        return found
+
+    def gaps(self, inside: set[int], starts: set[int]) -> set[int]:
+        """Blocks of the caller's code amidst a call: control comes to them from the call alone, and goes on within it,
+        not where it begins."""
+        graph = self.flow.graph
+        near = {graph.target[edge] for block in inside for edge in graph.out[block]} - inside - {OUTSIDE}
+        from_call = {block for block in near if self.closed({block}, inside, graph.into, graph.source)}
+        return {block for block in from_call if self.closed({block}, inside - starts, graph.out, graph.target)}
 
     def greatest(self, instance: int) -> int | None:
         counts = [self.flow.counts[block] for block in self.blocks(instance)]

@@ -70,6 +70,13 @@ def test_a_call_is_entered_by_a_block_without_a_statement_that_leads_to_it_alone
     assert instances.entered(CALL) == 5
 
 
+def test_a_block_of_a_call_without_a_statement_leaves_and_enters_no_call():
+    """2 tests whether the call goes on, to 3, or ends."""
+    edges = [(0, 1), (1, 2), (2, 3), (2, 4), (3, 4), (4, 1), (4, 5)]
+    ranges = [whole(1), whole(2), whole(3)]
+    assert instances_of(edges, [1, 5, 5, 3, 5, 1], ranges, {10: {1}, 11: {3}}).entered(CALL) == 5
+
+
 def test_a_call_with_two_copies_of_its_entry_is_entered_by_both():
     """The compiler copied the call to another block, of which the debugging information has no entry."""
     edges = [(0, 1), (1, 2), (2, 3), (1, 3), (3, 4), (4, 1), (4, 5)]
@@ -90,6 +97,8 @@ def test_a_block_that_begins_outside_and_has_the_entry_enters_the_call_each_time
     edges = [(0, 1), (1, 2), (2, 2), (2, 1), (2, 3)]
     instances = instances_of(edges, [1, 5, 12, 1], [tail(0), tail(1), whole(2)], {10: {1}, 11: {2}}, LENGTH + HALF)
     assert instances.entered(CALL) == 5
+    instances = instances_of(edges, [1, 5, 12, 1], [whole(2)], {11: {2}}, LENGTH + HALF)
+    assert instances.entered(CALL) == 5, "no code of the call is left where it is entered"
     instances = instances_of([(0, 1), (1, 1), (1, 2)], [1, 5, 1], [tail(1)], {10: {1}}, LENGTH + HALF)
     assert instances.entered(CALL) == 5
 

@@ -27,12 +27,11 @@ class Function:
 
 
 class Parts(NamedTuple):
-    """Blocks of an inlined call: those where it may be entered, those that end in it, and of the former the one of its
-    entry; `is_whole` tells that this one begins outside, so that it enters the call wherever control comes from."""
+    """Blocks of an inlined call: those where it may be entered, and those from which control comes within it. Of its
+    entry's block, if that begins outside, each execution enters the call (`whole`)."""
     begun: set[int]
     inside: set[int]
-    entry: set[int]
-    is_whole: bool
+    whole: set[int]
 
 
 def added(total: int | None, count: int | None) -> int | None:
@@ -89,50 +88,50 @@ class Instances:
         return bool(line) and self.copies.holder(chain, file,
                                                  line) == instance == self.copies.holder(chain[::-1], file, line)
 
-    def entered(self, instance: int) -> int | None:
-        """How often an inlined call was entered. Where no statement of it begins, at most the count of the block of its
-        entry, since code of it may have been moved before a loop around it. Where not all counts are known, that count,
-        or the greatest one."""
+    def entered(self, instance: int, by_code: bool = False) -> int | None:
+        """How often an inlined call was entered. Where no statement of it begins, or by its code alone, at most the
+        count of the block of its entry, since code may have been moved before a loop around it. Where not all counts
+        are known, that count, or the greatest one."""
         if self.flow.is_coverage:
             return self.greatest(instance)
-        parts = self.parts_of(instance)
-        total = self.sum_of_entries(parts)
-        count = self.flow.counts[min(parts.entry)] if parts.entry else None
+        by_code = by_code or instance not in self.begun
+        entry = self.entry_block(instance)
+        count = None if entry is None else self.flow.counts[entry]
+        total = self.sum_of_entries(instance, by_code)
         if total is None:
             return count if count is not None else self.greatest(instance)
-        return total if count is None or instance in self.begun else min(total, count)
+        return min(total, count) if by_code and count is not None else total
 
-    def sum_of_entries(self, parts: Parts) -> int | None:
+    def entry_block(self, instance: int) -> int | None:
+        address = self.info.entry[instance - 1]
+        return self.copies.block_at(address) if address else None
+
+    def sum_of_entries(self, instance: int, by_code: bool) -> int | None:
         """The executions of the blocks where a call is entered, less the ways to them from within."""
-        total = 0
+        parts, entry, total = self.parts_of(instance, by_code), self.entry_block(instance), 0
         for block in sorted(parts.begun):
-            is_entry = block in parts.entry
-            count = (self.flow.counts[block] if is_entry and parts.is_whole
-                     else self.flow.coming(block, parts.inside if is_entry else parts.inside | parts.entry))
+            within = parts.inside if by_code or entry in (None, block) else {*parts.inside, entry}
+            count = self.flow.counts[block] if block in parts.whole else self.flow.coming(block, within)
             if count is None:
                 return None
             total += count
         return total if parts.begun else None
 
-    def parts_of(self, instance: int) -> Parts:
-        """Where no statement of a call begins, all of its blocks may enter it."""
-        copies, graph, address = self.copies, self.flow.graph, self.info.entry[instance - 1]
-        at = copies.block_at(address) if address else None
+    def parts_of(self, instance: int, by_code: bool) -> Parts:
+        copies, graph, at = self.copies, self.flow.graph, self.entry_block(instance)
         entry = set() if at is None else {at}
-        is_whole = at is not None and copies.firsts[at] < address and not self.holds(instance, copies.firsts[at])
-        begun = self.begun.get(instance, set())
-        blocks = {*self.blocks(instance), *begun, *(entry if begun else ())}
-        ending = {block for block in blocks if self.ends_in(instance, block)}
-        if not begun:
-            return Parts(blocks, ending, entry, is_whole)
-        begun = begun | entry
+        whole = {block for block in entry if copies.firsts[block] < self.info.entry[instance - 1]
+                 and not self.holds(instance, copies.firsts[block])}
+        blocks = set(self.blocks(instance))
+        begun = blocks if by_code else self.begun[instance] | entry
+        ending = {block for block in blocks | begun if self.ends_in(instance, block)}
         inside = begun & ending
         inside |= self.closed(ending - inside, inside | entry, graph.into, graph.source)
-        outside = entry if is_whole else set()
-        before = self.closed(ending - inside - outside, inside - outside, graph.out, graph.target)
+        before = self.closed(ending - inside - whole, inside - whole, graph.out, graph.target)
         inside |= before
-        inside |= self.gaps(inside, entry | self.first.get(instance, (0, set()))[1])
-        return Parts(begun | before, inside, entry, is_whole)
+        if not by_code:
+            inside |= self.gaps(inside, entry | self.first.get(instance, (0, set()))[1])
+        return Parts(begun | before, inside, whole)
 
     def closed(self, blocks: set[int], inside: set[int], ways: list[list[int]], ends: "array.array[int]") -> set[int]:
         """Those blocks whose executed edges on one side all have their other end inside, or in one another."""

@@ -101,7 +101,7 @@ class LineCounts:
         return total if total or len(known) == len(counts) else None
 
     def called_count(self, calls: list[int]) -> int | None:
-        counts = [self.instances.entered(call) for call in calls if self.instances.blocks(call)]
+        counts = [self.instances.entered(call, by_code=True) for call in calls if self.instances.blocks(call)]
         return max((count for count in counts if count is not None), default=None)
 
     def greatest(self, blocks: list[int]) -> int | None:

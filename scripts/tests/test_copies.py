@@ -211,3 +211,17 @@ def test_inlined_functions_are_named_with_where_they_were_inlined(plain, sources
     with open("copies.html", encoding="utf-8") as file:
         text = file.read()
     assert "least, entered 1 time<" in text and "copies.c:66" in text
+
+
+def test_an_inlined_call_is_not_entered_by_code_of_it_amidst_the_callers():
+    """The compiler copies its value to a variable of main in a block that begins with main's line."""
+    shutil.copyfile(f"{SOURCES}/own.c", "own.c")
+    run("gcc", "-O1", "-g", "-static", "-no-pie", "-o", "own", "own.c")
+    call("count", "own", "--quiet")
+    call("report", "own", "--json", "own.json")
+    with open("own.json", encoding="utf-8") as file:
+        told = json.load(file)
+    counts = {it["symbol"]: it["execution_count"] for it in told["files"][0]["functions"]}
+    assert counts == {"main": 1, "collatz": 2999}, counts
+    shown = call("annotate", "own", "collatz", "--record", "own.vak/last.record")[0]
+    assert "collatz, inlined in main, line 20: entered 2999 times\n" in shown, shown

@@ -103,8 +103,10 @@ def test_a_block_that_begins_outside_and_has_the_entry_enters_the_call_each_time
     assert instances.entered(CALL) == 5
 
 
-def test_a_call_without_statements_is_entered_by_its_code():
-    """At most as often as the block of its entry was executed."""
+def test_a_call_without_statements_is_entered_at_its_entry():
+    """Without an entry, or by its code alone, by each of its blocks."""
     ranges = [tail(0), whole(1), whole(2), tail(4)]
     assert instances_of(LOOP_EDGES, LOOP_COUNTS, ranges, {}).entered(CALL) == 7
     assert instances_of(LOOP_EDGES, LOOP_COUNTS, ranges, {}, LENGTH).entered(CALL) == 5
+    moved = instances_of(LOOP_EDGES, LOOP_COUNTS, [whole(4)], {}, LENGTH)
+    assert moved.entered(CALL) == 5 and moved.entered(CALL, by_code=True) == 2

@@ -89,13 +89,13 @@ class Instances:
                                                  line) == instance == self.copies.holder(chain[::-1], file, line)
 
     def entered(self, instance: int, by_code: bool = False) -> int | None:
-        """How often an inlined call was entered. Where no statement of it begins, or by its code alone, at most the
-        count of the block of its entry, since code may have been moved before a loop around it. Where not all counts
-        are known, that count, or the greatest one."""
+        """How often an inlined call was entered. Where no statement of it begins, and it has no entry, any of its
+        blocks enters it; so it does by code alone, but at most as often as the block of its entry was executed. Where
+        not all counts are known, that count, or the greatest one."""
         if self.flow.is_coverage:
             return self.greatest(instance)
-        by_code = by_code or instance not in self.begun
         entry = self.entry_block(instance)
+        by_code = by_code or entry is None and instance not in self.begun
         count = None if entry is None else self.flow.counts[entry]
         total = self.sum_of_entries(instance, by_code)
         if total is None:
@@ -110,7 +110,7 @@ class Instances:
         """The executions of the blocks where a call is entered, less the ways to them from within."""
         parts, entry, total = self.parts_of(instance, by_code), self.entry_block(instance), 0
         for block in sorted(parts.begun):
-            within = parts.inside if by_code or entry in (None, block) else {*parts.inside, entry}
+            within = parts.inside if by_code or entry is None or block == entry else {*parts.inside, entry}
             count = self.flow.counts[block] if block in parts.whole else self.flow.coming(block, within)
             if count is None:
                 return None
@@ -123,7 +123,7 @@ class Instances:
         whole = {block for block in entry if copies.firsts[block] < self.info.entry[instance - 1]
                  and not self.holds(instance, copies.firsts[block])}
         blocks = set(self.blocks(instance))
-        begun = blocks if by_code else self.begun[instance] | entry
+        begun = blocks if by_code else self.begun.get(instance, set()) | entry
         ending = {block for block in blocks | begun if self.ends_in(instance, block)}
         inside = begun & ending
         inside |= self.closed(ending - inside, inside | entry, graph.into, graph.source)

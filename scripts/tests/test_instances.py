@@ -48,8 +48,8 @@ def tail(block):
     return LENGTH * block + HALF, LENGTH * (block + 1)
 
 
-# A loop calls a function five times: 1 begins the call, 2 is its loop, 3 is what the caller does with its value, 4 copies that
-# for 2 of 5 calls, 5 goes round. The function's code stands also at the end of 0, before the loop, and of 4.
+# A loop calls a function five times: 1 begins the call, 2 is its loop, 3 is what the caller does with its value, 4
+# copies that for 2 of 5 calls, 5 goes round. The function's code stands also at the end of 0 and of 4.
 LOOP_EDGES = [(0, 1), (1, 2), (2, 2), (2, 3), (3, 4), (3, 5), (4, 5), (5, 1), (5, 6)]
 LOOP_COUNTS = [1, 5, 12, 5, 2, 5, 1]
 
@@ -108,5 +108,7 @@ def test_a_call_without_statements_is_entered_at_its_entry():
     ranges = [tail(0), whole(1), whole(2), tail(4)]
     assert instances_of(LOOP_EDGES, LOOP_COUNTS, ranges, {}).entered(CALL) == 7
     assert instances_of(LOOP_EDGES, LOOP_COUNTS, ranges, {}, LENGTH).entered(CALL) == 5
+    gone = instances_of(LOOP_EDGES, LOOP_COUNTS, [], {}, LENGTH)
+    assert gone.is_recorded(CALL) and gone.entered(CALL) == 5
     moved = instances_of(LOOP_EDGES, LOOP_COUNTS, [whole(4)], {}, LENGTH)
     assert moved.entered(CALL) == 5 and moved.entered(CALL, by_code=True) == 2

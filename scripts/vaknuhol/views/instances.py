@@ -161,15 +161,20 @@ class Instances:
         block = self.copies.entries.get(instance)
         return None if block is None else self.flow.counts[block]
 
+    def is_recorded(self, instance: int) -> bool:
+        """Whether a function has a first block, or an inlined call a block or an entry."""
+        if self.info.kind[instance - 1] & INLINED:
+            return bool(self.blocks(instance)) or self.entry_block(instance) is not None
+        return instance in self.copies.entries
+
     def functions(self) -> list[Function]:
-        """The functions of the wanted files of which an instance has a block."""
+        """The functions of the wanted files of which an instance is recorded."""
         info = self.info
         found: dict[tuple[int, int, int], Function] = {}
         for instance in info.instances():
             key = (info.name[instance - 1], info.file[instance - 1], info.line[instance - 1])
             is_inlined = info.kind[instance - 1] & INLINED
-            if key[1] not in self.copies.wanted or not key[2] or not (self.blocks(instance) if is_inlined
-                                                                      else instance in self.copies.entries):
+            if key[1] not in self.copies.wanted or not key[2] or not self.is_recorded(instance):
                 continue
             function = found.setdefault(key, Function(info.text_at(key[0]), info.files[key[1]], key[2]))
             count = self.count_of(instance)

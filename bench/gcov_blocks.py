@@ -9,7 +9,7 @@ from typing import Iterable, Iterator, NamedTuple
 Key = tuple[str, int]  # a file and a line
 ENTRY, EXIT, FIRST = 0, 1, 2
 ON_TREE, FAKE = 1, 2
-FUNCTION = re.compile(r"FUNCTION ident=(\d+).*?`(.*)' (?:artificial )?(.*):(\d+):\d+-(\d+):\d+$")
+FUNCTION = re.compile(r"FUNCTION ident=(\d+).*?`(.*)' (.*):(\d+):\d+-(\d+):\d+(?:, artificial)?$")
 IDENT, COUNTS, WAY = re.compile(r"FUNCTION ident=(\d+)"), re.compile(r" {10,}\d+: ([\d ]+)$"), re.compile(r"(\d+):([0-9a-f]{4})")
 BLOCK, PLACE = re.compile(r"block (\d+):(.*)"), re.compile(r"`([^']*)'|(\d+)")
 

@@ -22,12 +22,22 @@ def of_last_blocks(it: Difference, _: Others) -> bool:
     return bool(it.places) and it.whole() == it.ours
 
 
+def of_ends(it: Difference, _: Others) -> bool:
+    """gcov has a block on the line furthest down in it, where the program's has code of another alone."""
+    return bool(it.places) and it.of_ends() == it.ours
+
+
 def bare_blocks(it: Difference, _: Others) -> bool:
     return bool(it.places) and it.whole(True) == it.ours
 
 
 def of_copies(it: Difference, _: Others) -> bool:
     return it.is_repeated()
+
+
+def beside(it: Difference, _: Others) -> bool:
+    """Control goes from one copy to another in gcov's blocks of the line, which it enters once."""
+    return len(it.copies) > 1 and it.ours - it.whole() in sums(it.ways_within())
 
 
 def entered_again(it: Difference, _: Others) -> bool:
@@ -94,7 +104,12 @@ def folded(it: Difference, _: Others) -> bool:
     were entered as much less often."""
     without, missing = it.copies_without(), it.calls_missing()
     counts = [function.count(block) for function, blocks in it.places.items() for block in blocks]
-    return bool(without) and it.less in sums(without) | sums(counts) or it.less > 0 and it.less in sums(missing)
+    return bool(without) and it.less in sums(without) | sums(counts) | it.lacking() or it.less > 0 and it.less in sums(missing)
+
+
+def of_calls(it: Difference, _: Others) -> bool:
+    """The lines at which copies of the line were inlined differ as much."""
+    return it.less in sums(it.less_of_calls())
 
 
 def of_call(it: Difference, _: Others) -> bool:
@@ -138,6 +153,7 @@ RULES: tuple[tuple[str, Callable[[Difference, Others], bool]], ...] = (
     ("converted", converted), ("first test", first_test), ("first test twice", first_test_twice), ("returns", of_returns),
     ("merged", merged), ("folded copies", folded), ("threaded", threaded), ("moved before", moved_before), ("conditional", conditional),
     ("decided test", decided), ("call", of_call), ("remnant", remnant), ("several statements", several), ("joined", joined), ("other blocks", other_blocks),
+    ("ends of blocks", of_ends), ("copies beside", beside), ("calls differ", of_calls),
 )
 LEFT = "unexplained"
 

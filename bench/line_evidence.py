@@ -15,6 +15,7 @@ from vaknuhol.program.loops import body_of  # noqa: E402
 from vaknuhol.recording.record_file import Record  # noqa: E402
 from vaknuhol.views.coverage import Coverage  # noqa: E402
 from vaknuhol.views.cycles import cycle_count  # noqa: E402, its place is known only now
+from vaknuhol.views.line_counts import LineCounts  # noqa: E402
 from gcov_blocks import ENTRY, FAKE, FIRST, Function, Key, Way, functions_of, grown, has_own, is_fork  # noqa: E402
 from lines_and_gcov import gcov  # noqa: E402
 
@@ -23,7 +24,7 @@ MOST_WAYS, MOST_ADDED = 24, 3  # of sums that are tried
 
 def sums(counts: Iterable[int]) -> set[int]:
     """The sums of up to three of some counts, and of all."""
-    known = sorted(it for it in counts if it)[-MOST_WAYS:]
+    known = sorted((it for it in counts if it), key=abs)[-MOST_WAYS:]
     parts = (it for size in range(1, MOST_ADDED + 1) for it in itertools.combinations(known, size))
     return {sum(it) for it in parts} | ({sum(known)} if known else set())
 
@@ -35,6 +36,7 @@ class Program:
         self.name = os.path.basename(os.path.normpath(folder))
         program, counted = os.path.join(folder, "program"), os.path.join(folder, "counted")
         self.told = Coverage(program, Record(os.path.join(folder, "last.record")), None, False, folder)
+        self.line_counts = LineCounts(self.told.copies, self.told.flow, self.told.instances)
         theirs, _, _ = gcov(counted)
         self.theirs = {key: count for key, count in theirs.items() if not key[0].startswith("/usr/")}
         self.ours = {(os.path.realpath(file), number): line.count for file, lines in self.told.files.items()
@@ -98,12 +100,16 @@ class Difference:
     def whole(self, is_grown: bool = False) -> int:
         """How often the line is entered, and gone round in, by all of gcov's blocks that have it; by those without a line between them, too,
         if it is grown."""
-        total = 0
-        for function, blocks in self.places.items():
-            inside = grown(function, blocks) if is_grown else blocks
-            total += cycle_count(inside, set(), flow_of(function)) or 0
-            total += sum(way.count or 0 for block in inside for way in function.into(block) if way.source not in inside)
-        return total
+        return sum(entries(function, grown(function, blocks) if is_grown else blocks) for function, blocks in self.places.items())
+
+    def of_ends(self) -> int:
+        """The same by the blocks that end with the line alone: gcov takes the greatest of a block's lines for its last."""
+        return sum(entries(function, [it for it in blocks if function.lines[it][-1] == self.key]) for function, blocks in self.places.items())
+
+    def ways_within(self) -> list[int]:
+        """The counts of the ways from one of gcov's blocks of the line to another."""
+        return [way.count or 0 for function, blocks in self.places.items() for block in blocks for way in function.into(block)
+                if way.source in blocks and way.source != block]
 
     def once(self) -> int:
         """The counts of the program's blocks of the line, each once, whatever copies of the line it has."""
@@ -210,6 +216,20 @@ class Difference:
                    and (info.name[it - 1], info.file[it - 1], info.line[it - 1]) in same]
         return [instances.count_of(it) or 0 for it in lacking]
 
+    def lacking(self) -> set[int]:
+        """For each other line of the line's functions the sum of its counts in those copies that it has and the line hasn't."""
+        number, counts, found = self.program.numbers.get(self.key[0], -1), self.program.line_counts, set()
+        for line in {line for it in self.places for line in range(it.head.first, it.head.last + 1) if it.head.file == self.key[0]}:
+            tables = counts.copies.own, counts.copies.traces
+            without = {copy for table in tables for copy in table.get((number, line), {})} - self.copies.keys()
+            found.add(sum(counts.copy_count((number, line), copy) or 0 for copy in without))
+        return found - {0}
+
+    def less_of_calls(self) -> list[int]:
+        """What gcov counts more of the lines at which the line's copies were inlined."""
+        theirs, ours = self.program.theirs, self.program.ours
+        return [theirs[key] - ours[key] for key in self.call_lines() - {self.key} if key in theirs and key in ours]
+
     def calls_missing(self) -> list[int]:
         """How much more often gcov has the functions of the line entered."""
         theirs: dict[Key, int] = {}
@@ -238,6 +258,12 @@ class Difference:
         """The lines of the forks from which control comes to gcov's blocks of the line."""
         return {function.lines[way.source][-1] for function, blocks in self.places.items() for block in blocks for way in function.into(block)
                 if function.lines.get(way.source) and is_fork(function, way.source)}
+
+
+def entries(function: Function, inside: list[int]) -> int:
+    """How often some of gcov's blocks are entered, and gone round in."""
+    coming = sum(way.count or 0 for block in inside for way in function.into(block) if way.source not in inside)
+    return coming + (cycle_count(inside, set(), flow_of(function)) or 0)
 
 
 @functools.lru_cache(maxsize=None)

@@ -128,11 +128,13 @@ class DebugInfo:
 
     @functools.cached_property
     def entered_at(self) -> dict[int, list[int]]:
-        """The inlined calls that have no code left, by the addresses where they are entered."""
+        """The inlined calls that have no code where they are entered, by the addresses of that."""
         found: dict[int, list[int]] = {}
         for instance in self.instances():
-            if not self.ranges[instance - 1]:
-                found.setdefault(self.entry[instance - 1], []).append(instance)
+            entry = self.entry[instance - 1]
+            is_within = any(low <= entry < high for low, high in self.ranges_of(instance))
+            if self.kind[instance - 1] & INLINED and not is_within:
+                found.setdefault(entry, []).append(instance)
         return found
 
     def around(self, address: int, view: int) -> list[int]:

@@ -1,0 +1,57 @@
+#!/usr/bin/env python3
+"""Lines that gcov has executed and that are 0 here, by what is left of them in the program.
+
+    missed_lines.py [--show] FOLDER...
+
+Each FOLDER was left by lines_and_gcov.py --folder. A line has the class of the first test that holds for it; the last one always does.
+Prints how many lines each class has, and for how many lines that are 0 with gcov, too, the same holds; with --show the lines.
+"""
+import argparse
+import collections
+from typing import Callable
+
+from gcov_blocks import EXIT, FAKE, is_fork
+from line_evidence import Difference, Program
+
+
+def executed(it: Difference, blocks: set[int]) -> set[int]:
+    return {block for block in blocks if it.program.told.flow.counts[block]}
+
+
+def is_test(it: Difference) -> bool:
+    """Whether each of gcov's blocks of the line is a fork, or only leads to one of the line."""
+    blocks = [(function, block) for function, blocks in it.places.items() for block in blocks]
+    return bool(blocks) and all(
+        is_fork(function, block) or any(is_fork(function, way.target) and way.target in it.places[function] for way in function.out(block))
+        for function, block in blocks)
+
+
+def is_return(it: Difference) -> bool:
+    """Whether the line is a `return`, or one of gcov's blocks of it leaves its function."""
+    return it.text().startswith("return") or any(way.target == EXIT and not way.flags & FAKE for function, blocks in it.places.items()
+                                                 for block in blocks for way in function.out(block))
+
+
+def begins_nowhere(it: Difference) -> bool:
+    """Code of the line is executed, and in none of its code a statement begins."""
+    return bool(executed(it, it.own())) and not it.begins()
+
+
+def begins_elsewhere(it: Difference) -> bool:
+    """Code of the line is executed; its statements begin in blocks that aren't."""
+    return bool(executed(it, it.own()))
+
+
+def is_row(it: Difference) -> bool:
+    """A row of no length stands in an executed block, and code of the line in others."""
+    return bool(executed(it, it.binary()))
+
+
+TESTS: tuple[tuple[str, Callable[[Difference], bool]], ...] = (
+    ("code in which no statement begins", begins_nowhere), ("statement begins elsewhere", begins_elsewhere), ("row alone", is_row),
+    ("test without executed code", is_test), ("return without executed code", is_return), ("other statement without executed code", bool),
+)
+
+
+def class_of(it: Difference) -> str:
+    return next(title for title, holds in TESTS if holds(it))

@@ -4,7 +4,7 @@ import itertools
 import os
 import sys
 from types import SimpleNamespace
-from typing import Iterable
+from typing import Iterable, Mapping
 
 import capstone
 
@@ -167,8 +167,19 @@ class Difference:
     def binary(self) -> set[int]:
         return {block for blocks in self.copies.values() for block in blocks}
 
+    def own(self) -> set[int]:
+        """The program's blocks with code of the line."""
+        return self.blocks_in(self.program.told.copies.own)
+
+    def begins(self) -> set[int]:
+        """Those in which a statement of it begins."""
+        return self.blocks_in(self.program.told.copies.begins)
+
+    def blocks_in(self, table: Mapping[tuple[int, int], Mapping[int, Iterable[int]]]) -> set[int]:
+        return {block for blocks in table.get((self.program.numbers.get(self.key[0], -1), self.key[1]), {}).values() for block in blocks}
+
     def has_code(self) -> bool:
-        return bool(self.program.told.copies.own.get((self.program.numbers.get(self.key[0], -1), self.key[1])))
+        return bool(self.own())
 
     def ways_in_binary(self) -> list[int]:
         """The counts of the ways to the program's blocks of the line."""

@@ -55,3 +55,31 @@ TESTS: tuple[tuple[str, Callable[[Difference], bool]], ...] = (
 
 def class_of(it: Difference) -> str:
     return next(title for title, holds in TESTS if holds(it))
+
+
+def zeros(program: Program) -> list[Difference]:
+    """The lines that both count, and that are 0 here."""
+    return [Difference(program, key) for key in sorted(program.theirs.keys() & program.ours.keys()) if not program.ours[key]]
+
+
+def main() -> None:
+    parser = argparse.ArgumentParser(description=__doc__, formatter_class=argparse.RawDescriptionHelpFormatter)
+    parser.add_argument("--show", action="store_true")
+    parser.add_argument("folders", nargs="+")
+    words = parser.parse_args()
+    missed: collections.Counter[str] = collections.Counter()
+    alike: collections.Counter[str] = collections.Counter()
+    for folder in words.folders:
+        for it in zeros(Program(folder)):
+            title = class_of(it)
+            (missed if it.theirs else alike)[title] += 1
+            if words.show and it.theirs:
+                print(f"    {title}: {it.program.name} {it.key[0].rpartition('/')[2]}:{it.key[1]} gcov {it.theirs}: {it.text()}", flush=True)
+    print("| What is left | executed with gcov | not executed with gcov |\n|---|---|---|")
+    for title, _ in TESTS:
+        print(f"| {title} | {missed[title]} | {alike[title]} |")
+    print(f"| sum | {missed.total()} | {alike.total()} |")
+
+
+if __name__ == "__main__":
+    main()

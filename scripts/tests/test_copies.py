@@ -35,8 +35,6 @@ NO_TRACE, IF_CONVERTED, RETURNS = (
 )
 MOVED = {
     12: (5, None, NO_TRACE),
-    14: (5, None, NO_TRACE),
-    16: (5, 1, NO_TRACE),
     38: (1, 2, IF_CONVERTED),
     39: (None, 2, RETURNS),
     45: (None, 1, RETURNS),

@@ -9,7 +9,7 @@ from typing import Iterable, Iterator, NamedTuple
 Key = tuple[str, int]  # a file and a line
 ENTRY, EXIT, FIRST = 0, 1, 2
 ON_TREE, FAKE = 1, 2
-FUNCTION = re.compile(r"FUNCTION ident=(\d+).*?`(.*)' (.*):(\d+):\d+-(\d+):\d+(?:, artificial)?$")
+FUNCTION = re.compile(r"FUNCTION ident=(\d+).*?`(.*)' (.*):(\d+):\d+-(\d+):\d+(, artificial)?$")
 IDENT, COUNTS, WAY = re.compile(r"FUNCTION ident=(\d+)"), re.compile(r" {10,}\d+: ([\d ]+)$"), re.compile(r"(\d+):([0-9a-f]{4})")
 BLOCK, PLACE = re.compile(r"block (\d+):(.*)"), re.compile(r"`([^']*)'|(\d+)")
 
@@ -27,6 +27,7 @@ class Head(NamedTuple):
     file: str
     first: int
     last: int
+    is_artificial: bool = False
 
 
 class Function:
@@ -112,7 +113,7 @@ def read_notes(path: str) -> dict[str, Function]:
         if line.startswith("cwd: "):
             top = line[5:]
         elif told := FUNCTION.search(line):
-            head = Head(told[2], os.path.realpath(os.path.join(top, told[3])), int(told[4]), int(told[5]))
+            head = Head(told[2], os.path.realpath(os.path.join(top, told[3])), int(told[4]), int(told[5]), bool(told[6]))
             function = found[told[1]] = Function(head)
         elif ":ARCS " in line or ":LINES" in line:
             part = "lines" if ":LINES" in line else "ways"
@@ -134,7 +135,7 @@ def places(text: str, top: str) -> Iterator[Key]:
 
 
 def functions_of(folder: str) -> list[Function]:
-    """The functions of all units whose files a run left in a folder."""
+    """The functions of all units whose files a run left in a folder, but for those that the compiler made: gcov leaves their lines out."""
     found = []
     for name in sorted(os.listdir(folder)):
         if not name.endswith(".gcda"):
@@ -149,5 +150,5 @@ def functions_of(folder: str) -> list[Function]:
                 counted.setdefault(ident, []).extend(map(int, told[1].split()))
         for ident, function in functions.items():
             function.solve(counted.get(ident, []))
-        found += functions.values()
+        found += (it for it in functions.values() if not it.head.is_artificial)
     return found

@@ -136,7 +136,7 @@ def places(text: str, top: str) -> Iterator[Key]:
 
 def functions_of(folder: str) -> list[Function]:
     """The functions of all units whose files a run left in a folder, but for those that the compiler made: gcov leaves their lines out."""
-    found = []
+    found: list[Function] = []
     for name in sorted(os.listdir(folder)):
         if not name.endswith(".gcda"):
             continue

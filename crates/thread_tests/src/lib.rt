@@ -1,8 +1,10 @@
 //! What is made for guests of several threads, by public calls, against codes worked out by hand.
 //!
-//! Stands on `guest_threads` and `thread_runs`; nothing stands on it.
+//! Stands on `guest_threads`, `thread_check` and `thread_runs`; nothing stands on it.
 #![tactic(auto)]
 
+#[cfg(test)]
+mod checked_files;
 #[cfg(test)]
 mod random_schedules;
 #[cfg(test)]

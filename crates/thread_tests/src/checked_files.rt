@@ -1,0 +1,78 @@
+//! Files that are patched for guests of several threads, judged.
+use crate::rewritten_files::{CODE, reported};
+use elf_read::elf::{read_elf, read_written};
+use elf_read::writing::plain_file;
+use image_check::verdict::Verdict;
+use patch_report::report::Report;
+use pun_base::memory_desk::MemDesk;
+use start_entries::starts::{Starts, ascend};
+use std::alloc::{AllocError, Global};
+use std::test::Fail;
+use thread_check::verdict::check_threads;
+
+/// The verdict on a patched file, with one byte of it changed, of a text that begins with its only start.
+fn verdict(
+    alloc: Global,
+    text: &[u8],
+    patched: &[u8],
+    change: Option<(usize, u8)>,
+    report: &Report,
+) -> Result<Option<Verdict>, AllocError> {
+    let mut changed = patched.to_vec(alloc)?;
+    if let Some((at, value)) = change {
+        if let Some(byte) = changed.get_mut(at) {
+            *byte = value;
+        }
+    }
+    let Ok(file) = plain_file(alloc, text) else {
+        return Ok(None);
+    };
+    let Ok(orig) = read_elf(alloc, &file) else {
+        return Ok(None);
+    };
+    let Ok(written) = read_written(alloc, &changed) else {
+        return Ok(None);
+    };
+    if !ascend(&[0x40_1000]) {
+        return Ok(None);
+    }
+    let Ok(starts) = Starts::build(alloc, &orig, &[0x40_1000]) else {
+        return Ok(None);
+    };
+    let found = check_threads(alloc, &orig, &written, &starts, report)?;
+    Ok(Some(found))
+}
+
+#[test]
+fn changed_bytes(rt: HostRuntime) -> Result<(), Fail> {
+    let text = [0xEB, 0xFE, 0, 0, 2];
+    let mut desk = MemDesk::new(rt.alloc(), &[])?;
+    let found = reported(rt.alloc(), &text, &[0x40_1000], &[0x40_1000], &mut desk);
+    let report = found.ok_or("reported")?;
+    let written = desk.get("O").ok_or("held")?;
+    let mut codes = written.windows(37);
+    let code = codes
+        .position(|bytes| bytes == CODE.as_slice())
+        .ok_or("code")?;
+    for (change, told) in [
+        (None, Verdict::Yes),
+        (
+            Some((code, 0x49)),
+            Verdict::No {
+                addr: 0x240_1005,
+                rule: 4,
+            },
+        ),
+        (
+            Some((0x1000, 0xEB)),
+            Verdict::No {
+                addr: 0x40_1000,
+                rule: 2,
+            },
+        ),
+    ] {
+        let found = verdict(rt.alloc(), &text, written, change, &report)?;
+        assert!(rt; found == Some(told));
+    }
+    Ok(())
+}

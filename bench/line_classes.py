@@ -13,7 +13,7 @@ import collections
 from typing import Callable
 
 from gcov_blocks import EXIT, FAKE, is_fork
-from line_evidence import Difference, Program, sums
+from line_evidence import OUTSIDE, Difference, Program, sums
 
 Others = list[Difference]  # the program's other lines that differ
 
@@ -142,6 +142,21 @@ def other_blocks(it: Difference, _: Others) -> bool:
     return it.theirs in sums(it.program.told.flow.counts[block] or 0 for block in it.binary())
 
 
+def on_one_way(it: Difference, _: Others) -> bool:
+    """The line's rows stand on some of the ways alone that meet in a block, which is executed as often as gcov has the line."""
+    flow, targets = it.program.told.flow, set()
+    for block in it.binary():
+        if len(flow.graph.out[block]) == 1:
+            targets.add(flow.graph.target[flow.graph.out[block][0]])
+    return it.less > 0 and it.theirs in {flow.counts[target] for target in targets - {OUTSIDE}}
+
+
+def of_branch(it: Difference, _: Others) -> bool:
+    """No statement of the line begins in an executed block, and its branch is executed."""
+    counts = it.program.told.flow.counts
+    return it.ours > 0 and bool(it.begins()) and not any(counts[block] for block in it.begins())
+
+
 def several(it: Difference, _: Others) -> bool:
     """Loops or tests of several statements stand on the line."""
     return sum(is_fork(function, block) for function, blocks in it.places.items() for block in blocks) > 1 and it.text().count(";") > 1
@@ -153,7 +168,7 @@ RULES: tuple[tuple[str, Callable[[Difference, Others], bool]], ...] = (
     ("converted", converted), ("first test", first_test), ("first test twice", first_test_twice), ("returns", of_returns),
     ("merged", merged), ("folded copies", folded), ("threaded", threaded), ("moved before", moved_before), ("conditional", conditional),
     ("decided test", decided), ("call", of_call), ("remnant", remnant), ("several statements", several), ("joined", joined), ("other blocks", other_blocks),
-    ("ends of blocks", of_ends), ("copies beside", beside), ("calls differ", of_calls),
+    ("ends of blocks", of_ends), ("copies beside", beside), ("calls differ", of_calls), ("on one way", on_one_way), ("branch alone", of_branch),
 )
 LEFT = "unexplained"
 

@@ -144,10 +144,9 @@ def other_blocks(it: Difference, _: Others) -> bool:
 
 def on_one_way(it: Difference, _: Others) -> bool:
     """The line's rows stand on some of the ways alone that meet in a block, which is executed as often as gcov has the line."""
-    flow, targets = it.program.told.flow, set()
-    for block in it.binary():
-        if len(flow.graph.out[block]) == 1:
-            targets.add(flow.graph.target[flow.graph.out[block][0]])
+    flow = it.program.told.flow
+    out = [flow.graph.out[block] for block in it.binary()]
+    targets = {flow.graph.target[edges[0]] for edges in out if len(edges) == 1}
     return it.less > 0 and it.theirs in {flow.counts[target] for target in targets - {OUTSIDE}}
 
 

@@ -8,7 +8,7 @@ from tests.calls import run
 from tests.command import LAST, call
 from tests.programs import Programs, inside
 from vaknuhol.main import MODULES
-from vaknuhol.recording.thread_patch import ONLY_COUNTERS
+from vaknuhol.recording.thread_use import ONLY_COUNTERS
 
 pytestmark = pytest.mark.xdist_group("command refusals")
 NAMES = [name for names in MODULES.values() for name in names]

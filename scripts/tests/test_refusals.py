@@ -8,7 +8,7 @@ import pytest
 
 from tests.calls import patch, path_of, record, run, words_of
 from tests.programs import HALTING, Programs, compile_text, inside
-from vaknuhol.recording.thread_patch import ONLY_COUNTERS
+from vaknuhol.recording.thread_use import ONLY_COUNTERS
 
 pytestmark = pytest.mark.xdist_group("refusals")
 REPORT, PATCHED, STARTS, SITES = (path_of("lines", "count", it) for it in ("report", "patched", "starts", "sites"))

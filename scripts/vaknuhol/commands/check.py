@@ -1,7 +1,7 @@
 """Each kept patched file in PROGRAM.vak is judged by its report (`e9tool check`): whether it does what the original
 does, except for what the report says, whoever made it. `e9tool check` compares entry points, and so rejects each file
-of the loader form; a file for threads has no report. Such a file is written again from the original (`e9tool load`,
-`e9tool threads`), and file and report must have the same bytes."""
+of the loader form. Such a file is written again from the original (`e9tool load`), and file and report must have the
+same bytes."""
 import argparse
 import os
 import subprocess
@@ -11,11 +11,10 @@ import tempfile
 from vaknuhol.arguments import Refusal
 from vaknuhol.levels import Level, add_file
 from vaknuhol.messages import painted, progress
-from vaknuhol.outputs import write_whole
 from vaknuhol.program.kernel import entry_of
 from vaknuhol.program.program_file import read_bytes
 from vaknuhol.recording.kept_patches import all_of, folder_of, kept_fact
-from vaknuhol.recording.patch_files import SUMMARY, RunFiles
+from vaknuhol.recording.patch_files import RunFiles
 from vaknuhol.recording.patching import find_tool
 
 NAMES = {"check": "judge the patched files of a program"}
@@ -37,32 +36,21 @@ def check(program: str, files: RunFiles) -> tuple[str, bool]:
     return (done.stdout or done.stderr).strip() or str(done.returncode), is_sound
 
 
-def command_again(program: str, files: RunFiles, again: RunFiles, action: str) -> list[str]:
-    """The words of e9tool by which files are written again."""
-    if files.report_kind == SUMMARY:
-        return ["threads", program, files.starts, files.sites, again.patched]
-    return ["load", program, files.starts, files.sites, action, again.patched, again.report]
-
-
 def check_again(program: str, files: RunFiles) -> tuple[str, bool]:
-    """Whether a file of the loader form or for threads, and what tells of it, are what is written for the original, in
-    a line."""
-    form = "for threads" if files.report_kind == SUMMARY else "loader form"
+    """Whether a file of the loader form and its report are what is written for the original, in a line."""
     action, reserved = kept_fact(files.stem, "made of", "action"), kept_fact(files.stem, "reserved",
                                                                              files.stem.rpartition(".")[2])
     if action is None or reserved is None:
-        raise Refusal(f"{files.patched} ({form}): what it was made of doesn't stand beside it: patch again")
+        raise Refusal(f"{files.patched} (loader form): what it was made of doesn't stand beside it: patch again")
     with tempfile.TemporaryDirectory(prefix="again.", dir=os.path.dirname(files.stem)) as folder:
-        again = RunFiles(f"{folder}/again", files.report_kind)
-        done = subprocess.run([find_tool(), *command_again(program, files, again, action), *reserved],
-                              capture_output=True, text=True, errors="replace")
+        again = RunFiles(f"{folder}/again")
+        words = ["load", program, files.starts, files.sites, action, again.patched, again.report, *reserved]
+        done = subprocess.run([find_tool(), *words], capture_output=True, text=True, errors="replace")
         if done.returncode not in (0, 1):
             return f"not written again: {(done.stdout or done.stderr).strip() or done.returncode}", False
-        if files.report_kind == SUMMARY:
-            write_whole({again.summary: done.stdout})
         same = all(read_bytes(getattr(files, ending)) == read_bytes(getattr(again, ending))
-                   for ending in ("patched", files.report_kind))
-    return f"{form}, written again with {'the same' if same else 'other'} bytes", same
+                   for ending in ("patched", "report"))
+    return f"loader form, written again with {'the same' if same else 'other'} bytes", same
 
 
 def do(words: argparse.Namespace) -> int:
@@ -71,10 +59,10 @@ def do(words: argparse.Namespace) -> int:
         raise Refusal(f"{words.program} has no patched file here: vaknuhol cover or vaknuhol count makes one")
     sound = True
     for stem in stems:
-        files = RunFiles.under(stem)
+        files = RunFiles(stem)
         progress(f"checking {files.patched}")
-        is_unjudged = files.report_kind == SUMMARY or entry_of(files.patched) != entry_of(words.program)
-        text, is_sound = (check_again if is_unjudged else check)(words.program, files)
+        has_stub = entry_of(files.patched) != entry_of(words.program)
+        text, is_sound = (check_again if has_stub else check)(words.program, files)
         progress("")
         print(f"{os.path.relpath(files.patched)}: {painted(text, 'green' if is_sound else 'red', sys.stdout)}")
         sound = sound and is_sound

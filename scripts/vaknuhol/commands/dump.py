@@ -1,6 +1,5 @@
 """The process is not stopped; dump it as often as you like. The record of a core file is what was executed up to the
-crash. The report is found by the patched file's name; for a patch for threads it is the summary. The record is written
-and, if its program is known, shown."""
+crash. The report is found by the patched file's name. The record is written and, if its program is known, shown."""
 import argparse
 import os
 import subprocess
@@ -11,7 +10,8 @@ from vaknuhol.levels import Level, add_file, add_output
 from vaknuhol.native import program as own_program
 from vaknuhol.outputs import as_file
 from vaknuhol.recording.kept_patches import program_of
-from vaknuhol.recording.patch_files import Run, RunFiles, patch_at
+from vaknuhol.recording.patch_files import Run, RunFiles
+from vaknuhol.recording.patch_report import Report
 from vaknuhol.recording.process_memory import Core, Process
 from vaknuhol.recording.record_file import Record, record_rows, signal_name, write_record
 from vaknuhol.views.coverage import Coverage
@@ -41,7 +41,7 @@ def detach(pid: int) -> None:
 
 def do(words: argparse.Namespace) -> int:
     source: Process | Core = Process(int(words.of)) if words.of.isascii() and words.of.isdigit() else Core(words.of)
-    report = patch_at(words.report or RunFiles.under(source.stem()).report_path())
+    report = Report(words.report or RunFiles(source.stem()).report)
     run = Run(report)
     source.check(run, report)
     if words.detach:

@@ -7,9 +7,9 @@ instruction of its block, in up to four rounds. If the program header table woul
 called; with --no-loader, new code is kept nearer and nearer. e9tool is $E9TOOL if that is set, otherwise
 crates/e9tool/out/e9tool of this repository, the one in PATH, or the unproved one beside the first.
 
-With --count --threads e9tool's `threads` is called: the program may have threads, and no count is lost. There is no
-report then: PROGRAM.threads.summary has what is printed, and if the table would get too long, new code is kept
-nearer and nearer.
+With --count --threads e9tool's `threads` is called: the program may have threads, and no count is lost. The files are
+PROGRAM.threads.patched, PROGRAM.threads.report and so on, and if the table would get too long, new code is kept nearer
+and nearer.
 
 The exit status is 0 if each chosen block is patched, 1 if some were left, and 2 if something is refused.
 """
@@ -21,8 +21,7 @@ from vaknuhol.recording.action_options import action_of_words, add_action
 from vaknuhol.recording.block_choice import add_choices, read_program
 from vaknuhol.recording.patch_files import RunFiles, blocks_text
 from vaknuhol.recording.patching import Patching, ThreadPatching
-from vaknuhol.recording.thread_patch import ONLY_COUNTERS
-from vaknuhol.recording.thread_use import warn_of_threads
+from vaknuhol.recording.thread_use import ONLY_COUNTERS, warn_of_threads
 
 
 def parse() -> argparse.Namespace:
@@ -68,5 +67,5 @@ def main() -> int:
     if patching.left:
         print(f"{len(patching.left)} of {len(blocks)} blocks are left ({patching.left_text()}): no instruction of "
               "theirs could be patched")
-    print(f"wrote {files.patched}, and its {files.report_kind} {files.report_path()}")
+    print(f"wrote {files.patched}, and its report {files.report}")
     return 1 if patching.left else 0

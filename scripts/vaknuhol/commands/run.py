@@ -16,8 +16,7 @@ from vaknuhol.recording.actions import Action, CoverOfCounters, action_of
 from vaknuhol.recording.default_choice import add_choice, complete
 from vaknuhol.recording.kept_patches import Kept, folder_of
 from vaknuhol.recording.runs import run
-from vaknuhol.recording.thread_patch import ONLY_COUNTERS
-from vaknuhol.recording.thread_use import started_by
+from vaknuhol.recording.thread_use import ONLY_COUNTERS, started_by
 from vaknuhol.views.coverage import Coverage
 from vaknuhol.views.summary import summary
 

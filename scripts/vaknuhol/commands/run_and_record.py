@@ -5,12 +5,6 @@ events of each process in place of counts. The program's input, output and statu
 same status, or with 128 and the signal's number, and with 125 if it refuses something. All processes that the program
 starts are followed and waited for: the record is their sum. It is read by ptrace as they end, however they end. While
 they run it is written every two seconds, as it is by then.
-
-A program patched with --threads has no report. With --threads SITES the list of its sites is given,
-PROGRAM.vak/PROGRAM.threads.sites, and in the report's place the summary that e9tool's `threads` printed,
-PROGRAM.vak/PROGRAM.threads.summary. Sites are numbered as they ascend, from 0, and the counter of number I is the eight
-bytes at P + 64 + 8 I, P being the first address of the private range; each event of the patched program has its
-counter's address, and so the private range and which sites are patched are found there.
 """
 import argparse
 import os
@@ -19,18 +13,15 @@ import shutil
 from vaknuhol.arguments import Words, file_name, output_name
 from vaknuhol.outputs import as_file, runnable
 from vaknuhol.recording.patch_files import Run
-from vaknuhol.recording.patch_report import Patch, Report
+from vaknuhol.recording.patch_report import Report
 from vaknuhol.recording.run_file import passing_table
 from vaknuhol.recording.runner import run_recorded
-from vaknuhol.recording.thread_patch import ThreadPatch
 
 REFUSED = 125
 
 
 def parse() -> argparse.Namespace:
     parser = Words(__doc__)
-    parser.add_argument("--threads", metavar="SITES", type=file_name,
-                        help="the sites of a patch for threads, whose summary is given in the report's place")
     parser.add_argument("report", type=file_name, help="the report of the patch, PROGRAM.vak/PROGRAM.ACTION.report")
     parser.add_argument("record", type=output_name, help="the file to write")
     parser.add_argument("program", type=file_name, help="the patched program, PROGRAM.vak/PROGRAM.ACTION.patched")
@@ -38,7 +29,7 @@ def parse() -> argparse.Namespace:
     return parser.parse_args()
 
 
-def check_program(path: str, report: Patch, run: Run) -> None:
+def check_program(path: str, report: Report, run: Run) -> None:
     """Refuses a program that isn't the patched file of the report, and lets it be executed."""
     run.check_patched(path, report)
     if not os.access(path, os.X_OK):
@@ -48,7 +39,7 @@ def check_program(path: str, report: Patch, run: Run) -> None:
 def main() -> int:
     words = parse()
     path = shutil.which(words.program, mode=os.F_OK) or words.program
-    report: Patch = ThreadPatch(words.report, words.threads, path) if words.threads else Report(words.report)
+    report = Report(words.report)
     run = Run(report)
     check_program(path, report, run)
     with as_file(words.record) as record, passing_table(report, run) as table:

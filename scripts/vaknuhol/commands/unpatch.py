@@ -1,6 +1,5 @@
 """The original is worked out from the patched file and its report alone (`e9tool unpatch`), so the program itself is
-not needed. Without --report, the report is looked for beside PATCHED. A patched file for threads has no report and
-can't be undone."""
+not needed. Without --report, the report is looked for beside PATCHED."""
 import argparse
 import os
 import subprocess
@@ -25,11 +24,9 @@ def add_words(level: Level, name: str) -> None:
 
 def report_of(patched: str) -> str:
     """The report that stands beside a patched file."""
-    files = RunFiles.under(patched.removesuffix(PATCHED))
+    files = RunFiles(patched.removesuffix(PATCHED))
     if patched.endswith(PATCHED) and os.path.isfile(files.report):
         return files.report
-    if patched.endswith(PATCHED) and os.path.isfile(files.summary):
-        raise Refusal(f"{patched} is patched for threads, and has no report by which it could be undone")
     raise Refusal(f"no report stands beside {patched}: name it by --report")
 
 

@@ -23,7 +23,8 @@ from vaknuhol.program.program_file import Program, file_hash, read_bytes
 from vaknuhol.recording.actions import Action, action_of
 from vaknuhol.recording.default_choice import choice_text, read_chosen
 from vaknuhol.recording.entry_limit import Fitting, ThreadFitting
-from vaknuhol.recording.patch_files import REPORT, SUMMARY, THREADS, Run, RunFiles, blocks_text, patch_at
+from vaknuhol.recording.patch_files import THREADS, Run, RunFiles, blocks_text
+from vaknuhol.recording.patch_report import Report
 from vaknuhol.recording.patching import find_tool
 from vaknuhol.recording.thread_use import warn_of_threads
 
@@ -50,7 +51,7 @@ class Part:
     tells."""
 
     def __init__(self, files: RunFiles, action: Action) -> None:
-        self.files, self.report = files, patch_at(files.report_path())
+        self.files, self.report = files, Report(files.report)
         self.run = Run(self.report)
         self.run.check_patched(files.patched, self.report)
         self.report.action = action
@@ -66,7 +67,7 @@ class Kept:
     def __init__(self, words: argparse.Namespace, action: Action, alone: str = "") -> None:
         self.words, self.shown_action = words, action
         self.alone = "a ring is of one file" if action.is_ring else alone
-        self.action, self.report_kind = (action_of("count"), SUMMARY) if words.threads else (action, REPORT)
+        self.action = action_of("count") if words.threads else action
         top = words.into or folder_of(words.program)
         os.makedirs(top, exist_ok=True)
         self.runs_here = most_entries(top)
@@ -92,7 +93,7 @@ class Kept:
                           f"choose fewer (--own, --functions), or a part at a time ({ranges})")
 
     def files(self, number: int) -> RunFiles:
-        return RunFiles(os.path.join(self.folder, f"{os.path.basename(self.words.program)}.{number}"), self.report_kind)
+        return RunFiles(os.path.join(self.folder, f"{os.path.basename(self.words.program)}.{number}"))
 
     def in_parts(self, parts: int) -> list[Part]:
         return [Part(self.files(number), self.shown_action) for number in range(1, parts + 1)]

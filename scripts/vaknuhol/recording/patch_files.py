@@ -3,8 +3,7 @@
 Of `prog` with the action `count` they are `prog.vak/prog.count.` with these endings: `starts`, `sites`, `patched`,
 `report`, and `blocks`, which has the hashes and for each block its first address, its end, and its site. With a ring
 they are `prog.vak/prog.ring.`, whatever its length, and with a condition `prog.vak/prog.cover-when.` or
-`prog.vak/prog.count-when.` Of a patch for threads they are `prog.vak/prog.threads.`, with `summary` in place of
-`report`.
+`prog.vak/prog.count-when.` Of a patch for threads they are `prog.vak/prog.threads.`
 """
 import itertools
 import os
@@ -15,57 +14,35 @@ from vaknuhol.arguments import Refusal, file_name
 from vaknuhol.program.blocks import Block
 from vaknuhol.program.program_file import Program, file_hash, read_text
 from vaknuhol.recording.actions import Action
-from vaknuhol.recording.patch_report import Patch, Report
-from vaknuhol.recording.thread_patch import ThreadPatch
+from vaknuhol.recording.patch_report import Report
 
 HEAD = "vakblocks 1"
-REPORT, SUMMARY, THREADS = "report", "summary", "threads"
-ENDINGS = ("starts", "sites", "patched", REPORT, SUMMARY, "blocks")
+THREADS = "threads"
+WRITTEN = ("sites", "patched", "report")
+HASHED = ("starts", *WRITTEN)
 ROWS = re.compile(r"(?:[0-9a-f]{8} [0-9a-f]{8} [0-9a-f]{8}\n)*")
 ROW, NUMBERS = "%08x %08x %08x\n", struct.Struct(">3I")
 
 
 class RunFiles:
-    def __init__(self, stem: str, report_kind: str = REPORT) -> None:
-        self.stem, self.report_kind = stem, report_kind
-        self.written = ("sites", "patched", report_kind)
-        self.hashed = ("starts", *self.written)
+    def __init__(self, stem: str) -> None:
+        self.stem = stem
 
     def __getattr__(self, ending: str) -> str:
-        if ending in ENDINGS:
+        if ending in (*HASHED, "blocks"):
             return f"{self.stem}.{ending}"
         raise AttributeError(ending)
-
-    def report_path(self) -> str:
-        """The file that describes the patch."""
-        return f"{self.stem}.{self.report_kind}"
-
-    @classmethod
-    def under(cls, stem: str) -> "RunFiles":
-        """The files that stand under a stem: of a patch for threads where a summary is among them."""
-        return cls(stem, SUMMARY if os.path.isfile(f"{stem}.{SUMMARY}") else REPORT)
 
     @classmethod
     def of_program(cls, program: str, action: Action, folder: str | None = None, threads: bool = False) -> "RunFiles":
         name = os.path.basename(program)
-        part, report_kind = (THREADS, SUMMARY) if threads else (action.file_part, REPORT)
-        return cls(os.path.join(folder or file_name(f"{name}.vak"), f"{name}.{part}"), report_kind)
-
-
-def patch_at(path: str) -> Patch:
-    """The patch of which a file tells: a report, or the summary of a patch for threads, with the other files beside
-    it."""
-    stem, ending = os.path.splitext(path)
-    if ending != f".{SUMMARY}":
-        return Report(path)
-    files = RunFiles(stem, SUMMARY)
-    return ThreadPatch(path, files.sites, files.patched)
+        return cls(os.path.join(folder or file_name(f"{name}.vak"), f"{name}.{THREADS if threads else action.file_part}"))
 
 
 def blocks_text(program: Program, action: Action, files: RunFiles, blocks: list[Block], sites: list[int]) -> str:
     """The text of the file `blocks`; `files` has what is hashed."""
     lines = [HEAD, f"action {action.name}", f"program {program.code_hash}"]
-    lines += [f"{ending} {file_hash(getattr(files, ending))}" for ending in files.hashed]
+    lines += [f"{ending} {file_hash(getattr(files, ending))}" for ending in HASHED]
     rows = itertools.chain.from_iterable((block.first, block.end, site) for block, site in zip(blocks, sites))
     return "\n".join(lines) + "\n" + ROW * len(blocks) % tuple(rows) + "end\n"
 
@@ -73,26 +50,26 @@ def blocks_text(program: Program, action: Action, files: RunFiles, blocks: list[
 class Run:
     """What is known of a patch: its blocks, each with its site, and the hash of its program."""
 
-    def __init__(self, report: Patch) -> None:
+    def __init__(self, report: Report) -> None:
         self.program_hash: str | None = None
         self.patched_hash: str | None = None
         stem, ending = os.path.splitext(report.path)
-        self.files = RunFiles(stem, report.ending)
+        self.files = RunFiles(stem)
         self.blocks: list[tuple[int, int, int]] = []
-        if ending == f".{report.ending}" and os.path.isfile(self.files.blocks):
+        if ending == ".report" and os.path.isfile(self.files.blocks):
             self.read(report)
         else:
             self.blocks = [(a, a + 1, a) for a in sorted((*report.patched, *report.left))]
 
-    def read(self, report: Patch) -> None:
+    def read(self, report: Report) -> None:
         path = self.files.blocks
         text = read_text(path)
-        head, *lines = text.removesuffix("end\n").split("\n", 3 + len(self.files.hashed))
+        head, *lines = text.removesuffix("end\n").split("\n", 3 + len(HASHED))
         heads, rows = dict(line.split(" ", 1) for line in lines[:-1] if " " in line), lines[-1] if lines else ""
         is_whole = head == HEAD and text.endswith("\nend\n") and ROWS.fullmatch(rows)
-        if not is_whole or not {"action", "program", *self.files.hashed} <= heads.keys():
+        if not is_whole or not {"action", "program", *HASHED} <= heads.keys():
             raise Refusal(f"{path} is no file of blocks: patch again")
-        if heads[report.ending] != report.text_hash or heads["action"] != report.action.name:
+        if heads["report"] != report.hash or heads["action"] != report.action.name:
             raise Refusal(f"{report.path} is of another run than {path}: patch again")
         for ending in ("starts", "sites"):
             other = getattr(self.files, ending)
@@ -101,7 +78,7 @@ class Run:
         self.program_hash, self.patched_hash = heads["program"], heads["patched"]
         self.blocks = [(row[0], row[1], row[2]) for row in NUMBERS.iter_unpack(bytes.fromhex(rows))]
 
-    def check_patched(self, path: str, report: Patch) -> None:
+    def check_patched(self, path: str, report: Report) -> None:
         """Refuses every program but the one that was written with the report."""
         if self.patched_hash is None:
             report.check_patched(path)

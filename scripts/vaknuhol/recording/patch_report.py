@@ -1,9 +1,8 @@
 """The report of a patch: its action, its private range, the sites with their outcomes, the written bytes.
 
 All that is known of the grammar of reports (docs/reference/formats.md) stands here, for every script. Version 2 has
-the line `origin`, and the outcome `Shared`.
+the line `origin`, and the outcome `Shared`; a report of `threads` begins with a line of its own.
 """
-import abc
 import collections
 import functools
 import hashlib
@@ -17,6 +16,7 @@ from vaknuhol.program.program_file import Program, file_hash, read_text
 from vaknuhol.recording.actions import Action, ActionError, action_of
 
 SCRATCH = 64
+FOR_THREADS = "mode threads\n"  # the first line of a report of `threads`
 LEFT = ("NotRelocatable", "NoPlan", "Shared")
 
 
@@ -62,42 +62,19 @@ NEAR = rf"\nsite {ADDRESS} [0-9]+ T3((?:\n(?:tramp|write|pun) .*)*)"
 SHORT_JUMP, SHORT_LENGTH = 0xEB, 2
 
 
-class Patch(abc.ABC):
-    """What is known of a patch: the file that says it and the hash of its text, the action, the private range, the
-    patched sites with their numbers, and the sites that were left, with their outcomes; `hash` is what its records know
-    it by."""
-    ending: str
-    for_threads: bool
-    path: str
-    hash: str
-    text_hash: str
+class Report:
+    """What a report says of a patch: whether it is for threads, the action, the private range, the patched sites with
+    their numbers, and the sites that were left, with their outcomes; `hash` is what its records know it by."""
     action: Action
     private: int
-    patched: dict[int, int]
-    left: dict[int, str]
-
-    def record_place(self) -> tuple[int, int]:
-        """Where the record lies in memory, and how many bytes it has."""
-        return self.private + SCRATCH, self.action.length(self.sites())
-
-    def sites(self) -> int:
-        """How many numbers of sites a record has: up to the highest one that is patched."""
-        return max(self.patched.values()) + 1
-
-    @abc.abstractmethod
-    def check_patched(self, path: str) -> None:
-        """Refuses a program that is not the patched one."""
-
-
-class Report(Patch):
-    ending, for_threads = "report", False
 
     def __init__(self, path: str) -> None:
         text = read_text(path)
-        if not text.startswith(("e9report 1\n", "e9report 2\n")) or not text.endswith("\nend\n"):
-            raise Refusal(f"{path} is no report of e9tool patch")
-        self.path, self.text = path, text
-        self.hash = self.text_hash = text_hash(path, text)
+        begins = text.removeprefix(FOR_THREADS).startswith(("e9report 1\n", "e9report 2\n"))
+        if not begins or not text.endswith("\nend\n"):
+            raise Refusal(f"{path} is no report of e9tool")
+        self.path, self.text, self.for_threads = path, text, text.startswith(FOR_THREADS)
+        self.hash = text_hash(path, text)
         actions, privates = ACTION.found(path, text), PRIVATE.found(path, text)
         for line in actions:
             try:
@@ -106,7 +83,8 @@ class Report(Patch):
                 raise Refusal(f"{path}: these scripts can't read a record of the action {line}") from None
         for line in privates:
             self.private = int(line, 16)
-        self.left, self.patched = {}, {}
+        self.left: dict[int, str] = {}
+        self.patched: dict[int, int] = {}
         for site, number, outcome in SITES.found(path, text):
             if outcome in LEFT:
                 self.left[int(site, 16)] = outcome
@@ -116,6 +94,14 @@ class Report(Patch):
             raise Refusal(f"{path} is no report: it has no private range or no action")
         if not self.patched:
             raise Refusal(f"{path} has no patched site, so there is nothing to record: patch other sites")
+
+    def record_place(self) -> tuple[int, int]:
+        """Where the record lies in memory, and how many bytes it has."""
+        return self.private + SCRATCH, self.action.length(self.sites())
+
+    def sites(self) -> int:
+        """How many numbers of sites a record has: up to the highest one that is patched."""
+        return max(self.patched.values()) + 1
 
     def trampolines(self) -> list[tuple[int, int, int | None]]:
         """Place, the start that it stands for, and the number of its site or, of one that records nothing, none."""

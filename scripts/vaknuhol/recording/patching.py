@@ -18,10 +18,9 @@ from vaknuhol.program.listing import Listing
 from vaknuhol.program.listing_file import forget_lists
 from vaknuhol.recording.actions import Action
 from vaknuhol.recording.code_support import Support
-from vaknuhol.recording.patch_files import RunFiles
+from vaknuhol.recording.patch_files import HASHED, WRITTEN, RunFiles
 from vaknuhol.recording.patch_report import LEFT, outcome_counts
 from vaknuhol.recording.site_choice import candidates
-from vaknuhol.recording.thread_patch import left_sites
 
 RESERVES: list[list[str]] = [[], *([f"{low:x}-7fff0000"] for low in (0x4000000, 0x2000000, 0x1000000, 0xC00000))]
 ROUNDS = 4
@@ -137,10 +136,10 @@ class Patching:
         os.makedirs(folder, exist_ok=True)
         try:
             with tempfile.TemporaryDirectory(prefix="part.", dir=folder) as part:
-                kept = RunFiles(f"{part}/kept", self.files.report_kind)
+                kept = RunFiles(f"{part}/kept")
                 listing.write_starts(kept.starts)
                 for number in range(1, ROUNDS + 1):
-                    if not self.go_round(number, RunFiles(f"{part}/{number}", self.files.report_kind), kept):
+                    if not self.go_round(number, RunFiles(f"{part}/{number}"), kept):
                         break
                 self.take_over(kept)
                 is_done = True
@@ -163,7 +162,7 @@ class Patching:
             self.sites, self.left, self.printed = list(self.tried), left, printed
             self.nearness, self.form = RESERVES[self.near], self.command
             self.reserved = [*self.reserve, *self.nearness]
-            for ending in files.written:
+            for ending in WRITTEN:
                 os.replace(getattr(files, ending), getattr(kept, ending))
         return self.move_on(left)
 
@@ -205,26 +204,17 @@ class Patching:
             raise Refusal(f"no site could be patched ({outcomes}), so nothing is written: choose other blocks, or "
                           "reserve less")
         os.chmod(kept.patched, runnable(os.stat(self.program).st_mode) & 0o777)
-        for ending in kept.hashed:
+        for ending in HASHED:
             os.replace(getattr(kept, ending), getattr(self.files, ending))
 
 
 class ThreadPatching(Patching):
-    """The same by `threads`, which writes no report: its summary is kept, and the left sites are those that lead to no
-    counter."""
+    """The same by `threads`, which has no loader form."""
     first_command, has_loader_form = "threads", False
 
     def words(self, starts: str, files: RunFiles) -> list[str]:
-        return [self.program, starts, files.sites, files.patched]
-
-    def outcomes(self, files: RunFiles, printed: str) -> dict[int, str]:
-        write_whole({files.summary: printed})
-        return left_sites(files.sites, files.patched)
+        return [self.program, starts, files.sites, files.patched, f"report:{files.report}"]
 
     def without_support(self, files: RunFiles) -> set[int]:
         """None: for threads no neighbour is displaced."""
         return set()
-
-    def left_text(self) -> str:
-        words = self.printed.splitlines()[-1].split()
-        return " ".join(f"{name} {number}" for name, number in zip(words[::2], words[1::2]) if number != "0")

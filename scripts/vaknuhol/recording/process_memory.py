@@ -6,7 +6,7 @@ from typing import TYPE_CHECKING
 
 from vaknuhol.arguments import Refusal
 from vaknuhol.recording.patch_files import Run
-from vaknuhol.recording.patch_report import Patch
+from vaknuhol.recording.patch_report import Report
 
 PATCHED = ".patched"
 DELETED = " (deleted)"
@@ -67,7 +67,7 @@ class Process:
                           "name its report by --report")
         return self.image.removesuffix(PATCHED)
 
-    def check(self, run_files: Run, report: Patch) -> None:
+    def check(self, run_files: Run, report: Report) -> None:
         run_files.check_patched(f"/proc/{self.pid}/exe", report)
 
     def threads(self) -> int:
@@ -117,7 +117,7 @@ class Core:
                 return name.removesuffix(PATCHED)
         raise Refusal(f"{self.path} names no patched file: name its report by --report")
 
-    def check(self, run_files: Run, report: Patch) -> None:
+    def check(self, run_files: Run, report: Report) -> None:
         """A core file has no copy of the program's code: only its name, and that it has the record's memory, speak for
         it."""
 

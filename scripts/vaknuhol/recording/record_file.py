@@ -33,7 +33,7 @@ from vaknuhol.outputs import write_whole
 from vaknuhol.program.program_file import Program, read_text
 from vaknuhol.recording.actions import Action, ActionError, Ring, action_of
 from vaknuhol.recording.patch_files import Run
-from vaknuhol.recording.patch_report import LEFT, Patch, outcome_counts
+from vaknuhol.recording.patch_report import LEFT, Report, outcome_counts
 
 HEAD = "vakrecord 1"
 FOR_THREADS, NOT_KNOWN = "for threads", "-"
@@ -100,7 +100,7 @@ def line_of(first: int, end: int, site: int, value: object) -> str:
     return ROW % (first, end, site, value)
 
 
-def counted(report: Patch, run: Run, numbers: "array.array[int]") -> Iterator[str]:
+def counted(report: Report, run: Run, numbers: "array.array[int]") -> Iterator[str]:
     """What the counters of the patched sites, by their numbers, tell of each block."""
     counts, left = {site: numbers[number] for site, number in report.patched.items()}, report.left
     for first, end, site in run.blocks:
@@ -114,7 +114,7 @@ class Space(NamedTuple):
     after: "array.array[int]"
 
 
-def remembered(report: Patch, run: Run, spaces: Iterable[Space]) -> Iterator[str]:
+def remembered(report: Report, run: Run, spaces: Iterable[Space]) -> Iterator[str]:
     """What the rings of address spaces have, in the order in which they ended."""
     blocks = {site: f"{first:08x} {end:08x} {site:08x}" for first, end, site in run.blocks}
     of_number = {number: blocks[site] for site, number in report.patched.items()}
@@ -125,7 +125,7 @@ def remembered(report: Patch, run: Run, spaces: Iterable[Space]) -> Iterator[str
         yield from (of_number.get(number, NOT_KNOWN) for number in Ring.events(space.after))
 
 
-def record_rows(report: Patch, run: Run, numbers: "array.array[int]", ended: str) -> Iterator[str]:
+def record_rows(report: Report, run: Run, numbers: "array.array[int]", ended: str) -> Iterator[str]:
     """The lines of a record of what a patch recorded in one process."""
     return remembered(report, run,
                       [Space(1, ended, numbers)]) if report.action.is_ring else counted(report, run, numbers)

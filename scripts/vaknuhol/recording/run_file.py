@@ -13,9 +13,8 @@ from vaknuhol.outputs import write_whole
 from vaknuhol.recording.actions import MOST_COMPARISONS, REGISTERS, SIGNS, Action, Ring
 from vaknuhol.recording.event_undo import undo_of
 from vaknuhol.recording.patch_files import Run
-from vaknuhol.recording.patch_report import SCRATCH, Patch, Report, outcome_counts
+from vaknuhol.recording.patch_report import SCRATCH, Report, outcome_counts
 from vaknuhol.recording.record_file import FOR_THREADS, NOT_KNOWN, line_of
-from vaknuhol.recording.thread_patch import ThreadPatch
 from vaknuhol.recording.thread_use import SHARING, meant
 
 MARK, ENDING, PAGE = b"vakrun 3\n", "run", 4096
@@ -32,13 +31,9 @@ THREAD = ("warning: the program starts a thread: its record may have too few eve
 Tramps = list[tuple[int, int, int, int]]
 
 
-def tramps_of(report: Patch) -> Tramps:
+def tramps_of(report: Report) -> Tramps:
     """The trampolines of a patch. A short jump of T3 leads to a place inside its victim, which stands for the site,
     too."""
-    if isinstance(report, ThreadPatch):
-        return [(place, place + MOST_TRAMPOLINE, site, number) for place, site, number in report.events]
-    if not isinstance(report, Report):
-        return []
     found = [(place, place + MOST_TRAMPOLINE, start, PLAIN if number is None else number)
              for place, start, number in report.trampolines()]
     return found + [(place, place + 1, site, PLAIN) for place, site in report.short_jumps()]
@@ -55,14 +50,14 @@ def rows_of_tramps(tramps: Tramps) -> bytes:
     return rows.tobytes()
 
 
-def front_of(report: Patch, run: Run) -> bytes:
+def front_of(report: Report, run: Run) -> bytes:
     """How a run file of this patch begins: by its mark, and the head of its records."""
     threads = f"{FOR_THREADS}\n" if report.for_threads else ""
     return FRONT.pack(MARK, f"action {report.action.name}\nprogram {run.program_hash or NOT_KNOWN}\nreport "
                             f"{report.hash}\n{threads}".encode())
 
 
-def rows_of(report: Patch, run: Run) -> tuple[bytes, str]:
+def rows_of(report: Report, run: Run) -> tuple[bytes, str]:
     """The numbers of the blocks, each with the place of its line, and the lines of a record in which none was executed.
     Of a ring a number's row stands at that number."""
     rows, lines, at = array.array("I"), [], 0
@@ -79,7 +74,7 @@ def rows_of(report: Patch, run: Run) -> tuple[bytes, str]:
     return rows.tobytes(), "".join(lines)
 
 
-def left_line(report: Patch, run: Run) -> str:
+def left_line(report: Report, run: Run) -> str:
     """How many blocks were left, and why."""
     left = sum(site not in report.patched for _, _, site in run.blocks)
     return f"{left} {outcome_counts(report.left[site] for _, _, site in run.blocks if site in report.left)}".rstrip()
@@ -91,7 +86,7 @@ def comparisons_of(action: Action) -> list[tuple[int, int, int]]:
             for comparison in action.comparisons]
 
 
-def table_of(report: Patch, run: Run) -> bytes:
+def table_of(report: Report, run: Run) -> bytes:
     """The run file."""
     action, length = report.action, report.record_place()[1]
     kind = RING if action.is_ring else COUNT if action.adds else COVER
@@ -108,7 +103,7 @@ def table_of(report: Patch, run: Run) -> bytes:
     return b"".join((front_of(report, run), body, rows, tramps, lines.encode()))
 
 
-def kept_table(stem: str, report: Patch, run: Run) -> str:
+def kept_table(stem: str, report: Report, run: Run) -> str:
     """The path of the run file beside a kept patched file; it is written where none of this patch is there."""
     path, front = f"{stem}.{report.action.file_part}.{ENDING}", front_of(report, run)
     with contextlib.suppress(OSError), open(path, "rb") as file:
@@ -119,7 +114,7 @@ def kept_table(stem: str, report: Patch, run: Run) -> str:
 
 
 @contextlib.contextmanager
-def passing_table(report: Patch, run: Run) -> Iterator[str]:
+def passing_table(report: Report, run: Run) -> Iterator[str]:
     """The path of a run file that is gone afterwards."""
     with tempfile.TemporaryDirectory(prefix="vaknuhol.") as folder:
         path = os.path.join(folder, ENDING)

@@ -49,12 +49,6 @@ def record(program, action, *words, status=(0,), to="record"):
     return script("run_and_record", *files, *words, status=status)
 
 
-def record_threads(program, *words, status=(0,), to="record"):
-    """The same of a program that is patched for threads, which has no report."""
-    sites, summary, patched = (path_of(program, "threads", it) for it in ("sites", "summary", "patched"))
-    return script("run_and_record", "--threads", sites, summary, to, patched, *words, status=status)
-
-
 def rows_of(path):
     """The rows of a record: first address, end, site, and count (None where it was left)."""
     return Record(path).rows

@@ -7,7 +7,7 @@ import time
 
 import pytest
 
-from tests.calls import patch, path_of, record, record_threads, rows_of, run, script, words_of
+from tests.calls import patch, path_of, record, rows_of, run, script, words_of
 from tests.needs import left_out, need
 from tests.programs import Programs
 from vaknuhol.arguments import Refusal
@@ -167,7 +167,7 @@ def test_a_record_that_several_threads_wrote_says_so(threads):
 
 def test_a_program_that_is_patched_for_threads_is_counted_without_a_warning(threads):
     assert "warning" not in patch("threads", "--symbols", "main|add", "--count", "--threads")
-    assert record_threads("threads") == "1998000\n"
+    assert record("threads", "threads") == "1998000\n"
     assert sorted(row.count for row in rows_of("record")) == [1, 4]
     assert LOST not in script("show_coverage", "threads", "record")
 

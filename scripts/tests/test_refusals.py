@@ -11,7 +11,7 @@ from tests.programs import HALTING, Programs, compile_text, inside
 from vaknuhol.recording.thread_use import ONLY_COUNTERS
 
 pytestmark = pytest.mark.xdist_group("refusals")
-REPORT, PATCHED, STARTS, SITES = (path_of("lines", "count", it) for it in ("report", "patched", "starts", "sites"))
+REPORT, PATCHED, STARTS = (path_of("lines", "count", it) for it in ("report", "patched", "starts"))
 
 
 def refused(name, words, text, status, environment=None):
@@ -95,7 +95,7 @@ PATCH: list[tuple[list[str], str]] = [
     ),
 ]
 RUN = [
-    ([STARTS, "a", PATCHED], f"{STARTS} is no report of e9tool patch"),
+    ([STARTS, "a", PATCHED], f"{STARTS} is no report of e9tool"),
     ([REPORT, "a", "./lines"], "./lines is the original: run the patched file, lines.vak/lines.count.patched"),
     ([REPORT, "a", "./dynamic"], f"./dynamic is position independent or dynamic: {STATIC}"),
     (
@@ -112,11 +112,6 @@ RUN = [
         "none.report has no patched site, so there is nothing to record: patch other sites",
     ),
     (["trace.report", "a", PATCHED], "trace.report: these scripts can't read a record of the action trace"),
-    (
-        ["--threads", SITES, REPORT, "a", PATCHED],
-        f"{REPORT} is a report, and e9tool threads writes none: {ONLY_COUNTERS}",
-    ),
-    (["--threads", SITES, STARTS, "a", PATCHED], f"{STARTS} is no summary that e9tool threads printed"),
     (["ring.report", "a", PATCHED], "ring.report is of another run than ring.blocks: patch again"),
 ]
 SHOW = [

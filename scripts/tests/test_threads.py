@@ -10,7 +10,7 @@ import pytest
 
 from tests.calls import SOURCES, run
 from tests.command import PARTS, alike, call, changed, known, patched_below
-from tests.programs import HALTING, Programs, compile_text
+from tests.programs import Programs
 from vaknuhol.recording.record_file import Record
 
 TIMES, SUM = 100000, "19999800000\n"
@@ -69,12 +69,6 @@ def test_each_line_has_as_many_executions_as_the_source_says(threads):
         assert f"BB Table: {sum(1 for it in known(LAST).values() if it)} bbs\n".encode() in file.read()
 
 
-def test_why_a_block_is_left_is_told_where_all_have_one_outcome():
-    compile_text("hlt", "hlt.s", HALTING, "-nostdlib")
-    _, shown = call("count", "hlt", "--symbols", "_start|stop", "--threads")
-    assert "left: NotRelocatable 1\n" in shown and "1 was left (NotRelocatable 1): of these nothing" in shown, shown
-
-
 def test_how_many_blocks_are_left_for_which_reason_is_told_as_they_are_patched(programs):
     """And counts are those of `patch`."""
     programs.bring("sharing", "sharing.s", "-nostdlib")
@@ -121,14 +115,6 @@ def test_a_dump_of_a_program_that_waits_has_all_its_counts(threads):
     finally:
         it.kill()
         it.communicate()
-
-
-def test_a_patched_file_without_a_report_is_written_again_to_be_compared(threads):
-    (path,) = call("count", "threads", "--threads", "--patch-only")[0].split()
-    assert call("check", "threads") == (f"{path}: for threads, written again with the same bytes\n", "")
-    with open(path, "ab") as file:
-        file.write(b"changed")
-    assert call("check", "threads", status=1) == (f"{path}: for threads, written again with other bytes\n", "")
 
 
 def test_a_table_that_is_too_long_for_threads_is_refused(threads):

@@ -83,7 +83,7 @@ class Patching:
         """The arguments after the command, except for any RESERVE."""
         return [self.program, starts, files.sites, self.action.name, files.patched, files.report]
 
-    def outcomes(self, files: RunFiles, printed: str) -> dict[int, str]:
+    def outcomes(self, files: RunFiles) -> dict[int, str]:
         """The sites that are left, with their outcomes."""
         with open(files.report, encoding="ascii") as report:
             return {int(addr, 16): outcome for addr, outcome in re.findall(OUTCOME, report.read())}
@@ -156,7 +156,7 @@ class Patching:
         printed = self.patch_supported(kept.starts, files)
         if printed is None:
             return False
-        left = {**self.outcomes(files, printed),
+        left = {**self.outcomes(files),
                 **{self.tried[number]: NOWHERE for number in self.without_candidates()}}
         if not self.sites or len(left) < len(self.left):
             self.sites, self.left, self.printed = list(self.tried), left, printed

@@ -1,0 +1,119 @@
+"""Reports of patches for threads: what `check` and `unpatch` do by them, and the outcome of each left site."""
+import os
+import re
+import struct
+
+import pytest
+
+from tests.calls import SOURCES, match, run
+from tests.command import call
+from tests.programs import Programs, compile_text
+from vaknuhol.program.program_file import Program, read_bytes, read_text
+from vaknuhol.recording.patch_report import LEFT, Report
+from vaknuhol.recording.record_file import Record
+
+pytestmark = pytest.mark.xdist_group("thread reports")
+COUNTS = bytes.fromhex("F0 48 FF 04 25")  # lock inc of the counter, whose address follows
+PATCHED = r"site ([0-9a-f]+) ([0-9]+) B1\ntramp ([0-9a-f]+) \1 event\nwrite \1 ([0-9a-f]+) (e9[0-9a-f]+)\n"
+
+
+@pytest.fixture
+def stem(programs: Programs) -> str:
+    """The stem of the files that are kept of the program `threads`, in the working folder."""
+    programs.bring("threads", "threads.c", "-pthread")
+    programs.patch("threads", "count", "PROGRAM", "--threads")
+    (path,) = call("count", "threads", "--threads", "--patch-only")[0].split()
+    return path.removesuffix(".patched")
+
+
+def change(path: str, addr: int) -> None:
+    """Changes a bit of a patched file, in the byte at an address."""
+    data = bytearray(read_bytes(path))
+    table, count = struct.unpack_from("<Q", data, 32)[0], struct.unpack_from("<H", data, 56)[0]
+    for entry in range(table, table + 56 * count, 56):
+        kind, _, offset, start, _, length = struct.unpack_from("<IIQQQQ", data, entry)
+        if kind == 1 and start <= addr < start + length:
+            data[offset + addr - start] ^= 8
+            break
+    with open(path, "wb") as file:
+        file.write(data)
+
+
+def checked(stem: str, status: int = 0) -> str:
+    """What `check` prints of the one file that is kept."""
+    return call("check", "threads", status=status)[0].removeprefix(f"{stem}.patched: ").rstrip("\n")
+
+
+def places(stem: str) -> dict[str, int]:
+    """An address of each kind, of a site that is patched by one jump: of code that is none of the patch, of the jump,
+    of the event, of where the counter's address stands in it, and of the counter."""
+    site, number, place, *_ = match(PATCHED, read_text(f"{stem}.report")).groups()
+    event = int(place, 16)
+    found = Program(f"{stem}.patched").read(event, 64).index(COUNTS)
+    return {
+        "code": Program("threads").code[0][0],
+        "jump": int(site, 16) + 1,
+        "event": event,
+        "address of the counter": event + found + len(COUNTS),
+        "counter": Report(f"{stem}.report").private + 64 + 8 * int(number),
+    }
+
+
+def test_check_says_yes_of_a_file_for_threads(stem):
+    assert read_text(f"{stem}.report").startswith("mode threads\ne9report 2\n") and checked(stem) == "check yes"
+
+
+@pytest.mark.parametrize(
+    "kind, rule", [("code", 1), ("jump", 2), ("event", 4), ("address of the counter", 4), ("counter", 5)]
+)
+def test_a_changed_byte_of_a_file_for_threads_is_refused(stem, kind, rule):
+    at = places(stem)[kind]
+    change(f"{stem}.patched", at)
+    assert checked(stem, 1) == f"check no {at:08x} {rule}"
+
+
+@pytest.mark.parametrize("which", [0, 1], ids=["original", "written"])
+def test_a_changed_line_of_written_bytes_is_refused(stem, which):
+    text = read_text(f"{stem}.report")
+    found = match(PATCHED, text)
+    end = found.end(4 + which)
+    with open(f"{stem}.report", "w", encoding="ascii") as file:
+        file.write(text[: end - 1] + f"{int(text[end - 1], 16) ^ 1:x}" + text[end:])
+    last = int(found[1], 16) + len(found[4]) // 2 - 1
+    assert checked(stem, 1) == f"check no {last:08x} 2"
+
+
+def test_a_report_without_its_first_line_is_judged_by_the_other_rules(stem):
+    """And no event for threads is one of `patch`."""
+    text = read_text(f"{stem}.report")
+    with open(f"{stem}.report", "w", encoding="ascii") as file:
+        file.write(text.removeprefix("mode threads\n"))
+    assert re.fullmatch("check no [0-9a-f]{8} 4", checked(stem, 1))
+
+
+def test_unpatch_gives_the_program_with_threads_back(stem):
+    call("unpatch", f"{stem}.patched", "again")
+    assert read_bytes("again") == read_bytes("threads") and os.access("again", os.X_OK)
+
+
+def test_a_patch_without_a_report_is_made_again(stem):
+    """As earlier versions kept it, with what e9tool printed."""
+    os.rename(f"{stem}.report", f"{stem}.summary")
+    _, told = call("unpatch", f"{stem}.patched", "again", status=2)
+    assert "no report stands beside" in told and checked(stem, 1).startswith("fault read "), told
+    _, told = call("count", "threads", "--threads", "--patch-only")
+    assert "patched" in told and checked(stem) == "check yes", told
+
+
+def test_each_left_site_has_its_own_outcome():
+    with open(f"{SOURCES}/sharing.s", encoding="ascii") as file:
+        text = file.read().replace(".bss\n", ".type stop, @function\nstop: hlt\n.bss\n")
+    compile_text("leaving", "leaving.s", text, "-nostdlib")
+    _, told = call("count", "leaving", "--blocks", "--threads", status=115)
+    assert "left: NotRelocatable 1 NoPlan 1 Shared 3\n" in told, told
+    rows = Record("leaving.vak/last.record").rows
+    left = {row.site: row.outcome for row in rows if row.count is None}
+    stop = int(match("([0-9a-f]+) t stop", run("nm", "leaving"))[1], 16)
+    hidden = int(match("([0-9a-f]+) t hidden", run("nm", "leaving"))[1], 16)
+    assert left[stop] == "NotRelocatable" and left[hidden - 4] == "NoPlan", left
+    assert sorted(map(LEFT.index, left.values())) == [0, 1, 2, 2, 2], left

@@ -36,7 +36,8 @@ class RunFiles:
     @classmethod
     def of_program(cls, program: str, action: Action, folder: str | None = None, threads: bool = False) -> "RunFiles":
         name = os.path.basename(program)
-        return cls(os.path.join(folder or file_name(f"{name}.vak"), f"{name}.{THREADS if threads else action.file_part}"))
+        part = THREADS if threads else action.file_part
+        return cls(os.path.join(folder or file_name(f"{name}.vak"), f"{name}.{part}"))
 
 
 def blocks_text(program: Program, action: Action, files: RunFiles, blocks: list[Block], sites: list[int]) -> str:

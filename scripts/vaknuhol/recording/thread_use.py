@@ -16,8 +16,8 @@ from vaknuhol.recording.actions import Action
 from vaknuhol.recording.block_choice import read_original
 from vaknuhol.recording.record_file import Record
 
-# What goes wrong in a program with threads: the events of all actions but cover save registers in the private range.
 ONLY_COUNTERS = "a patch for threads has counters alone, and no ring or condition that threads can share"
+# What goes wrong in a program with threads: the events of all actions but cover save registers in the private range.
 SHARING = "threads share what an event or a displaced call saves registers in"
 KEPT = "threads.json"
 STARTING = r"pthread_create(@.*)?|thrd_create"

@@ -73,8 +73,9 @@ def test_how_many_blocks_are_left_for_which_reason_is_told_as_they_are_patched(p
     """And counts are those of `patch`."""
     programs.bring("sharing", "sharing.s", "-nostdlib")
     _, shown = call("count", "sharing", "--blocks", "--threads", status=115)
-    assert re.search(r"left: .*Shared 3\n", shown) and re.search(
-        r"\), [0-9]+ were left: 2 counts follow from the others, 2 are unknown\n", shown
+    assert (
+        "left: NoPlan 1 Shared 3\n" in shown
+        and "4 were left (NoPlan 1 Shared 3): 2 counts follow from the others, 2 are unknown\n" in shown
     ), shown
     call("count", "sharing", "--blocks", "--record", "plain", status=115)
     ours, theirs = known("sharing.vak/last.record"), known("plain")

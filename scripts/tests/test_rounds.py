@@ -27,7 +27,7 @@ class Told(patching.Patching):
         write_whole(dict.fromkeys((files.sites, files.patched, files.report), str(self.rounds)))
         return "printed\n"
 
-    def outcomes(self, files, printed):
+    def outcomes(self, files):
         return dict.fromkeys(self.tried[: self.numbers[self.rounds - 1]], "NoPlan")
 
     def without_support(self, files):

@@ -116,6 +116,33 @@ __attribute__((noinline)) static int decimal(char *into, int value)
     return 0;
 }
 
+/* Where `is_odd` finds a number above 1, the next statement's test has no code: a row is left of it, and the inlined call begins. */
+static int is_odd(int number)
+{
+    if (number < 2)
+        return 0;
+    return number % 2;
+}
+
+static int odd_part(int number)
+{
+    while (number % 2 == 0)
+        number /= 2;
+    return number;
+}
+
+int parts[64];
+
+__attribute__((noinline)) static int tabulate(int count)
+{
+    int odd = 0;
+    for (int at = 0; at < count; at++) {
+        odd += is_odd(at);
+        parts[at] = at ? odd_part(at) : 0;
+    }
+    return odd;
+}
+
 int main(int count, char **words)
 {
     (void)words;
@@ -131,5 +158,6 @@ int main(int count, char **words)
     decimal(text, 0);
     decimal(text, 4711);
     printf("%d %d\n", count_of("", 'e'), count_of("three e", 'e'));
+    printf("%d\n", tabulate(count + 19));
     return state.now < 0;
 }

@@ -27,11 +27,12 @@ DIFFERENCES = {
 }
 KILLED = range(98, 102)
 # Of moved.c with -O1.
-NO_TRACE, IF_CONVERTED, RETURNS = (
+NO_TRACE, IF_CONVERTED, RETURNS, HEAD = (
     "no code and no row is left of some of the calls, which gcov counted before they were folded",
     "a condition that became a conditional move: the code of its arm is executed always, of the arm itself no block "
     "is left",
     "gcov has all returns on the line of one of them, and none at the function's end",
+    "no code and no row is left of the head of an inlined function",
 )
 MOVED = {
     12: (5, None, NO_TRACE),
@@ -45,6 +46,8 @@ MOVED = {
     100: (None, 1, RETURNS),
     111: (2, 1, "where the loop before goes round, the test isn't made: its outcome follows"),
     117: (None, 2, RETURNS),
+    127: (19, None, HEAD),
+    144: (None, 1, RETURNS),
 }
 # Two units that have one function, of which the linker keeps the first's.
 UNITS = {

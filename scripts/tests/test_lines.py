@@ -121,6 +121,28 @@ def test_the_greatest_count_is_unknown_where_it_is_0_and_another_is_unknown():
     assert (greatest([0, 3]), greatest([0, 1]), greatest([1, 2]), greatest([2])) == (9, 4, None, 0)
 
 
+def threaded(jumps=(), counts=(20, 18, 2, 1, 19, 20)):
+    """A test that was left out on one way: blocks 1, with a row of it, and 2, with the test, lead to block 4 by block
+    3, the other half, and to block 5, its end."""
+    graph = Graph(6)
+    ways = ((0, 1, FALL), (0, 2, JUMP), (2, 3, FALL), (2, 5, JUMP), (1, 4, NEXT), (3, 4, NEXT), (4, 5, NEXT), *jumps)
+    for source, target, kind in ways:
+        graph.add(source, target, kind)
+    graph.open_in[0] = graph.open_out[5] = True
+    lines = LineCounts.__new__(LineCounts)
+    lines.flow = Flow(graph, [*counts])
+    return lines
+
+
+def test_a_line_begins_at_a_row_too_where_its_code_is_reached_by_it():
+    """But not where control may come to that code by neither, or there again."""
+    assert threaded().rows_before({5}, {2}, {1}) == {1}
+    assert threaded().rows_before({5}, {1, 2}, {3}) == set() == threaded().rows_before({5}, {2}, {3})
+    assert threaded().rows_before(set(), {2}, {1}) == set() == threaded().rows_before({5}, {1, 2}, set())
+    again = threaded([(5, 4, JUMP)], (20, 18, 2, 1, 22, 23))
+    assert again.rows_before({5}, {2}, {1}) == set(), "the code goes round"
+
+
 LINES = {3: Line(2, True, 1, []), 5: Line(8, True, 1, [(1, 7)]), 6: Line(0, True, 1, [(0, 0)])}
 
 

@@ -138,7 +138,33 @@ class LineCounts:
         begins = self.copies.begins.get(key, {}).get(copy, set())
         own, traces = (table.get(key, {}).get(copy, []) for table in (self.copies.own, self.copies.traces))
         blocks = own if begins.intersection(own) or not traces else traces
-        return sorted(begins.intersection(blocks)), blocks
+        begun = begins.intersection(blocks)
+        rows = self.rows_before(set(own) - begun, begun, set(traces) - begun) if blocks is own and begun else set()
+        return sorted(begun | rows), sorted({*blocks, *rows})
+
+    def rows_before(self, code: set[int], begins: set[int], traces: set[int]) -> set[int]:
+        """The blocks with rows without code in which a line begins, too, since control comes to other code of it from
+        these and from those in which it begins alone: an optimizer left out a test whose outcome follows there."""
+        found = set[int]()
+        for block in code if traces else ():
+            found |= self.last_rows(block, begins, traces) or set()
+        return found
+
+    def last_rows(self, block: int, begins: set[int], traces: set[int]) -> set[int] | None:
+        """The rows that control passed last before a block; None where it may come there, or come again, without one,
+        nor a block in which the line begins."""
+        graph, edges = self.flow.graph, self.flow.edges
+        rows, seen, work = set[int](), set[int](), [block]
+        while work:
+            at = work.pop()
+            before = {graph.source[edge] for edge in graph.into[at] if edges[edge] != 0}
+            if graph.open_in[at] or not graph.into[at] or OUTSIDE in before:
+                return None
+            rows |= before & traces
+            behind = before - begins - traces - seen
+            seen |= behind
+            work += behind
+        return None if block in seen else rows
 
     def grown(self, begins: set[int], blocks: list[int]) -> list[int]:
         """The blocks in which statements begin, and those of the line to which control comes from these alone."""

@@ -83,7 +83,8 @@ def findings(listing: Listing) -> list[Finding]:
     handlers = sets_handlers(listing)
     if handlers:
         found.append(Finding(False, f"it can set signal handlers (at {handlers:x}): vaknuhol holds signals back while "
-                                    "they would disturb an event; run by itself, only a patch for `cover` is safe with them"))
+                                    "they would disturb an event; run by itself, only a patch for `cover` is safe with "
+                                    "them"))
     return found
 
 

@@ -1,4 +1,5 @@
 pub mod DigitSpellings
+pub mod PlainLines
 pub mod JudgedLines
 pub mod AscendingNumbers
 pub mod ListGrammar

@@ -1,5 +1,6 @@
 pub mod Blanks
 pub mod Digits
+pub mod PlainLines
 pub mod Lines
 pub mod Lists
 pub mod ActionWords

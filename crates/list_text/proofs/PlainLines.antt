@@ -1,12 +1,12 @@
--- A line of eight digits read at once.
-use Rattle.std.proofs.Common.{suc, ◌-◌, take, drop, length-drop, ◌≡◌, ℕ, ◌+◌, ◌*◌, ◌<◌, ◌≤◌, List, [], ◌∷◌, ◌++◌, map, get_or, length, Option, Some, None, unwrap_or, Bool, true, false, cond, refl, sym, ap, ◌∙◌, subst, arith}
-use Rattle.std.specs.Prelude.{◌==◌, ◌&&◌, nat_le}
+-- A first line of eight hexadecimal digits, read by a table of the digits' values.
+use Rattle.std.proofs.Common.{◌-◌, take, drop, length-drop, ◌≡◌, ℕ, ◌+◌, ◌*◌, ◌<◌, ◌≤◌, List, [], ◌∷◌, ◌++◌, map, get_or, length, Some, false, refl, sym, ap, ◌∙◌, subst, arith}
+use Rattle.std.specs.Prelude.{◌==◌, ◌&&◌}
 use Rattle.std.specs.List.{AllByRecursion, range_with_len, before_first, after_first}
 use Rattle.std.proofs.Math.Seq.{drop-cons, take-length}
 use Rattle.std.proofs.lemmas.Bool.Decides.{nat_tests}
 use Rattle.std.proofs.lemmas.List.FromFn.{get_or-map-range_with_len}
 use Rattle.list_text.specs.declared.digits.TheConstants.{HEX_VALUES}
-use Rattle.list_text.specs.Digits.{hex_digit, digit_in, number_behind, hex_number}
+use Rattle.list_text.specs.Digits.{digit_in, number_behind, hex_number}
 use Rattle.list_text.specs.Lines.{is_line_feed, digits_of, line_number}
 use Rattle.list_text.specs.PlainLines.{hex_value}
 use Rattle.list_text.proofs.WordParts.{before_is, after_is}

@@ -1,6 +1,6 @@
-# Sourced by the examples beside it, with the programs that one needs in $needs: it finds e9tool ($E9TOOL, or the proved one of this
-# repository, which `rt run` in crates/e9tool or the gate leaves, or the installed one), and where there is none, it builds one that
-# isn't proved, once for all examples. It goes on in a folder of its own, which is removed at the end. $vaknuhol and $scripts are the
+# Sourced by the examples beside it, each with the programs that it needs in $needs. Finds e9tool ($E9TOOL, or the proved one of this
+# repository, which `rt run` in crates/e9tool or the gate leaves, or the installed one); if there is none, builds one that isn't
+# proved, once for all examples. Goes on in a folder of its own, which is removed at the end. $vaknuhol and $scripts are the
 # repository's or the package's.
 set -e
 tool= top=$(cd "$(dirname "$0")/.." && pwd)

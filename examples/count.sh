@@ -1,6 +1,6 @@
 #!/bin/sh
-# Counts how often each block of a small C program is executed, by the command vaknuhol. fib(12) comes to 465 calls of fib, and
-# the last line that is printed says so.
+# Counts how often each block of a small C program is executed, by the command vaknuhol. fib(12) makes 465 calls of fib, and the
+# last line says so.
 needs="gcc objdump python3"
 . "$(dirname "$0")/begin.sh"
 

@@ -1,5 +1,5 @@
-/* Orders of a shop, as a list: the sum of more of them than there are reads behind the list's end, and crashes. The first
-   word says how many are summed up, and the second what comes then. */
+/* Orders of a shop, as a list: the sum of more of them than there are reads past the list's end, and crashes. The first
+   argument says how many are summed up, the second how the program ends. */
 #include <signal.h>
 #include <stdio.h>
 #include <stdlib.h>

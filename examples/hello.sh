@@ -1,6 +1,6 @@
 #!/bin/sh
 # Builds a small C program, puts a cover event on the `mov` before its `return 7`, runs the patched program, and shows the byte that
-# the event set: the last line ends with 0x01. Where no e9tool is here, it is built first, which takes some minutes.
+# the event set: the last line ends with 0x01. If there is no e9tool yet, it is built first, which takes some minutes.
 needs="gcc objdump gdb"
 . "$(dirname "$0")/begin.sh"
 

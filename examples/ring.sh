@@ -1,7 +1,7 @@
 #!/bin/sh
-# Shows what a program executed last before it crashed: a list of four orders is summed up, five are asked for, and behind the
-# list's end a null pointer is read. The last lines are the last eight executions of blocks, oldest first; the very last is the
-# line of `worth` at which it crashed.
+# Shows what a program executed last before it crashed: it sums up a list of four orders, is asked for five, and reads a null
+# pointer after the list's end. The last lines are the last eight executions of blocks, oldest first; the very last is the line
+# of `worth` at which it crashed.
 needs="gcc objdump python3"
 . "$(dirname "$0")/begin.sh"
 

@@ -162,7 +162,7 @@ def test_with_inlining_the_same_lines_are_executed_as_by_gcov(sources):
     }
     assert not wrong, f"lines are hit by one and missed by the other (gcov's, ours): {wrong}"
     equal = sum(theirs[number] == ours[number] for number in theirs.keys() & ours.keys())
-    assert ours[15] == ours[16] == 30 and ours[17] == 10 and equal >= 30, ours
+    assert ours[15] == ours[16] == ours[18] == 30 and ours[17] == 10 and ours[28] == ours[69] == 1 and equal >= 30, ours
     assert functions["square"]["execution_count"] == 30 and functions["early"]["execution_count"] == 4, functions
 
 
@@ -215,7 +215,8 @@ def test_inlined_functions_are_named_with_where_they_were_inlined(plain, sources
 
 
 def test_an_inlined_call_is_not_entered_by_code_of_it_amidst_the_callers():
-    """The compiler copies its value to a variable of main in a block that begins with main's line."""
+    """The compiler copies its value to a variable of main in a block that begins with main's line. Its return has a
+    row where its code ends."""
     shutil.copyfile(f"{SOURCES}/own.c", "own.c")
     run("gcc", "-O1", "-g", "-static", "-no-pie", "-o", "own", "own.c")
     call("count", "own", "--quiet")
@@ -224,5 +225,7 @@ def test_an_inlined_call_is_not_entered_by_code_of_it_amidst_the_callers():
         told = json.load(file)
     counts = {it["symbol"]: it["execution_count"] for it in told["files"][0]["functions"]}
     assert counts == {"main": 1, "collatz": 2999}, counts
+    lines = {it["line_number"]: it["count"] for it in told["files"][0]["lines"] if not it["gcovr/noncode"]}
+    assert lines[13] == 2999, lines
     shown = call("annotate", "own", "collatz", "--record", "own.vak/last.record")[0]
     assert "collatz, inlined in main, line 20: entered 2999 times\n" in shown, shown

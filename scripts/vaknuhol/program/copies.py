@@ -22,9 +22,9 @@ Blocks = dict[int, list[int]]  # by copies
 
 class Copies:
     """By lines: `own`, the blocks with code of the line, `traces`, those where it has rows of no length, and `begins`,
-    those in which a statement of it begins; `first_line` and `last_line` have the copy and the line in which each block
-    begins and ends. Files are those that are wanted; `others` tells, of a block from which control always goes on to
-    another, what else leads there."""
+    those in which a statement of it begins, or `late`, where one begins just after the code of its call; `first_line`
+    and `last_line` have the copy and the line in which each block begins and ends. Files are those that are wanted;
+    `others` tells, of a block from which control always goes on to another, what else leads there."""
 
     def __init__(self, info: DebugInfo, rows: Sequence[Span], program: Program, wanted: set[int],
                  others: Callable[[int, int], list[int] | None]) -> None:
@@ -33,16 +33,13 @@ class Copies:
         self.own: dict[Key, Blocks] = {}
         self.traces: dict[Key, Blocks] = {}
         self.begins: dict[Key, dict[int, set[int]]] = {}
+        self.late: dict[Key, dict[int, set[int]]] = {}
         self.merged: set[Key] = set()  # lines with rows that have no copy to be counted in
         self.first_line: dict[int, tuple[int, Key]] = {}
         self.last_line: dict[int, tuple[int, Key]] = {}
         self.columns: dict[int, tuple[int, int]] = {}  # of the code with which each block begins and ends
         self.furthest: dict[tuple[int, int, int], int] = {}  # the last line that begins, by copy, file and block
         self.entries, self.heads = self.entry_blocks(), self.heads_of_files()
-        self.calls_at: dict[int, list[int]] = {}
-        for instance in info.instances():
-            if info.kind[instance - 1] & INLINED and info.entry[instance - 1]:
-                self.calls_at.setdefault(info.entry[instance - 1], []).append(instance)
         self.braces = self.opening_braces()
         self.endings = Endings(info, {Statement(*place) for _, *place in self.braces})
         self.take_heads()
@@ -121,11 +118,12 @@ class Copies:
 
     def rightful(self, copy: int, address: int, key: Key) -> int:
         """The copy of code at an address: the innermost one around it whose function has the line, or the call that is
-        entered there and has it; where none has, or the innermost is of a function that the compiler made, which has no
-        line, the innermost."""
+        entered there, or else the one whose code ends there, and has it; where none has, or the innermost is of a
+        function that the compiler made, which has no line, the innermost."""
         if copy and self.info.kind[copy - 1] & ARTIFICIAL:
             return copy
-        return self.holder(self.info.chain(copy), *key) or self.holder(self.calls_at.get(address, []), *key) or copy
+        return (self.holder(self.info.chain(copy), *key) or self.holder(self.info.calls_at.get(address, []), *key)
+                or self.holder(self.info.ended_at.get(address, []), *key) or copy)
 
     def take(self, table: dict[Key, Blocks], key: Key, copy: int, block: int) -> None:
         blocks = table.setdefault(key, {}).setdefault(copy, [])
@@ -136,6 +134,9 @@ class Copies:
         self.begins.setdefault(key, {}).setdefault(copy, set()).add(block)
         place = (copy, key[0], block)
         self.furthest[place] = max(self.furthest.get(place, 0), key[1])
+
+    def end(self, key: Key, copy: int, block: int) -> None:
+        self.late.setdefault(key, {}).setdefault(copy, set()).add(block)
 
     def take_heads(self) -> None:
         """The head of each function has its first block."""
@@ -170,7 +171,7 @@ class Copies:
         info = self.info
         for block, copy, at, piece in self.parts():
             key = (info.piece_file[piece], info.piece_line[piece])
-            copy = self.rightful(copy, at, key)
+            inner, copy = copy, self.rightful(copy, at, key)
             if self.is_artificial(copy) or (copy, *key, info.piece_column[piece]) in self.braces:
                 continue
             if self.is_closing(block, copy, at, piece):
@@ -181,6 +182,9 @@ class Copies:
             column = info.piece_column[piece]
             self.columns[block] = self.columns.get(block, (column, 0))[0], column
             if info.piece_begins[piece] and at == info.piece_low[piece]:
+                if info.has_ended(copy, at):
+                    self.end(key, copy, block)
+                    copy = inner
                 self.begin(key, copy, block)
                 held = self.holder(info.chain(copy), *key)
                 if held and held != copy:
@@ -213,12 +217,16 @@ class Copies:
             if self.is_artificial(inner) or (inner, file, line, column) in self.braces:
                 continue
             held = self.holder(info.around(at, view), file, line)
-            if self.firsts[block] == at and self.is_end_of_last(block, held, point):
-                block, inner = block - 1, held
+            ended = 0 if held else self.holder(info.ended_at.get(at, []), file, line)
+            if self.firsts[block] == at and self.is_end_of_last(block, held or ended, point):
+                block, inner = block - 1, held or ended
             self.begin(key, inner, block)
             if held:
                 self.take(self.traces, key, held, block)
                 self.begin(key, held, block)
+            elif ended:
+                self.take(self.traces, key, ended, block)
+                self.end(key, ended, block)
             else:
                 self.merged.add(key)
 
@@ -233,14 +241,8 @@ class Copies:
         if others is None or endings.code_at(self.firsts[block])[:2] == this[:2]:
             return False
         lines = [self.last_within(other, copy) for other in others]
-        if line and line in lines or self.is_head(this, endings.behind(point), lines):
+        if line and line in lines or endings.is_head(point, lines):
             return False
         last = endings.last_with_code(point)
         is_first = not line and last in endings.first_rows and self.entries.get(copy) == before
         return is_first or line == this[:2] or bool(last and last[:2] == line)
-
-    def is_head(self, this: Statement, behind: Statement, lines: list[Key | None]) -> bool:
-        """Whether a statement is the head of a loop: what stands behind it is deeper, and other ways come from there or
-        below."""
-        is_deeper = behind.file == this.file and behind.line > this.line and behind.column > this.column
-        return is_deeper and all(not it or it[0] != this.file or it[1] >= behind.line for it in lines)

@@ -127,6 +127,29 @@ class DebugInfo:
         return cuts, inner
 
     @functools.cached_property
+    def calls_at(self) -> dict[int, list[int]]:
+        """The inlined calls by the addresses of their entries."""
+        found: dict[int, list[int]] = {}
+        for instance in self.instances():
+            if self.kind[instance - 1] & INLINED and self.entry[instance - 1]:
+                found.setdefault(self.entry[instance - 1], []).append(instance)
+        return found
+
+    @functools.cached_property
+    def ended_at(self) -> dict[int, list[int]]:
+        """The inlined calls by the addresses where code of them ends, the innermost first."""
+        found: dict[int, list[int]] = {}
+        for instance in reversed(self.instances()):
+            for _, end in self.ranges_of(instance) if self.kind[instance - 1] & INLINED else ():
+                found.setdefault(end, []).append(instance)
+        return found
+
+    def has_ended(self, call: int, address: int) -> bool:
+        """Whether code of a call ends at an address that isn't in it, and at which it isn't entered."""
+        is_around = call in self.chain(self.instance_at(address)) or self.entry[call - 1] == address
+        return call in self.ended_at.get(address, ()) and not is_around
+
+    @functools.cached_property
     def entered_at(self) -> dict[int, list[int]]:
         """The inlined calls that have no code where they are entered, by the addresses of that."""
         found: dict[int, list[int]] = {}

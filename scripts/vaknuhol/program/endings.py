@@ -62,3 +62,10 @@ class Endings:
 
     def code_at(self, address: int) -> Statement:
         return self.of_piece(max(bisect.bisect_right(self.info.piece_low, address) - 1, 0))
+
+    def is_head(self, point: int, lines: list[tuple[int, int] | None]) -> bool:
+        """Whether a statement is the head of a loop: what stands behind it is deeper, and other ways come from there or
+        below."""
+        this, behind = self.of_point(point), self.behind(point)
+        is_deeper = behind.file == this.file and behind.line > this.line and behind.column > this.column
+        return is_deeper and all(not it or it[0] != this.file or it[1] >= behind.line for it in lines)

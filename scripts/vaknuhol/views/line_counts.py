@@ -136,7 +136,7 @@ class LineCounts:
     def blocks_of(self, key: Key, copy: int) -> tuple[list[int], list[int]]:
         """The blocks in which statements of a line begin in a copy, and all of it: those with code, but where none of
         these begins a statement, the traces, since such code was moved there."""
-        begins = self.copies.begins.get(key, {}).get(copy, set())
+        begins = self.copies.begins.get(key, {}).get(copy, set()) | self.copies.late.get(key, {}).get(copy, set())
         own, traces = (table.get(key, {}).get(copy, []) for table in (self.copies.own, self.copies.traces))
         blocks = own if begins.intersection(own) or not traces else traces
         begun = begins.intersection(blocks)
@@ -187,14 +187,22 @@ class LineCounts:
             work += ways
         return found
 
+    def beside(self, key: Key, copy: int, block: int) -> set[int]:
+        """The blocks, not of a call, from which control comes to one that begins with a line of it, behind its code."""
+        copies, graph = self.copies, self.flow.graph
+        is_late = block in copies.late.get(key, {}).get(copy, ())
+        if not is_late or not copies.info.has_ended(copy, copies.firsts[block]):
+            return set()
+        return {graph.source[edge] for edge in graph.into[block]}.difference(self.instances.blocks(copy))
+
     def entered(self, blocks: list[int], inside: list[int], called: list[int], tests: Tests) -> int | None:
         """How often control comes to one of these blocks, but from inside or from the called ones, and how often it
         goes round; of a test at the end of a loop, how often it is made, and the loop entered. Where control comes from
         the called ones alone, they were entered as often as the line."""
         calls = [sorted(self.gone_to(inside, set(self.instances.blocks(count)))) for count in called]
         within = {*inside, *(block for call in calls for block in call)}
-        counts = [self.flow.counts[block] if block in tests.latches else self.flow.coming(block, within)
-                  for block in blocks]
+        counts = [self.flow.counts[block] if block in tests.latches
+                  else self.flow.coming(block, within | self.beside(tests.key, tests.copy, block)) for block in blocks]
         known = [count for count in counts if count is not None]
         if len(known) == len(counts) and not sum(known) and (count := self.called_count(called)):
             return count

@@ -156,6 +156,18 @@ def of_branch(it: Difference, _: Others) -> bool:
     return it.ours > 0 and bool(it.begins()) and not any(counts[block] for block in it.begins())
 
 
+def passed(it: Difference, _: Others) -> bool:
+    """The line is a test, and what it lacks comes past it to where that leads: a test before decides it."""
+    is_test = any(is_fork(function, block) for function, blocks in it.places.items() for block in blocks)
+    return is_test and it.less > 0 and it.less in it.ways_past()
+
+
+def returned_past(it: Difference, _: Others) -> bool:
+    """The line is a return, with gcov as often as its calls were entered here: control left some of these past it."""
+    counts = [it.program.told.instances.count_of(copy) or 0 for copy in it.copies if copy]
+    return it.text().startswith("return") and it.less > 0 and it.theirs == sum(counts)
+
+
 def several(it: Difference, _: Others) -> bool:
     """Loops or tests of several statements stand on the line."""
     return sum(is_fork(function, block) for function, blocks in it.places.items() for block in blocks) > 1 and it.text().count(";") > 1
@@ -168,6 +180,7 @@ RULES: tuple[tuple[str, Callable[[Difference, Others], bool]], ...] = (
     ("merged", merged), ("folded copies", folded), ("threaded", threaded), ("moved before", moved_before), ("conditional", conditional),
     ("decided test", decided), ("call", of_call), ("remnant", remnant), ("several statements", several), ("joined", joined), ("other blocks", other_blocks),
     ("ends of blocks", of_ends), ("copies beside", beside), ("calls differ", of_calls), ("on one way", on_one_way), ("branch alone", of_branch),
+    ("passed", passed), ("returned past", returned_past),
 )
 LEFT = "unexplained"
 

@@ -173,7 +173,7 @@ class Difference:
 
     def begins(self) -> set[int]:
         """Those in which a statement of it begins."""
-        return self.blocks_in(self.program.told.copies.begins)
+        return self.blocks_in(self.program.told.copies.begins) | self.blocks_in(self.program.told.copies.late)
 
     def blocks_in(self, table: Mapping[tuple[int, int], Mapping[int, Iterable[int]]]) -> set[int]:
         return {block for blocks in table.get((self.program.numbers.get(self.key[0], -1), self.key[1]), {}).values() for block in blocks}
@@ -185,6 +185,22 @@ class Difference:
         """The counts of the ways to the program's blocks of the line."""
         flow = self.program.told.flow
         return [flow.edges[edge] or 0 for block in self.binary() for edge in flow.graph.into[block]]
+
+    def ways_past(self) -> set[int]:
+        """For each outcome of the program's tests of the line, how often control comes otherwise to where it first meets other ways."""
+        flow, found = self.program.told.flow, set[int]()
+        graph = flow.graph
+        for test in self.binary():
+            for way in graph.out[test] if graph.ways_of_branch(test) is not None else ():
+                passed, at = {test}, graph.target[way]
+                while at not in {*passed, OUTSIDE}:
+                    others = [flow.edges[edge] or 0 for edge in graph.into[at] if graph.source[edge] not in passed]
+                    if any(others) or len(graph.out[at]) != 1:
+                        found.add(sum(others))
+                        break
+                    passed.add(at)
+                    at = graph.target[graph.out[at][0]]
+        return found
 
     def is_in_binary_loop(self) -> bool:
         """Whether control can come from a block of the line to it by blocks with no line outside of gcov's smallest loop of it."""
@@ -262,8 +278,8 @@ class Difference:
 
     def has_no_begin(self) -> bool:
         """Whether in a copy no statement of the line begins."""
-        begins = self.program.told.copies.begins.get((self.program.numbers.get(self.key[0], -1), self.key[1]), {})
-        return any(copy not in begins for copy in self.copies)
+        key, copies = (self.program.numbers.get(self.key[0], -1), self.key[1]), self.program.told.copies
+        return not self.copies.keys() <= copies.begins.get(key, {}).keys() | copies.late.get(key, {}).keys()
 
     def forks(self) -> set[Key]:
         """The lines of the forks from which control comes to gcov's blocks of the line."""

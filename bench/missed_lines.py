@@ -19,8 +19,9 @@ def executed(it: Difference, blocks: set[int]) -> set[int]:
 
 
 def is_test(it: Difference) -> bool:
-    """Whether each of gcov's blocks of the line is a fork, or only leads to one of the line."""
-    blocks = [(function, block) for function, blocks in it.places.items() for block in blocks]
+    """Whether each of gcov's blocks of the line, or of those that were executed, is a fork, or only leads to one of the line."""
+    every = [(function, block) for function, blocks in it.places.items() for block in blocks]
+    blocks = [(function, block) for function, block in every if function.count(block)] or every
     return bool(blocks) and all(
         is_fork(function, block) or any(is_fork(function, way.target) and way.target in it.places[function] for way in function.out(block))
         for function, block in blocks)
@@ -43,13 +44,19 @@ def begins_elsewhere(it: Difference) -> bool:
 
 
 def is_row(it: Difference) -> bool:
-    """A row of no length stands in an executed block, and code of the line in others."""
-    return bool(executed(it, it.binary()))
+    """A row of no length stands in an executed block, in a copy of the line's function or in none, and code of the line in others."""
+    return bool(executed(it, it.binary() | it.begins()))
+
+
+def is_moved(it: Difference) -> bool:
+    """No row of the line begins a statement: what is left of it was moved to where its value is used."""
+    return not it.begins()
 
 
 TESTS: tuple[tuple[str, Callable[[Difference], bool]], ...] = (
     ("code in which no statement begins", begins_nowhere), ("statement begins elsewhere", begins_elsewhere), ("row alone", is_row),
-    ("test without executed code", is_test), ("return without executed code", is_return), ("other statement without executed code", bool),
+    ("test without executed code", is_test), ("return without executed code", is_return), ("value alone", is_moved),
+    ("other statement without executed code", bool),
 )
 
 

@@ -163,9 +163,9 @@ def passed(it: Difference, _: Others) -> bool:
 
 
 def returned_past(it: Difference, _: Others) -> bool:
-    """The line is a return, with gcov as often as its calls were entered here: control left some of these past it."""
+    """The line is a return, with gcov as often as its function was entered here: control left some of the calls past it."""
     counts = [it.program.told.instances.count_of(copy) or 0 for copy in it.copies if copy]
-    return it.text().startswith("return") and it.less > 0 and it.theirs == sum(counts)
+    return it.text().startswith("return") and it.less > 0 and it.theirs == sum(counts + it.copies_without())
 
 
 def several(it: Difference, _: Others) -> bool:

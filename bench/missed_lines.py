@@ -28,7 +28,11 @@ def is_test(it: Difference) -> bool:
 
 
 def is_return(it: Difference) -> bool:
-    """Whether the line is a `return`, or one of gcov's blocks of it leaves its function."""
+    """Whether the line is a `return`, or one of gcov's blocks of it leaves its function; or it has a `break`, and other ways lead to each of
+    gcov's executed blocks of it."""
+    if "break;" in it.text() and all(len(function.into(block)) > 1 for function, blocks in it.places.items() for block in blocks
+                                     if function.count(block)):
+        return True
     return it.text().startswith("return") or any(way.target == EXIT and not way.flags & FAKE for function, blocks in it.places.items()
                                                  for block in blocks for way in function.out(block))
 
@@ -55,7 +59,7 @@ def is_moved(it: Difference) -> bool:
 
 TESTS: tuple[tuple[str, Callable[[Difference], bool]], ...] = (
     ("code in which no statement begins", begins_nowhere), ("statement begins elsewhere", begins_elsewhere), ("row alone", is_row),
-    ("test without executed code", is_test), ("return without executed code", is_return), ("value alone", is_moved),
+    ("test without executed code", is_test), ("return or break without executed code", is_return), ("value alone", is_moved),
     ("other statement without executed code", bool),
 )
 

@@ -4,7 +4,8 @@ one around the code.
 Of a function's first block, the line of its head has the count, and what stands with the opening brace belongs to no
 line. The closing brace of a function that returns a value, of which only the way out is left, has no code either. Rows
 of no length are traces of lines whose code was merged with that of others: such a line has the block there, or the one
-before which it ends (`endings`), in the copy, going outwards, of the function whose head is the nearest above the line.
+before which it ends (`endings`), in the copy, going outwards, of the function whose head is the nearest above the line,
+or else in an inlined call of that function whose code ends there.
 """
 import array
 import bisect

@@ -30,7 +30,7 @@ def ours(bench: Bench, program: str) -> list[str]:
     kept, last = ["--into", bench.path("--blocks0.vak")], bench.path("--blocks0.vak/last.record")
     again = [bench.once([VAKNUHOL, "count", "--blocks", *kept, program, *run]) for _ in range(TURNS)]
     shown = [bench.once([VAKNUHOL, "report", program, last]) for _ in range(TURNS)]
-    return [*found, told("`--blocks` again, its patch kept,", again), told("`report` of it", shown)]
+    return [*found, told("`count --blocks` with the patched file kept", again), told("`report` of its record", shown)]
 
 
 def theirs(bench: Bench, program: str) -> list[str]:
@@ -51,5 +51,5 @@ def commands(bench: Bench) -> list[str]:
     program = shutil.which("bash-static")
     if not program:
         return point(f"**bash-static with a run of `echo`**: {NONE}.")
-    return point("**bash-static with a run of `echo`**, seconds and MiB, by `vaknuhol` into new folders: "
-                 f"{'; '.join(ours(bench, program))}. Others: {'; '.join(theirs(bench, program))}.")
+    return point("**bash-static with a run of `echo`**, seconds and MiB, by `vaknuhol` into a new folder: "
+                 f"{'; '.join(ours(bench, program))}. By other tools: {'; '.join(theirs(bench, program))}.")

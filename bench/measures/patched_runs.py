@@ -16,8 +16,8 @@ def events(bench: Bench) -> list[str]:
     found = []
     for line in told[1:]:
         blocks, plain, *others = line.split()
-        found.append(f"{int(blocks):,}: {', '.join(f'{float(it) - float(plain):.1f}' for it in others)}")
-    return point("**An event**, ns that its two jumps add, these with `cover`, and with `count`, by how many blocks "
+        found.append(f"{int(blocks):,} blocks {', '.join(f'{float(it) - float(plain):.1f}' for it in others)}")
+    return point("**An event**, ns by its two jumps alone, for `cover` and for `count`, by the number of blocks that "
                  f"run in turn: {'; '.join(found)}.")
 
 

@@ -1,4 +1,4 @@
-"""The instructions of a run that callgrind counted, by function and all that it called."""
+"""The instructions of a run that callgrind counted, by function and all that it called, and how often it was called."""
 import re
 
 NAME = re.compile(r"\((\d+)\)(?: (.*))?")
@@ -10,6 +10,7 @@ class Profile:
     def __init__(self, path: str) -> None:
         self.own: dict[str, int] = {}
         self.called: dict[str, int] = {}
+        self.calls: dict[str, int] = {}
         self.numbers: dict[str, str] = {}
         with open(path, encoding="utf-8", errors="replace") as file:
             self.read(file.read().splitlines())
@@ -33,6 +34,7 @@ class Profile:
                 callee = self.name(value)
             elif key == "calls":
                 is_call = True
+                self.calls[callee] = self.calls.get(callee, 0) + int(value.split()[0])
             elif function and line and line[0] in "0123456789+-*":
                 _, *costs = line.split()
                 cost = int(costs[0]) if costs else 0  # none is left out
@@ -40,10 +42,13 @@ class Profile:
                 totals[of] = totals.get(of, 0) + cost
                 is_call = False
 
-    def whole(self, *endings: str) -> int | None:
-        """The instructions of the functions whose name ends so, with what they called; none where no function does."""
-        names = [it for it in {**self.own, **self.called} if without_hash(it).endswith(endings)]
-        return sum(self.called.get(it, self.own.get(it, 0)) for it in names) if names else None
+    def whole(self, ending: str) -> int:
+        """The instructions of the functions whose name ends so, with what they called."""
+        return sum(cost for name, cost in self.called.items() if without_hash(name).endswith(ending))
+
+    def times(self, ending: str) -> int:
+        """How often functions were called whose name ends so."""
+        return sum(calls for name, calls in self.calls.items() if without_hash(name).endswith(ending))
 
 
 def without_hash(name: str) -> str:

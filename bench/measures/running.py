@@ -81,12 +81,12 @@ class Bench:
         """The same of another program, or nothing where it isn't here."""
         return self.took(words) if shutil.which(words[0]) else None
 
-    def counted(self, words: list[str], out: str = "/dev/null") -> int:
+    def counted(self, words: list[str], out: str = os.devnull, allowed: tuple[int, ...] = (0, 1)) -> int:
         """The instructions that a run takes, by callgrind."""
         whole = ["valgrind", "--tool=callgrind", f"--callgrind-out-file={out}", *words]
         found = subprocess.run(whole, cwd=self.folder, capture_output=True, text=True, errors="replace", check=False)
         collected = re.search(r"Collected : (\d+)", found.stderr)
-        if not collected or found.returncode not in (0, 1):
+        if not collected or found.returncode not in allowed:
             sys.exit(f"speed.py: {' '.join(whole)}: {found.returncode}: {found.stdout[-300:]}{found.stderr[-300:]}")
         return int(collected.group(1))
 

@@ -52,8 +52,8 @@ def runs(bench: Bench) -> list[str]:
         told = bench.done([timer, "30", *(bench.path(it) for it in programs)])
         least = dict(zip(programs, least_times(told)))
         cells = (f"{least[it]:.2f}" if it in least else "not written" for it in ("file", "patch", "load"))
-        found.append(f"{number:,}: {', '.join(cells)}")
+        found.append(f"{number:,} runs {', '.join(cells)}")
         for name in programs:
             os.remove(bench.path(name))
-    return point("**A start by runs of pages**, ms by the clock of the original, as `patch` writes it and as `load` "
-                 f"does: {'; '.join(found)}.")
+    return point("**A start by runs of pages**, ms by the clock, of the original, the file by `patch` and the file by "
+                 f"`load`: {'; '.join(found)}.")

@@ -19,19 +19,20 @@ class Search:
 
 SEARCHES = [
     # a jump over its own five bytes
-    Search("B1 at once", "b800000000", []),
+    Search("B1", "b800000000", []),
     # the bytes after the site lead 256 MB up
-    Search("B2 at once", "89d8 b800100000 0010", []),
+    Search("B2", "89d8 b800100000 0010", []),
     # they lead below 0, and one pad leads up
-    Search("T1 at once", "89d8 b800e01000 0010", []),
+    Search("T1", "89d8 b800e01000 0010", []),
     # two shared bytes: the jump that has them high lands below the text by the last of 65,536 values
-    Search("T2 at the last values", "89d8 b800e0e000 c1ff05", free_only(PRIVATE, [(TEXT - 0x400000, TEXT)])),
+    Search("T2, if only the last shared values fit,", "89d8 b800e0e000 c1ff05",
+           free_only(PRIVATE, [(TEXT - 0x400000, TEXT)])),
     # as before, and the instruction after the site can't be displaced
-    Search("T3 at the last values", "89d8 f4 b800e0e000 c1ff05", free_only(PRIVATE, [(TEXT - 0x400000, TEXT)])),
+    Search("T3 likewise", "89d8 f4 b800e0e000 c1ff05", free_only(PRIVATE, [(TEXT - 0x400000, TEXT)])),
     # no address is free, or one page that nearly no pair of jumps reaches
-    Search("nothing, no page free", "89d8 b800e0e000 0010", free_only(PRIVATE, [])),
-    Search("nothing, one page free", "89d8 b800e0e000 0010", free_only(PRIVATE, [(0x20008000, 0x20009000)])),
-    Search("nothing, no T2, one page free", "89d8 f4 b800e0e000 0010", free_only(PRIVATE, [(0x20008000, 0x20009000)])),
+    Search("without a place for it, if no page is free,", "89d8 b800e0e000 0010", free_only(PRIVATE, [])),
+    Search("if one is", "89d8 b800e0e000 0010", free_only(PRIVATE, [(0x20008000, 0x20009000)])),
+    Search("if one is and T2 is impossible", "89d8 f4 b800e0e000 0010", free_only(PRIVATE, [(0x20008000, 0x20009000)])),
 ]
 
 
@@ -74,7 +75,7 @@ def write_blocks(bench: Bench, codes: list[bytes]) -> bytes:
 
 
 def searches(bench: Bench) -> list[str]:
-    """By where the schemes find a place: instructions of a run less those without sites, and in decodings."""
+    """By where the schemes find a place: instructions of a run less those of one without sites, and as decodings."""
     found = []
     bench.write("block", write_blocks(bench, SEARCHES[0].codes))
     decoding = bench.decodings("block")
@@ -85,5 +86,5 @@ def searches(bench: Bench) -> list[str]:
         words[words.index("sites")] = "none"
         each = (whole - bench.counted(words)) / BLOCKS
         found.append(f"{it.name} {each:,.0f} ({each / decoding:.0f})")
-    return point(f"**A site**, instructions, and how many decodings by Zydis ({decoding:.0f} each): "
+    return point(f"**A site**, in instructions (in brackets: in decodings by Zydis, {decoding:.0f} each): "
                  f"{'; '.join(found)}.")

@@ -51,6 +51,7 @@ def guests(bench: Bench) -> list[str]:
     for words in GUESTS:
         whole = [bench.tool, "gen", *words.split()]
         taken, count = bench.took(whole), bench.counted(whole)
-        found.append(f"`{words}` {milliseconds(taken.seconds)} ms, {taken.mib:.0f} MiB, {count / 1e6:.0f} million "
+        found.append(f"`{words}` {milliseconds(taken.seconds)}, {taken.mib:.0f}, {count / 1e6:.0f} "
                      f"({count / decoding / 1e6:.2f})")
-    return point(f"**`gen`**, instructions, and how many decodings by Zydis: {'; '.join(found)}.")
+    return point("**`gen`**, ms, MiB and million instructions (in brackets: in million decodings by Zydis): "
+                 f"{'; '.join(found)}.")

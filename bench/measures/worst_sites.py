@@ -38,14 +38,16 @@ class Row(NamedTuple):
 
 BY_SEGMENTS = ["21000-401000"]
 ROWS = [
-    Row("T3, 17 victims of five bytes", [*NEAR, *FIVE * 17, "0000"], 40, 0, 0, ["402000-410000", "411000-41a000"]),
-    Row("T3, 255 pages, one of each 64 KB", [*NEAR, *SEVEN * 18, *NOPS], 1, 255, 16),
-    Row("T3, one of each 256 KB", [*NEAR, *SEVEN * 18, *NOPS], 1, 255, 64),
-    Row("T2, one of each 256 KB", [*SITE, *SEVEN, *NOPS], 1, 255, 64),
-    Row("T2 and T3, one of each 256 KB", [*SITE, *SEVEN * 18, *NOPS], 1, 255, 64),
-    Row("T2 and T3, 990 pages between segments", [*SITE, *SEVEN * 18, *NOPS], 1, 990, 64, BY_SEGMENTS, True),
-    Row("T2 and T3, 255 pages that leave gaps", [*SITE, *SEVEN * 18, *NOPS], 1, 255, 0, has_gaps=True),
-    Row("T2 and T3, 990 such pages between segments", [*SITE, *SEVEN * 18, *NOPS], 1, 990, 0, BY_SEGMENTS, True, True),
+    Row("T3, 17 victims of five bytes,", [*NEAR, *FIVE * 17, "0000"], 40, 0, 0, ["402000-410000", "411000-41a000"]),
+    Row("T3, 255 free pages, one in each 64 KB,", [*NEAR, *SEVEN * 18, *NOPS], 1, 255, 16),
+    Row("T3, one in each 256 KB,", [*NEAR, *SEVEN * 18, *NOPS], 1, 255, 64),
+    Row("T2 likewise", [*SITE, *SEVEN, *NOPS], 1, 255, 64),
+    Row("T2 and T3 likewise", [*SITE, *SEVEN * 18, *NOPS], 1, 255, 64),
+    Row("T2 and T3, 990 free pages between segments,", [*SITE, *SEVEN * 18, *NOPS], 1, 990, 64, BY_SEGMENTS, True),
+    Row("T2 and T3, 255 free pages whose shared values leave gaps,", [*SITE, *SEVEN * 18, *NOPS], 1, 255, 0,
+        has_gaps=True),
+    Row("T2 and T3, 990 such pages between segments,", [*SITE, *SEVEN * 18, *NOPS], 1, 990, 0, BY_SEGMENTS, True,
+        True),
 ]
 
 
@@ -104,7 +106,7 @@ def worst(bench: Bench) -> list[str]:
         spent = bench.took(with_sites).seconds - bench.took(without).seconds
         count = bench.counted(with_sites) - bench.counted(without)
         found.append(f"{row.name} {1000 * spent / row.sites:.2f}, {count / row.sites / 1e6:.2f}")
-    return point("**Files made to be slow**, nothing found for any site, ms and million instructions a site: "
+    return point("**Files made to be slow**, ms and million instructions for each site, none of which finds a place: "
                  f"{'; '.join(found)}.")
 
 

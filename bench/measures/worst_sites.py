@@ -38,16 +38,15 @@ class Row(NamedTuple):
 
 BY_SEGMENTS = ["21000-401000"]
 ROWS = [
-    Row("T3, 17 victims of five bytes,", [*NEAR, *FIVE * 17, "0000"], 40, 0, 0, ["402000-410000", "411000-41a000"]),
-    Row("T3, 255 free pages, one in each 64 KB,", [*NEAR, *SEVEN * 18, *NOPS], 1, 255, 16),
-    Row("T3, one in each 256 KB,", [*NEAR, *SEVEN * 18, *NOPS], 1, 255, 64),
-    Row("T2 likewise", [*SITE, *SEVEN, *NOPS], 1, 255, 64),
-    Row("T2 and T3 likewise", [*SITE, *SEVEN * 18, *NOPS], 1, 255, 64),
-    Row("T2 and T3, 990 free pages between segments,", [*SITE, *SEVEN * 18, *NOPS], 1, 990, 64, BY_SEGMENTS, True),
-    Row("T2 and T3, 255 free pages whose shared values leave gaps,", [*SITE, *SEVEN * 18, *NOPS], 1, 255, 0,
+    Row("17 victims of five bytes by T3", [*NEAR, *FIVE * 17, "0000"], 40, 0, 0, ["402000-410000", "411000-41a000"]),
+    Row("255 free pages, one in each 64 KB, by T3", [*NEAR, *SEVEN * 18, *NOPS], 1, 255, 16),
+    Row("one in each 256 KB by T3", [*NEAR, *SEVEN * 18, *NOPS], 1, 255, 64),
+    Row("the same by T2", [*SITE, *SEVEN, *NOPS], 1, 255, 64),
+    Row("the same by both", [*SITE, *SEVEN * 18, *NOPS], 1, 255, 64),
+    Row("990 free pages between segments by both", [*SITE, *SEVEN * 18, *NOPS], 1, 990, 64, BY_SEGMENTS, True),
+    Row("255 free pages whose shared values leave gaps by both", [*SITE, *SEVEN * 18, *NOPS], 1, 255, 0,
         has_gaps=True),
-    Row("T2 and T3, 990 such pages between segments,", [*SITE, *SEVEN * 18, *NOPS], 1, 990, 0, BY_SEGMENTS, True,
-        True),
+    Row("990 such pages between segments by both", [*SITE, *SEVEN * 18, *NOPS], 1, 990, 0, BY_SEGMENTS, True, True),
 ]
 
 

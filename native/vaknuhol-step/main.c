@@ -50,7 +50,10 @@ static int has_ended(pid_t process, int *told) {
     return !WIFSTOPPED(*told);
 }
 
-/* Steps up to an end, or so many times; how often. `told` is how it ended, 0 where it is stopped. */
+/* No wait status: the process is stopped. */
+#define STOPPED (-1)
+
+/* Steps up to an end, or so many times; how often. `told` is how it ended, STOPPED where it is stopped. */
 static unsigned long step_through(struct text *text, pid_t process, unsigned long most, int *told) {
     unsigned long steps = 0;
     int number = 0;
@@ -70,7 +73,7 @@ static unsigned long step_through(struct text *text, pid_t process, unsigned lon
             return steps;
         number = WSTOPSIG(*told) == SIGTRAP ? 0 : WSTOPSIG(*told);
     }
-    *told = 0;
+    *told = STOPPED;
     return steps;
 }
 
@@ -104,14 +107,14 @@ int main(int count, char **words) {
     if (!out)
         refuse("%s: %s", words[3], strerror(errno));
     fprintf(out, "steps %lu\n", steps);
-    if (told)
+    if (told != STOPPED)
         fprintf(out, "ended %d\n", WIFEXITED(told) ? WEXITSTATUS(told) : 128 + WTERMSIG(told));
     else
         fprintf(out, "stopped\n");
     write_told(&text, out);
     if (fclose(out))
         refuse("%s: %s", words[3], strerror(errno));
-    if (!told && (ptrace(PTRACE_DETACH, process, NULL, NULL) || has_ended(process, &told)))
+    if (told == STOPPED && (ptrace(PTRACE_DETACH, process, NULL, NULL) || has_ended(process, &told)))
         kill(process, SIGKILL);
     return 0;
 }

@@ -7,6 +7,7 @@ import subprocess
 import pytest
 
 from tests.calls import patch, path_of, run
+from tests.programs import compile_text
 from vaknuhol.commands.fit import stepped
 from vaknuhol.program.listing import Listing
 from vaknuhol.recording.code_support import Support
@@ -156,3 +157,12 @@ def test_no_more_than_code_is_listed(name):
         assert listed_rightly(program, low, high) > 10
         patched_rightly(program, "--blocks")
     patched_rightly(whole, "--functions")
+
+
+@pytest.mark.parametrize("status", (0, 9))
+def test_single_steps_tell_how_a_run_ends(status):
+    """A status of 0 is an end, too; a run of fewer steps is stopped."""
+    name = f"ends_with_{status}"
+    compile_text(name, f"{name}.s", f".globl _start\n_start: mov ${status}, %edi\nmov $60, %eax\nsyscall\n", "-nostdlib")
+    assert stepped(name, [], 0)[:2] == [["steps", "3"], ["ended", str(status)]]
+    assert stepped(name, [], 2)[:2] == [["steps", "2"], ["stopped"]]

@@ -4,6 +4,7 @@ import signal
 import pytest
 
 from tests.calls import TOP, match, patch, path_of, record, script
+from tests.command import call
 from tests.programs import Programs, inside
 from tests.stepping import single_steps
 from tests.tracing import RIP, register
@@ -92,6 +93,7 @@ def test_the_table_shows_what_ran_last_before_a_crash(crashed):
     told = [match(r"^ +(\d) [0-9a-f]{8} [0-9a-f]{8}  (\w+) crash.c:\d+$", line).groups() for line in shown[2:7]]
     assert [number for number, _ in told] == list("12345"), told
     assert [function for _, function in told] == ["discount", "worth", "sum", "sum", "worth"], told
+    assert call("report", "crash", "record", "--table")[0].splitlines() == shown[:7]
     assert script("show_coverage", "crash", "record", "--lcov", "a", status=(2,)) == (
         "show_coverage: --lcov: record is of a ring, which has what ran last and not what ran: patch without --ring\n"
     )

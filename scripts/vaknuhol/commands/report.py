@@ -16,7 +16,7 @@ from vaknuhol.recording.record_folder import FOLDER, expanded, in_one, note_reco
 from vaknuhol.views import callgrind, cobertura, drcov, json_report, lcov
 from vaknuhol.views.code_pages import write_code_pages
 from vaknuhol.views.coverage import Coverage
-from vaknuhol.views.record_table import print_runs, print_table
+from vaknuhol.views.record_table import print_histories, print_runs, print_table
 from vaknuhol.views.source_pages import write_html
 from vaknuhol.views.summary import summary
 
@@ -100,7 +100,9 @@ def do(words: argparse.Namespace) -> int:
     write_outputs([(name, text(coverage)) for name, text in texts if name])
     if words.html:
         (write_html if coverage.files else write_code_pages)(words.html, coverage)
-    if words.table:
+    if words.table and coverage.record.action.is_ring:
+        print_histories(coverage, True)
+    elif words.table:
         print_table(coverage)
     elif not has_output(words):
         for line in summary(coverage):

@@ -146,8 +146,8 @@ class DebugInfo:
 
     def has_ended(self, call: int, address: int) -> bool:
         """Whether code of a call ends at an address that isn't in it, and at which it isn't entered."""
-        is_around = call in self.chain(self.instance_at(address)) or self.entry[call - 1] == address
-        return call in self.ended_at.get(address, ()) and not is_around
+        return (call in self.ended_at.get(address, ()) and self.entry[call - 1] != address
+                and call not in self.chain(self.instance_at(address)))
 
     @functools.cached_property
     def entered_at(self) -> dict[int, list[int]]:

@@ -195,8 +195,8 @@ class Patching:
 
     def left_text(self) -> str:
         beside = sum(outcome == NOWHERE for outcome in self.left.values())
-        return " ".join(part for part in (outcome_counts(self.left.values()), f"{beside} {NOWHERE}" if beside else "")
-                        if part)
+        return ", ".join(part for part in (outcome_counts(self.left.values()), f"{beside} {NOWHERE}" if beside else "")
+                         if part)
 
     def take_over(self, kept: RunFiles) -> None:
         if len(self.left) == len(self.blocks):

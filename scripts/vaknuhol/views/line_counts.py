@@ -2,13 +2,13 @@
 
 In a copy, a line has the blocks in which a statement of it begins: of those with code of it, or where none of these
 begins one, of those with rows without code, since the code was moved from there. Where none begins at all, it has all
-with code of it. Those that only these lead to belong to it, too, and so do rows without code of it if control comes to
-other code of it by them, and by the blocks in which it begins, alone. It is entered as often as they are executed, less
-the times that control comes from one of them, or from a call inlined on this line, to another; and each time that
-control goes round among them counts again, as it does with gcov. Where the count of an edge isn't known, it is the
-greatest of the blocks' counts instead, and so where ways from blocks that aren't in the record lead to one of them. Of a
-block that begins where the code of an inlined call ended, a line of the call has what comes from there. Of coverage, a
-line is executed where any of its blocks is.
+with code of it. Those that only these lead to belong to it, too, and so do rows without code of it if control comes
+to other code of it by them, and by the blocks in which it begins, alone. It is entered as often as they are executed,
+less the times that control comes from one of them, or from a call inlined on this line, to another; and each time
+that control goes round among them counts again, as it does with gcov. Where the count of an edge isn't known, it is
+the greatest of the blocks' counts instead, and so where ways from blocks that aren't in the record lead to one of
+them. Of a block that begins where the code of an inlined call ended, a line of the call has what comes from there. Of
+coverage, a line is executed where any of its blocks is.
 
 A line whose own code wasn't executed, while a call inlined on it was, is executed as often as that call; one of which
 no statement was executed where it begins, while a branch of it was, as often as that branch. A line that has no code,

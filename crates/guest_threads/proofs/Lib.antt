@@ -1,6 +1,6 @@
 pub mod LineSize
 pub mod ThreadSoundness
-pub mod JumpsAfterTurns
+pub mod LinesAfterTurns
 pub mod GuestsOfTurns
 pub mod LoadedThreadFiles
 pub mod WorkedGuest

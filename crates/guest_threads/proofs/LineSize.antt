@@ -1,5 +1,5 @@
 -- How many bytes the code of a line has, for threads.
-use Rattle.std.proofs.Common.{◌≡◌, ℕ, ◌+◌, ◌<◌, ◌≤◌, true, List, length, length-append, Option, Some, None, refl, sym, ap, ap₂, ◌∙◌, arith}
+use Rattle.std.proofs.Common.{◌≡◌, ℕ, ◌+◌, ◌<◌, ◌≤◌, Bool, true, false, List, length, length-append, Option, Some, None, refl, sym, ap, ◌∙◌, arith}
 use Rattle.std.specs.Prelude.{Contains, unwrap_or}
 use Rattle.std.specs.Option.{is_some, option_map}
 use Rattle.std.specs.List.{AllByRecursion}
@@ -19,12 +19,18 @@ use Rattle.image_check.specs.Reports.{Line}
 use Rattle.site_turns.specs.States.{Scene, State}
 use Rattle.site_turns.specs.Folded.{Done, done_by, size_from, code_size, in_code}
 use Rattle.site_turns.proofs.KeptLocks.{within}
-use Rattle.thread_runs.specs.ThreadCode.{thread_event, thread_work, thread_code}
+use Rattle.thread_runs.specs.ThreadCode.{event_len, event_if, thread_work, code_if}
 use Rattle.trampoline.specs.Atomic.{is_atomic, thread_len, back, can_by}
-use Rattle.guest_threads.specs.FromTurns.{IsForThreads, IsOneJump}
+use Rattle.guest_threads.specs.FromTurns.{IsForThreads, IsThreadLine}
+use Rattle.thread_runs.proofs.ThreadTrampolines.{event_long}
 use Rattle.thread_runs.proofs.WorkSize.{told, work_size}
 
-module _ (g : Scene) (t : State) (A : AreEntries g.image g.entries) (T : IsForThreads g) (J : AllByRecursion (IsOneJump g t) (done_by t).lines) where
+-- a turn takes 32 bytes for an event, where there is one, and those of the work
+size_by : (b : Bool) (e : StartEntry) (n : ℕ) → forms.work_length e ≡ Some n → size_from 32 b (Some e) ≡ Some (event_len b + n)
+size_by true e n h = ap (option_map (λ n. 32 + n)) h
+size_by false e n h = ap (option_map (λ n. 0 + n)) h
+
+module _ (g : Scene) (t : State) (A : AreEntries g.image g.entries) (T : IsForThreads g) (J : AllByRecursion (IsThreadLine g t) (done_by t).lines) where
   abbrev d : Done
   d = done_by t
 
@@ -40,9 +46,9 @@ module _ (g : Scene) (t : State) (A : AreEntries g.image g.entries) (T : IsForTh
 
   -- the bytes of a line's code
   module _ (l : Line) (i : In d.lines l) (e : StartEntry) (at : entry_at g.entries l.tramp.start ≡ Some e) (listed : Contains g.entries e) (addr : e.addr ≡ l.tramp.start) where
-    -- one jump leads to the line's trampoline
-    pub one : IsOneJump g t l
-    one = all_in (IsOneJump g t) d.lines l J i
+    -- the line is one of the turns
+    pub one : IsThreadLine g t l
+    one = all_in (IsThreadLine g t) d.lines l J i
 
     -- the fields of the instruction at the line's start: it stands in the original, and can be displaced for threads
     pub record Known : Type 0 where
@@ -63,17 +69,18 @@ module _ (g : Scene) (t : State) (A : AreEntries g.image g.entries) (T : IsForTh
         record { fields = k.fields; spelled = k.spelled; stands = k.stands; len = k.len; form = k.form; size = s.0; displaced = s.1 }
 
     abbrev pub code_with : Known → List ℕ
-    code_with k = thread_code g.private.lo l.number k.fields (e.addr + e.len) l.tramp.place
+    code_with k = code_if l.tramp.event g.private.lo l.number k.fields (e.addr + e.len) l.tramp.place
 
-    -- the code of a line has 32 bytes for the event, and as many as the instruction's own code and the jump back
-    pub long : (k : Known) → length (code_with k) ≡ 32 + (k.size + back (insn_of k.fields))
+    -- the code of a line has as many bytes as its event, the instruction's own code and the jump back
+    long : (k : Known) → length (code_with k) ≡ event_len l.tramp.event + (k.size + back (insn_of k.fields))
     long k =
-        let a : length (thread_event g.private.lo l.number) ≡ 32 = refl in
+        let to = l.tramp.place + event_len l.tramp.event in
+        let event = event_long l.tramp.event g.private.lo l.number in
         omega (
           arith,
-          length-append (thread_event g.private.lo l.number) (thread_work k.fields (e.addr + e.len) (l.tramp.place + 32)),
-          a,
-          work_size k.fields (e.addr + e.len) (l.tramp.place + 32) k.size e.len e.addr k.spelled k.len k.displaced,
+          length-append (event_if l.tramp.event g.private.lo l.number) (thread_work k.fields (e.addr + e.len) to),
+          event,
+          work_size k.fields (e.addr + e.len) to k.size e.len e.addr k.spelled k.len k.displaced,
         )
 
     -- `work_length` of plain turns
@@ -85,8 +92,8 @@ module _ (g : Scene) (t : State) (A : AreEntries g.image g.entries) (T : IsForTh
     -- that is as many bytes as its turn took
     pub size_is : (k : Known) → code_size g l ≡ Some (length (code_with k))
     size_is k =
-        ap (λ o. size_from g.event_size l.tramp.event o) at ∙ ap₂ (λ n b. size_from n b (Some e)) T.event one.event
-        ∙ ap (option_map (λ n. 32 + n)) (plain_size k e.form refl k.form) ∙ ap Some (sym (long k))
+        ap (λ o. size_from g.event_size l.tramp.event o) at ∙ ap (λ n. size_from n l.tramp.event (Some e)) T.event
+        ∙ size_by l.tramp.event e (k.size + back (insn_of k.fields)) (plain_size k e.form refl k.form) ∙ ap Some (sym (long k))
 
     -- each address of this code is one of the line's
     pub in_line : (k : Known) (x : ℕ) → l.tramp.place ≤ x → x < l.tramp.place + length (code_with k) → in_code g x l ≡ true

@@ -28,20 +28,20 @@ use Rattle.scheme_search.proofs.OneJumpBytes.{within_parts}
 use Rattle.site_turns.specs.PrivateRange.{taken_first, IsPrivate}
 use Rattle.site_turns.specs.States.{Scene, State, memory_at, first_state}
 use Rattle.site_turns.specs.Choices.{Choice, state_after}
-use Rattle.site_turns.specs.Laws.{single}
+use Rattle.site_turns.specs.Laws.{five}
 use Rattle.site_turns.specs.Folded.{done_by, in_code, IsLed, IsFolded}
 use Rattle.site_turns.specs.Jobs.{patch_of, AreTurnsOf}
 use Rattle.site_turns.proofs.KeptLocks.{within}
 use Rattle.site_turns.proofs.WrittenMemory.{written_is}
-use Rattle.site_turns.proofs.PlansWithOneJump.{singles_lead}
+use Rattle.site_turns.proofs.LoadedJobs.{five_lead}
 use Rattle.site_turns.proofs.TurnFold.{turns_keep}
-use Rattle.guest_threads.specs.FromTurns.{IsForThreads, thread_scene, threading_of, IsOneJump, HaveCounters, OfCode, IsThreadLoaded, IsThreadJobOf, ThreadJobLoads, IsThreaded, WrittenIsThreaded}
+use Rattle.guest_threads.specs.FromTurns.{IsForThreads, thread_scene, threading_of, IsThreadLine, HaveCounters, OfCode, IsThreadLoaded, IsThreadJobOf, ThreadJobLoads, IsThreaded, WrittenIsThreaded}
 use Rattle.guest_threads.proofs.LineSize.{instruction, code_with, size_is}
-use Rattle.guest_threads.proofs.JumpsAfterTurns.{turns_for_threads, counters_have_room}
+use Rattle.guest_threads.proofs.LinesAfterTurns.{turns_for_threads, counters_have_room}
 use Rattle.guest_threads.proofs.ThreadSoundness.{folded_is_thread_sound}
 use Rattle.thread_runs.proofs.ThreadsTheorem.{threads_followed, threads_followed_with}
 
-module _ (g : Scene) (t : State) (m : Bytes) (j : Job) (A : AreEntries g.image g.entries) (f : IsFolded g t) (T : IsForThreads g) (J : AllByRecursion (IsOneJump g t) (done_by t).lines)
+module _ (g : Scene) (t : State) (m : Bytes) (j : Job) (A : AreEntries g.image g.entries) (f : IsFolded g t) (T : IsForThreads g) (J : AllByRecursion (IsThreadLine g t) (done_by t).lines)
     (counters : HaveCounters g (done_by t).lines) (is : IsJob j) (shown : Shows j m) (o : IsThreadJobOf g t j) where
   -- the original with the job's writes is memory as it stands
   writes_are : (x : ℕ) → with_writes j.writes (image_of j.orig) x ≡ memory_at g t x
@@ -128,12 +128,12 @@ thread_job_loads g t m j A f T J c is shown o = loaded g t m j A f T J c is show
 
 -- what shows the job of turns for threads is sound for threads
 pub shown_is_threaded : (g : Scene) (taken : List Extent) (sites : List StartEntry) (choices : List Choice) (m : Bytes) (j : Job) → AreEntries g.image g.entries
-    → IsForThreads g → g.action ≡ Count → AreTurnsOf g taken single sites choices → IsJob j → Shows j m
+    → IsForThreads g → g.action ≡ Count → AreTurnsOf g taken five sites choices → IsJob j → Shows j m
     → IsThreadJobOf g (state_after g (first_state g) sites choices) j → IsThreaded g (state_after g (first_state g) sites choices) m j
 shown_is_threaded g taken sites choices m j A T count h is shown o =
     let t = state_after g (first_state g) sites choices in
     let q = turns_for_threads g sites choices A T h.sites h.turns in
-    let f = turns_keep g single sites choices singles_lead A h.sites h.turns in
+    let f = turns_keep g five sites choices five_lead A h.sites h.turns in
     let private : IsPrivate taken Count (length sites) g.private = subst (λ (z : Action). IsPrivate taken z (length sites) g.private) count h.private in
     let c = counters_have_room g taken sites choices private h.turns in
     let sound = folded_is_thread_sound g t m (entry_of j.orig) A f T q.0 q.1 (loaded g t m j A f T q.0 c is shown o) in

@@ -1,5 +1,5 @@
 -- The code that is built for a trampoline for threads.
-use Rattle.std.proofs.Common.{◌≡◌, ℕ, ◌+◌, true, List, length, take, Option, Some, None, Result, Ok, Err, Bor, refl, sym, ap, ap₂, ◌∙◌, subst}
+use Rattle.std.proofs.Common.{◌≡◌, ℕ, ◌+◌, Bool, true, List, length, take, Option, Some, None, Result, Ok, Err, Bor, refl, sym, ap, ap₂, ◌∙◌, subst}
 use Rattle.std.specs.Option.{is_some, option_copied}
 use Rattle.std.specs.Prelude.{MatchResult, IfOk, IsOk, IsSome}
 use Rattle.std.proofs.lemmas.Bool.{false≢true}
@@ -16,19 +16,19 @@ use Rattle.trampoline.specs.Atomic.{thread_len, back, can_by}
 use Rattle.site_turns.specs.Modes.{can_in_threads}
 use Rattle.site_turns.proofs.TrampolineCodes.{IsTaken, taken_spelled}
 use Rattle.site_turns.proofs.LeadingPlans.{mapped_some}
-use Rattle.thread_runs.specs.Building.{thread_size}
-use Rattle.thread_runs.specs.ThreadCode.{thread_code}
+use Rattle.thread_runs.specs.Building.{size_if}
+use Rattle.thread_runs.specs.ThreadCode.{code_if}
 use Rattle.guest_threads.specs.ThreadPlanning.{HasThreadCode}
 
 -- what the answer of a call that builds says of the code's length
-abbrev pub TellsSize : Insn → ℕ → ℕ → Result Code NotRelocatable → Type 0
-TellsSize i len addr r = MatchResult r (λ (k : Code). thread_size i len addr ≡ Some (length k.bytes)) (λ z. thread_len i len addr ≡ None)
+abbrev pub TellsSize : Bool → Insn → ℕ → ℕ → Result Code NotRelocatable → Type 0
+TellsSize b i len addr r = MatchResult r (λ (k : Code). size_if b i len addr ≡ Some (length k.bytes)) (λ z. thread_len i len addr ≡ None)
 
 -- where an instruction can be displaced for threads, its code is built
-pub built_ok : (e : StartEntry) (i : Insn) (len : ℕ) (r : Result Code NotRelocatable) → is_some (can_in_threads e) ≡ true → e.form ≡ Some i → len ≡ e.len
-    → TellsSize i len e.addr r → IsOk r
-built_ok e i len (Ok k) h f l t = refl
-built_ok e i len (Err z) h f l t =
+pub built_ok : (b : Bool) (e : StartEntry) (i : Insn) (len : ℕ) (r : Result Code NotRelocatable) → is_some (can_in_threads e) ≡ true → e.form ≡ Some i → len ≡ e.len
+    → TellsSize b i len e.addr r → IsOk r
+built_ok b e i len (Ok k) h f l t = refl
+built_ok b e i len (Err z) h f l t =
     let d : is_some (thread_len i e.len e.addr) ≡ true = mapped_some (λ n. n + back i) (thread_len i e.len e.addr) (ap (λ (o : Option Insn). is_some (can_by o e.len e.addr)) (sym f) ∙ h) in
     absurd (false≢true (ap is_some (sym t) ∙ ap (λ n. is_some (thread_len i n e.addr)) l ∙ d))
 
@@ -48,7 +48,7 @@ copied_there (Some i) h = refl
 -- the code that is built is the trampoline's
 pub has_code : (file : List ℕ) (es : List StartEntry) (e : StartEntry) (i : Insn) (n : ℕ) (ws : List ℕ) (l : Line) (private : ℕ) (code : Code)
     (r : Result Code NotRelocatable) (got : IsTaken file es l.tramp.start e i n ws) → r ≡ Ok code
-    → ((f : Fields) → IsInstruction f → take n ws ≡ spelling f → IfOk r (λ (z : Code). z.bytes ≡ thread_code private l.number f (e.addr + length (take n ws)) l.tramp.place))
+    → ((f : Fields) → IsInstruction f → take n ws ≡ spelling f → IfOk r (λ (z : Code). z.bytes ≡ code_if l.tramp.event private l.number f (e.addr + length (take n ws)) l.tramp.place))
     → HasThreadCode (image_of file) private l code.bytes
 has_code file es e i n ws l private code r got u b =
     let q : IsReadAt file e i = read_at file es l.tramp.start e i got.accepted got.own got.at got.form in
@@ -56,12 +56,12 @@ has_code file es e i n ws l private code r got u b =
     let f = q.fields in
     let spelled = taken_spelled file es l.tramp.start e i n ws got in
     let next : e.addr + length (take n ws) ≡ l.tramp.start + length (spelling f) = ap₂ (λ x y. x + y) a (ap length spelled) in
-    let is : code.bytes ≡ thread_code private l.number f (e.addr + length (take n ws)) l.tramp.place =
-    subst (λ (z : Result Code NotRelocatable). IfOk z (λ (z : Code). z.bytes ≡ thread_code private l.number f (e.addr + length (take n ws)) l.tramp.place)) u
+    let is : code.bytes ≡ code_if l.tramp.event private l.number f (e.addr + length (take n ws)) l.tramp.place =
+    subst (λ (z : Result Code NotRelocatable). IfOk z (λ (z : Code). z.bytes ≡ code_if l.tramp.event private l.number f (e.addr + length (take n ws)) l.tramp.place)) u
     (b f q.is spelled) in
     record {
       fields = f;
       spelled = q.is;
       stands = subst (λ (x : ℕ). Stands (image_of file) x (spelling f)) a q.stands;
-      is = is ∙ ap (λ z. thread_code private l.number f z l.tramp.place) next;
+      is = is ∙ ap (λ z. code_if l.tramp.event private l.number f z l.tramp.place) next;
     }

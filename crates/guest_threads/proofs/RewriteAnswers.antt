@@ -36,7 +36,7 @@ use Rattle.site_turns.specs.PlanLaws.{AreGroups, CanBeWritten, report_under}
 use Rattle.site_turns.proofs.PlannedJobs.{writing_is_job}
 use Rattle.site_turns.proofs.CodeEnds.{IsFitting}
 use Rattle.site_turns.proofs.PlannedReports.{turned_is_report}
-use Rattle.site_turns.proofs.PlansWithOneJump.{singles_lead}
+use Rattle.site_turns.proofs.LoadedJobs.{five_lead}
 use Rattle.rewrite_core.specs.Asked.{Asked, request_of}
 use Rattle.rewrite_core.specs.declared.patching.Patch.{Patch}
 use Rattle.rewrite_core.specs.Origins.{origin_of}
@@ -139,7 +139,7 @@ module _ (a : Asked) (t : Turns) (p : PlannedState) (call : IsCall a t p) where
     may_report =
         let pages = job_pages (request_of a) p patch.groups writes_job in
         subst (IsBody Two) (sym told)
-        (turned_is_report thread_rules singles_lead (request_of a) t patch.groups.homes call.asked (subst IsAction (sym call.action) tt)
+        (turned_is_report thread_rules five_lead (request_of a) t patch.groups.homes call.asked (subst IsAction (sym call.action) tt)
         call.planned.turned.turns call.planned.turned.few pages.0 pages.1)
 
     -- where `emit` failed, its error is an answer

@@ -40,15 +40,16 @@ use Rattle.site_turns.proofs.PlannedJobs.{runs_are, can_be_written}
 use Rattle.site_turns.proofs.PlannedEvents.{IsReady, all_ready}
 use Rattle.site_turns.proofs.PlannedFiles.{patches_are}
 use Rattle.site_turns.proofs.CodeEnds.{IsFitting, fits_under}
-use Rattle.site_turns.proofs.PlansWithOneJump.{singles_lead, entry_listed}
+use Rattle.site_turns.proofs.PlansWithOneJump.{entry_listed}
+use Rattle.site_turns.proofs.LoadedJobs.{five_lead}
 use Rattle.site_turns.proofs.CodeSizes.{one_standing}
 use Rattle.guest_threads.specs.declared.planning.ThreadSetting.{ThreadSetting}
-use Rattle.guest_threads.specs.FromTurns.{IsForThreads, IsOneJump, OfCode, IsThreadJobOf, IsThreaded}
-use Rattle.thread_runs.specs.ThreadCode.{thread_code}
+use Rattle.guest_threads.specs.FromTurns.{IsForThreads, IsThreadLine, OfCode, IsThreadJobOf, IsThreaded}
+use Rattle.thread_runs.specs.ThreadCode.{code_if}
 use Rattle.guest_threads.specs.ThreadPlanning.{HasThreadCode, IsThreadPlanned, IsThreadSetting, CanBuildThread}
 use Rattle.guest_threads.proofs.LineSize.{Known, instruction, size_is}
 use Rattle.guest_threads.proofs.LoadedThreadFiles.{shown_is_threaded}
-use Rattle.guest_threads.proofs.JumpsAfterTurns.{turns_for_threads}
+use Rattle.guest_threads.proofs.LinesAfterTurns.{turns_for_threads}
 
 -- pieces have the sizes of their lines
 sizes_of : (g : Scene) (C : Line → List ℕ → Type 0) (ls : List Line) (bs : List Built)
@@ -75,13 +76,13 @@ module _ (q : Request) (t : Turns) (range : Range) (told : List ReportRow) (A : 
   for_threads : IsForThreads g
   for_threads = record { event = refl; can = refl }
 
-  -- one jump leads to each line's place
-  jumps : AllByRecursion (IsOneJump g (end_under thread_rules q t)) ls
+  -- one jump or two lead to each line's place
+  jumps : AllByRecursion (IsThreadLine g (end_under thread_rules q t)) ls
   jumps = (turns_for_threads g t.entries t.choices A for_threads h.turns.turns.sites h.turns.turns.turns).0
 
   -- each line has a code that can be made
   ready : AllByRecursion (IsReady g) ls
-  ready = all_ready thread_rules singles_lead q t A few h.turns
+  ready = all_ready thread_rules five_lead q t A few h.turns
 
   -- the code of each line can be made
   pub can_build : (s : ThreadSetting) → s.starts.now ≡ q.listed → IsThreadSetting s → AllByRecursion (CanBuildThread s) (lines_of told)
@@ -90,7 +91,7 @@ module _ (q : Request) (t : Turns) (range : Range) (told : List ReportRow) (A : 
       (all_from (CanBuildThread s) ls (λ l i.
       let r : IsReady g l = all_in (IsReady g) ls l ready i in
       let e = entry_there (entry_at q.listed l.tramp.start) r.displaced in
-      let one : IsOneJump g (end_under thread_rules q t) l = all_in (IsOneJump g (end_under thread_rules q t)) ls l jumps i in
+      let one : IsThreadLine g (end_under thread_rules q t) l = all_in (IsThreadLine g (end_under thread_rules q t)) ls l jumps i in
       record {
         set = set;
         number = r.number;
@@ -121,12 +122,12 @@ module _ (q : Request) (t : Turns) (range : Range) (told : List ReportRow) (A : 
         (subst (λ (z : ℕ). Stands (image_of q.file) z (spelling known.fields)) (found_address q.listed l.tramp.start there.entry there.at) known.stands)
 
     -- the code is that of the trampoline
-    is_known : code ≡ thread_code t.private.lo l.number known.fields (there.entry.addr + there.entry.len) l.tramp.place
+    is_known : code ≡ code_if l.tramp.event t.private.lo l.number known.fields (there.entry.addr + there.entry.len) l.tramp.place
     is_known =
         let lo : range.lo ≡ t.private.lo = ap (λ (e : Extent). e.lo) h.private in
         let next : l.tramp.start + length (spelling k.fields) ≡ there.entry.addr + there.entry.len =
         ap₂ (λ x y. x + y) (sym (found_address q.listed l.tramp.start there.entry there.at)) (ap (λ (f : Fields). length (spelling f)) same ∙ known.len) in
-        k.is ∙ (λ j. thread_code (lo j) l.number (same j) (next j) l.tramp.place)
+        k.is ∙ (λ j. code_if l.tramp.event (lo j) l.number (same j) (next j) l.tramp.place)
 
     -- the code of a line has as many bytes as its turn took
     pub line_sized : code_size g l ≡ Some (length code)
@@ -155,11 +156,11 @@ module _ (q : Request) (t : Turns) (p : PlannedState) (a : IsAsked q) (h : IsThr
 
   -- what was planned can be written
   pub writable : CanBeWritten q p
-  writable = can_be_written thread_rules singles_lead q t p a h.turned sizes
+  writable = can_be_written thread_rules five_lead q t p a h.turned sizes
 
   -- each code that was built has bytes, and ends among a program's addresses
   pub fitting : AllByRecursion IsFitting p.built
-  fitting = fits_under thread_rules singles_lead q t a h.turned.turns p.built sizes
+  fitting = fits_under thread_rules five_lead q t a h.turned.turns p.built sizes
 
   module _ (groups : GroupsState) where
     abbrev j : Job
@@ -176,10 +177,10 @@ module _ (q : Request) (t : Turns) (p : PlannedState) (a : IsAsked q) (h : IsThr
         let same : c.fields ≡ f = one_standing (image_of q.file) l.tramp.start c.fields f c.spelled is c.stands stands in
         let lo : p.private.lo ≡ t.private.lo = ap (λ (e : Extent). e.lo) h.turned.private in
         let ends : l.tramp.start + length (spelling c.fields) ≡ next = ap (λ (z : Fields). l.tramp.start + length (spelling z)) same ∙ sym n in
-        let code : x.built.code.bytes ≡ thread_code t.private.lo l.number f next l.tramp.place =
-        c.is ∙ (λ k. thread_code (lo k) l.number (same k) (ends k) l.tramp.place) in
+        let code : x.built.code.bytes ≡ code_if l.tramp.event t.private.lo l.number f next l.tramp.place =
+        c.is ∙ (λ k. code_if l.tramp.event (lo k) l.number (same k) (ends k) l.tramp.place) in
         let place = x.place in
-        let e : views.piece_of x.built ≡ record { addr = l.tramp.place; now = thread_code t.private.lo l.number f next l.tramp.place } =
+        let e : views.piece_of x.built ≡ record { addr = l.tramp.place; now = code_if l.tramp.event t.private.lo l.number f next l.tramp.place } =
         λ k. record { addr = place k; now = code k } in
         subst (Contains j.pieces) e (contains_at j.pieces w.0 (views.piece_of x.built) w.1)
 

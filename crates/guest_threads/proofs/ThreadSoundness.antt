@@ -1,5 +1,5 @@
 -- What the turns have done, loaded with the code of threads, is sound for threads.
-use Rattle.std.proofs.Common.{◌≡◌, inl, inr, ℕ, zero, suc, ◌+◌, ◌*◌, ◌-◌, ◌<◌, ◌≤◌, Bool, true, false, not, ◌&&◌, eqb, leb, ltb, List, [], ◌∷◌, length, Option, Some, None, refl, sym, ap, ap₂, ◌∙◌, subst, arith}
+use Rattle.std.proofs.Common.{◌≡◌, ◌⊎◌, inl, inr, ℕ, zero, suc, ◌+◌, ◌*◌, ◌-◌, ◌<◌, ◌≤◌, Bool, true, false, not, ◌&&◌, eqb, leb, ltb, List, [], ◌∷◌, length, Option, Some, None, refl, sym, ap, ap₂, ◌∙◌, subst, arith}
 use Rattle.std.specs.Prelude.{Contains, count_by, slice_get}
 use Rattle.std.specs.Option.{is_some, option_map, option_to_list}
 use Rattle.std.specs.List.{list_any, AllByRecursion}
@@ -7,26 +7,29 @@ use Rattle.std.proofs.lemmas.Bool.{and_from, cases_eq, cases_order, eqb-true, eq
 use Rattle.pun_base.specs.Memory.{Cell, Bytes}
 use Rattle.length_decode.specs.Spelling.{spelling}
 use Rattle.cpu_state.specs.Bytes.{Stands}
-use Rattle.insn_form.specs.Instruction.{insn_of}
+use Rattle.cpu_state.specs.Fixed.{IsFixed}
 use Rattle.relocate_insn.proofs.FixedCode.{SameCode, fixed_on}
 use Rattle.start_entries.specs.declared.entry.StartEntry.{StartEntry}
 use Rattle.start_entries.specs.Finding.{entry_at}
-use Rattle.start_entries.specs.Leading.{JumpsTo}
+use Rattle.start_entries.specs.Leading.{JumpsTo, Leads}
 use Rattle.start_entries.specs.Standing.{AreEntries}
+use Rattle.start_entries.proofs.ExecutedEntries.{spelling_some}
 use Rattle.patch_report.proofs.ListPlaces.{In, found, any_at, contains_at, place_of, counted_twice, finds, in_flat, from_flat, all_in, some_is}
 use Rattle.image_check.specs.Reports.{Line}
+use Rattle.image_check.proofs.FixedJumps.{any_found}
 use Rattle.image_check.proofs.LoadedCode.{loaded_fixed}
 use Rattle.site_turns.specs.States.{Scene, State, memory_at}
-use Rattle.site_turns.specs.Folded.{Done, done_by, in_runs, starts_at, in_code, IsNewlyTaken, IsKept, IsFolded}
+use Rattle.site_turns.specs.Folded.{Done, done_by, in_runs, starts_at, in_code, IsKept, IsFolded}
+use Rattle.site_turns.specs.Laws.{EventsAreNumbered}
 use Rattle.site_turns.specs.Loaded.{AreShown}
 use Rattle.site_turns.proofs.CellsAndRows.{held_by}
 use Rattle.site_turns.proofs.PlanForms.{entry_here}
-use Rattle.thread_runs.specs.ThreadCode.{thread_code}
-use Rattle.thread_runs.specs.Threading.{ThreadSite, Threading, IsThreadSite, is_code_of, IsThreadSound}
-use Rattle.guest_threads.specs.FromTurns.{IsForThreads, site_of, threading_of, IsOneJump, AreNumbered, IsThreadLoaded, FoldedIsThreadSound}
-use Rattle.trampoline.specs.Atomic.{back}
+use Rattle.thread_runs.specs.ThreadCode.{code_if}
+use Rattle.thread_runs.specs.Threading.{ThreadSite, Threading, next_of, is_new, ByTwoJumps, IsThreadSite, is_code_of, IsThreadSound}
+use Rattle.guest_threads.specs.FromTurns.{IsForThreads, site_of, threading_of, IsThreadLine, IsThreadLoaded, FoldedIsThreadSound}
+use Rattle.site_turns.proofs.CodeEnds.{line_fits}
 use Rattle.site_turns.proofs.CodeSizes.{one_standing}
-use Rattle.guest_threads.proofs.LineSize.{Known as KnownLine, instruction as line_instruction, code_with as line_code, long as line_long, in_line as line_in, one as line_one}
+use Rattle.guest_threads.proofs.LineSize.{Known as KnownLine, instruction as line_instruction, code_with as line_code, size_is as line_size, in_line as line_in, one as line_one}
 
 -- the only element of a list made of an option
 one_of : {X Y : Type 0} (f : X → Y) (o : Option X) (y : Y) → In (option_to_list (option_map f o)) y → (x : X) × (o ≡ Some x) × (f x ≡ y)
@@ -41,7 +44,7 @@ one_of f (Some x) y c = (x, refl, by_place c.0 c.1)
     by_place (suc i) e = absurd cc
 
 module _ (g : Scene) (t : State) (patched : Bytes) (start : ℕ) (A : AreEntries g.image g.entries) (F : IsFolded g t) (T : IsForThreads g)
-    (J : AllByRecursion (IsOneJump g t) (done_by t).lines) (N : AreNumbered (done_by t).lines) (W : IsThreadLoaded g t patched) where
+    (J : AllByRecursion (IsThreadLine g t) (done_by t).lines) (N : EventsAreNumbered (done_by t).lines) (W : IsThreadLoaded g t patched) where
   abbrev R : Threading
   R = threading_of g t patched start
 
@@ -57,7 +60,7 @@ module _ (g : Scene) (t : State) (patched : Bytes) (start : ℕ) (A : AreEntries
     in_lines : In d.lines line
     entry : StartEntry
     at : entry_at g.entries line.tramp.start ≡ Some entry
-    is : record { number = line.number; entry = entry; place = line.tramp.place } ≡ s
+    is : record { number = line.number; entry = entry; place = line.tramp.place; event = line.tramp.event } ≡ s
     listed : Contains g.entries entry
     addr : entry.addr ≡ line.tramp.start
 
@@ -65,7 +68,7 @@ module _ (g : Scene) (t : State) (patched : Bytes) (start : ℕ) (A : AreEntries
   of_site : (s : ThreadSite) → Contains R.sites s → Of s
   of_site s c =
       let q = from_flat (site_of g.entries) d.lines s (place_of R.sites s c) in
-      let o = one_of (λ (e : StartEntry). record { number = q.0.number; entry = e; place = q.0.tramp.place }) (entry_at g.entries q.0.tramp.start) s q.2 in
+      let o = one_of (λ (e : StartEntry). record { number = q.0.number; entry = e; place = q.0.tramp.place; event = q.0.tramp.event }) (entry_at g.entries q.0.tramp.start) s q.2 in
       let f = finds (λ (e : StartEntry). eqb e.addr q.0.tramp.start) g.entries o.0 o.1 in
       record { line = q.0; in_lines = q.1; entry = o.0; at = o.1; is = o.2; listed = contains_at g.entries f.place o.0 f.at; addr = eqb-true o.0.addr q.0.tramp.start f.passes }
 
@@ -83,16 +86,12 @@ module _ (g : Scene) (t : State) (patched : Bytes) (start : ℕ) (A : AreEntries
     abbrev code_with : Known → List ℕ
     code_with k = line_code g t A T J l i e at listed addr k
 
-    -- a line's code is its event, its relocated code and the jump back
-    long : (k : Known) → length (code_with k) ≡ 32 + (k.size + back (insn_of k.fields))
-    long = line_long g t A T J l i e at listed addr
-
     -- an address of a line's code is one of those that its turn took
     in_line : (k : Known) (x : ℕ) → l.tramp.place ≤ x → x < l.tramp.place + length (code_with k) → in_code g x l ≡ true
     in_line = line_in g t A T J l i e at listed addr
 
-    -- one jump leads to the line's place
-    one : IsOneJump g t l
+    -- one jump or two lead to the line's place
+    one : IsThreadLine g t l
     one = line_one g t A T J l i e at listed addr
 
     -- the line's code is loaded, R-X
@@ -108,13 +107,37 @@ module _ (g : Scene) (t : State) (patched : Bytes) (start : ℕ) (A : AreEntries
     -- the line's code ends low enough
     low : (k : Known) → l.tramp.place + length (code_with k) ≤ 0x7FFF1000
     low k =
-        let n = long k in
-        let last = l.tramp.place + length (code_with k) - 1 in
-        let q : IsNewlyTaken g d last = all_in _ d.lines l K.taken i last (in_line k last (omega (arith, n)) (omega (arith, n))) in
-        let h = q.high in omega (arith, h, n)
+        let h = (line_fits g d A l (all_in _ d.lines l K.taken i) (length (code_with k)) (line_size g t A T J l i e at listed addr k)).1 in omega (arith, h)
+
+    -- a jump that stands in memory is loaded
+    moved : (a target : ℕ) → JumpsTo (memory_at g t) a target → JumpsTo patched a target
+    moved a target j = record { fields = j.fields; spelled = j.spelled; stands = fixed_on (memory_at g t) patched a (spelling j.fields) same_code j.stands; rel = j.rel; jump = j.jump; leads = j.leads }
+
+    -- an address where a jump stands is no new one
+    old_at : (a target : ℕ) → JumpsTo (memory_at g t) a target → is_new R a ≡ false
+    old_at a target j = by_bytes (spelling j.fields) (spelling_some j.fields) j.stands
+      where
+        not_new : (q o : Bool) → o ≡ true → (q && not o) ≡ false
+        not_new true o h = ap not h
+        not_new false o h = refl
+
+        by_bytes : (bs : List ℕ) → 1 ≤ length bs → IsFixed (memory_at g t) a bs → is_new R a ≡ false
+        by_bytes [] some s = absurd (omega (arith, some))
+        by_bytes (b ∷ bs) some s = not_new (is_some (patched a)) (is_some (g.image a)) (held_by 1 (t.lock a) (g.image a) s.0)
+
+    -- one jump leads from the instruction to the place, or two, of which the second stands at no listed start and at no new address
+    jumps : Leads (memory_at g t) g.entries e.addr l.tramp.place → JumpsTo patched e.addr l.tramp.place ⊎ ByTwoJumps R e.addr l.tramp.place
+    jumps (inl j) = inl (moved e.addr l.tramp.place j)
+    jumps (inr (mid, a, none, b)) = inr (record {
+      second = mid;
+      there = moved e.addr mid a;
+      unlisted = any_found (λ (e : StartEntry). eqb e.addr mid) g.entries ∙ none;
+      old = old_at mid l.tramp.place b;
+      on = moved mid l.tramp.place b;
+    })
 
     -- the line's site is a patched one
-    site_sound : IsThreadSite R (record { number = l.number; entry = e; place = l.tramp.place })
+    site_sound : IsThreadSite R (record { number = l.number; entry = e; place = l.tramp.place; event = l.tramp.event })
     site_sound =
         let k = instruction in record {
           listed = listed;
@@ -126,7 +149,7 @@ module _ (g : Scene) (t : State) (patched : Bytes) (start : ℕ) (A : AreEntries
           form = k.form;
           size = k.size;
           displaced = k.displaced;
-          jump = moved (subst (λ (z : ℕ). JumpsTo (memory_at g t) z l.tramp.place) (sym addr) one.jump);
+          jump = jumps (subst (λ (z : ℕ). Leads (memory_at g t) g.entries z l.tramp.place) (sym addr) one.leads);
           code = loaded_fixed patched l.tramp.place (code_with k) (let h = low k in omega (arith, h)) (shown k);
           new = λ x a b. new_if (patched x) (g.image x) (byte_shown k x a b) (all_in _ d.lines l W.fresh i x (in_line k x a b));
           low = low k;
@@ -134,9 +157,6 @@ module _ (g : Scene) (t : State) (patched : Bytes) (start : ℕ) (A : AreEntries
       where
         new_if : (o q : Option Cell) → is_some o ≡ true → q ≡ None → (is_some o && not (is_some q)) ≡ true
         new_if o q e f = ap₂ (λ x (y : Option Cell). x && not (is_some y)) e f
-
-        moved : JumpsTo (memory_at g t) e.addr l.tramp.place → JumpsTo patched e.addr l.tramp.place
-        moved j = record { fields = j.fields; spelled = j.spelled; stands = fixed_on (memory_at g t) patched e.addr (spelling j.fields) same_code j.stands; rel = j.rel; jump = j.jump; leads = j.leads }
 
   -- each site is a patched one
   sites : (s : ThreadSite) → Contains R.sites s → IsThreadSite R s
@@ -147,7 +167,7 @@ module _ (g : Scene) (t : State) (patched : Bytes) (start : ℕ) (A : AreEntries
   one_line s t o p e =
       let l : o.line ≡ p.line = some_is o.line p.line (sym o.in_lines.1 ∙ ap (slice_get d.lines) e ∙ p.in_lines.1) in
       let n : o.entry ≡ p.entry = some_is o.entry p.entry (sym o.at ∙ ap (λ (z : Line). entry_at g.entries z.tramp.start) l ∙ p.at) in
-      sym o.is ∙ (λ i. record { number = (l i).number; entry = n i; place = (l i).tramp.place }) ∙ p.is
+      sym o.is ∙ (λ i. record { number = (l i).number; entry = n i; place = (l i).tramp.place; event = (l i).tramp.event }) ∙ p.is
 
   -- where one line at most passes a test, two that pass have one index
   twice : (f : Line → Bool) (o p : ℕ) (l m : Line) → count_by f d.lines ≤ 1 → slice_get d.lines o ≡ Some l → slice_get d.lines p ≡ Some m → f l ≡ true → f m ≡ true → o ≡ p
@@ -168,13 +188,14 @@ module _ (g : Scene) (t : State) (patched : Bytes) (start : ℕ) (A : AreEntries
       one_line s t o p (twice (starts_at a) o.in_lines.0 p.in_lines.0 o.line p.line (K.once a) o.in_lines.1 p.in_lines.1 (eq-eqb o.line.tramp.start a at_s) (eq-eqb p.line.tramp.start a at_t))
 
   -- each number has one site
-  numbers : (s t : ThreadSite) → Contains R.sites s → Contains R.sites t → s.number ≡ t.number → s ≡ t
-  numbers s t c k e =
+  numbers : (s t : ThreadSite) → Contains R.sites s → Contains R.sites t → s.event ≡ true → t.event ≡ true → s.number ≡ t.number → s ≡ t
+  numbers s t c k u v e =
       let o = of_site s c in
       let p = of_site t k in
       elim (cases_eq o.in_lines.0 p.in_lines.0) [
         | inl z ↦ one_line s t o p z
-        | inr n ↦ absurd (N o.in_lines.0 p.in_lines.0 o.line p.line n o.in_lines.1 p.in_lines.1 (ap (λ (z : ThreadSite). z.number) o.is ∙ e ∙ sym (ap (λ (z : ThreadSite). z.number) p.is)))
+        | inr n ↦ absurd (N o.in_lines.0 p.in_lines.0 o.line p.line n o.in_lines.1 p.in_lines.1 (ap (λ (z : ThreadSite). z.event) o.is ∙ u) (ap (λ (z : ThreadSite). z.event) p.is ∙ v)
+            (ap (λ (z : ThreadSite). z.number) o.is ∙ e ∙ sym (ap (λ (z : ThreadSite). z.number) p.is)))
       ]
 
   -- an address of a site's code is one of its line's
@@ -183,8 +204,8 @@ module _ (g : Scene) (t : State) (patched : Bytes) (start : ℕ) (A : AreEntries
       let k = instruction o.line o.in_lines o.entry o.at o.listed o.addr in
       let same : h.fields ≡ k.fields = one_standing g.image o.entry.addr h.fields k.fields h.spelled k.spelled
       (subst (λ (z : ThreadSite). Stands g.image z.entry.addr (spelling h.fields)) (sym o.is) h.stands) k.stands in
-      let e : thread_code g.private.lo s.number h.fields (s.entry.addr + s.entry.len) s.place ≡ code_with o.line o.in_lines o.entry o.at o.listed o.addr k =
-      (λ i. thread_code g.private.lo (sym o.is i).number (same i) ((sym o.is i).entry.addr + (sym o.is i).entry.len) (sym o.is i).place) in
+      let e : code_if s.event g.private.lo s.number h.fields (next_of s) s.place ≡ code_with o.line o.in_lines o.entry o.at o.listed o.addr k =
+      λ i. code_if (sym o.is i).event g.private.lo (sym o.is i).number (same i) (next_of (sym o.is i)) (sym o.is i).place in
       let p : s.place ≡ o.line.tramp.place = ap (λ (z : ThreadSite). z.place) (sym o.is) in
       let n = ap length e in
       in_line o.line o.in_lines o.entry o.at o.listed o.addr k x (omega (arith, q.0, p)) (omega (arith, q.1, p, n))
@@ -210,8 +231,8 @@ module _ (g : Scene) (t : State) (patched : Bytes) (start : ℕ) (A : AreEntries
           let f = found (starts_at o.entry.addr) d.lines o.starts in
           let e : f.is.tramp.start ≡ o.entry.addr = eqb-true f.is.tramp.start o.entry.addr f.passes in
           let at : entry_at g.entries f.is.tramp.start ≡ Some o.entry = ap (entry_at g.entries) e ∙ entry_here g.image g.entries o.entry A o.listed in
-          let s : ThreadSite = record { number = f.is.number; entry = o.entry; place = f.is.tramp.place } in
-          let c : In (site_of g.entries f.is) s = (0, ap (λ (q : Option StartEntry). slice_get (option_to_list (option_map (λ (e : StartEntry). record { number = f.is.number; entry = e; place = f.is.tramp.place }) q)) 0) at) in
+          let s : ThreadSite = record { number = f.is.number; entry = o.entry; place = f.is.tramp.place; event = f.is.tramp.event } in
+          let c : In (site_of g.entries f.is) s = (0, ap (λ (q : Option StartEntry). slice_get (option_to_list (option_map (λ (e : StartEntry). record { number = f.is.number; entry = e; place = f.is.tramp.place; event = f.is.tramp.event }) q)) 0) at) in
           let i = in_flat (site_of g.entries) d.lines f.is s (f.place, f.at) c in
           any_at (λ (s : ThreadSite). leb s.entry.addr x && ltb x (s.entry.addr + s.entry.len)) R.sites i.0 s i.1
           (and_from (leb o.entry.addr x) (ltb x (o.entry.addr + o.entry.len)) (le-leb o.entry.addr x o.low) (lt-ltb x (o.entry.addr + o.entry.len) o.high))
@@ -228,8 +249,8 @@ module _ (g : Scene) (t : State) (patched : Bytes) (start : ℕ) (A : AreEntries
     once = once;
     numbers = numbers;
     apart = apart;
-    counters = λ s c x a b. let k = room_of s c in W.zeros x (omega (arith, a)) (omega (arith, b, k));
-    low = λ s c. let k = room_of s c in let h = W.high in omega (arith, k, h);
+    counters = λ s c v x a b. let k = room_of s c in W.zeros x (omega (arith, a)) (omega (arith, b, k));
+    low = λ s c v. let k = room_of s c in let h = W.high in omega (arith, k, h);
   }
 
 -- what the turns have done, loaded with the code of threads, is sound for threads

@@ -31,7 +31,7 @@ use Rattle.rewrite_core.proofs.OneVerdict.{asked_of, all_listed, has_private}
 use Rattle.rewrite_core.proofs.OneJob.{written_once}
 use Rattle.guest_threads.specs.declared.rewriting.ThreadError.{ThreadError}
 use Rattle.guest_threads.specs.declared.rewriting.ThreadError.TheVariants as threads
-use Rattle.thread_runs.specs.ThreadCode.{thread_code}
+use Rattle.thread_runs.specs.ThreadCode.{code_if}
 use Rattle.guest_threads.specs.ThreadPlanning.{HasThreadCode, IsThreadPlanned}
 use Rattle.guest_threads.specs.ThreadRewriting.{ThreadJob, job_of, IsThreadJobFor, Judges, JudgedOnce}
 
@@ -39,7 +39,7 @@ use Rattle.guest_threads.specs.ThreadRewriting.{ThreadJob, job_of, IsThreadJobFo
 one_code : (q : Request) (p : ℕ) (l : Line) (x y : List ℕ) → HasThreadCode (image_of q.file) p l x → HasThreadCode (image_of q.file) p l y → x ≡ y
 one_code q p l x y h k =
     let same : h.fields ≡ k.fields = one_standing (image_of q.file) l.tramp.start h.fields k.fields h.spelled k.spelled h.stands k.stands in
-    h.is ∙ ap (λ f. thread_code p l.number f (l.tramp.start + length (spelling f)) l.tramp.place) same ∙ sym k.is
+    h.is ∙ ap (λ f. code_if l.tramp.event p l.number f (l.tramp.start + length (spelling f)) l.tramp.place) same ∙ sym k.is
 
 -- what was planned twice is one job
 planned_once : (q : Request) (t u : Turns) (p r : PlannedState) (g h : GroupsState) → IsAsked q → IsThreadPlanned q t p → IsThreadPlanned q u r

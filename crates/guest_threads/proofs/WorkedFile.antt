@@ -56,7 +56,7 @@ use Rattle.scheme_search.proofs.OneJumpBytes.{within_true, within_parts, written
 use Rattle.image_check.proofs.WorkedImage.{only}
 use Rattle.site_turns.specs.Choices.{Choice, Apply}
 use Rattle.site_turns.specs.Jobs.{AreTurnsOf}
-use Rattle.site_turns.specs.Laws.{single}
+use Rattle.site_turns.specs.Laws.{five}
 use Rattle.site_turns.specs.Modes.{can_in_threads, thread_rules}
 use Rattle.site_turns.specs.PlanLaws.{IsAsked, AreGroups}
 use Rattle.site_turns.specs.PlannedState.{PlannedState}
@@ -315,7 +315,7 @@ private_is = record {
 }
 
 -- the row's turns are those of the rules, in a scene that is written out
-turns_told : AreTurnsOf scene (taken_first scene.segments []) single (row_entry ∷ []) choices
+turns_told : AreTurnsOf scene (taken_first scene.segments []) five (row_entry ∷ []) choices
 turns_told = record { private = private_is; sites = (refl, tt, tt); turns = ((can_move, inr (no_b1, inl (b2_first, plan_is))), tt) }
 
 -- ---- what is planned
@@ -344,8 +344,8 @@ scene_is = λ i. record {
 }
 
 -- the row's turns are those of the rules for threads
-turns_are : AreTurnsOf (scene_under thread_rules q turns) (taken_at_first q) single (row_entry ∷ []) choices
-turns_are = subst (λ (g : Scene). AreTurnsOf g (taken_first g.segments []) single (row_entry ∷ []) choices) scene_is turns_told
+turns_are : AreTurnsOf (scene_under thread_rules q turns) (taken_at_first q) five (row_entry ∷ []) choices
+turns_are = subst (λ (g : Scene). AreTurnsOf g (taken_first g.segments []) five (row_entry ∷ []) choices) scene_is turns_told
 
 abbrev planned : PlannedState
 planned = record {

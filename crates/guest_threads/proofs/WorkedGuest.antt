@@ -68,7 +68,7 @@ counting = record {
   patched = row_image;
   entry = 0x401000;
   listed = row_entry ∷ [];
-  sites = record { number = 0; entry = row_entry; place = 0x2401005 } ∷ [];
+  sites = record { number = 0; entry = row_entry; place = 0x2401005; event = true } ∷ [];
   private = 0x20000;
 }
 

@@ -1,5 +1,5 @@
 -- What the turns have done, loaded with the code of threads, is sound for threads, and runs as the original does. Theorems cite it.
-use Rattle.std.specs.Prelude.{◌≡◌, ◌≢◌, ℕ, ◌+◌, ◌*◌, ◌<◌, ◌≤◌, true, false, List, ◌∷◌, length, map, Contains, Some, None, is_some, option_to_list, option_map, slice_get}
+use Rattle.std.specs.Prelude.{◌≡◌, ℕ, ◌+◌, ◌*◌, ◌<◌, ◌≤◌, true, false, List, ◌∷◌, length, map, Contains, Some, None, is_some, option_to_list, option_map}
 use Rattle.std.specs.List.{AllByRecursion, flat_map}
 use Rattle.pun_base.specs.Memory.{Bytes}
 use Rattle.pun_base.specs.declared.action.Action.TheVariants.{Count}
@@ -15,18 +15,18 @@ use Rattle.address_space.specs.declared.extent.Extent.{Extent}
 use Rattle.start_entries.specs.declared.entry.StartEntry.{StartEntry}
 use Rattle.start_entries.specs.Entries.{entries_of}
 use Rattle.start_entries.specs.Finding.{entry_at}
-use Rattle.start_entries.specs.Leading.{JumpsTo}
+use Rattle.start_entries.specs.Leading.{Leads}
 use Rattle.start_entries.specs.Standing.{AreEntries}
 use Rattle.start_entries.specs.Laws.{AreStarts}
 use Rattle.image_check.specs.Reports.{Line}
 use Rattle.site_turns.specs.PrivateRange.{taken_first, IsPrivate}
 use Rattle.site_turns.specs.States.{Scene, State, memory_at, first_state}
 use Rattle.site_turns.specs.Choices.{Choice, IsTurns, state_after}
-use Rattle.site_turns.specs.Laws.{single, AreSites}
+use Rattle.site_turns.specs.Laws.{five, AreSites, EventsAreNumbered}
 use Rattle.site_turns.specs.Folded.{done_by, in_code, IsFolded}
 use Rattle.site_turns.specs.Loaded.{AreShown}
 use Rattle.site_turns.specs.Jobs.{patch_of, AreTurnsOf}
-use Rattle.thread_runs.specs.ThreadCode.{thread_code}
+use Rattle.thread_runs.specs.ThreadCode.{code_if}
 use Rattle.site_turns.specs.Modes.{can_in_threads}
 use Rattle.thread_runs.specs.Theorem.{AreFollowed, GetOut}
 use Rattle.thread_runs.specs.TheoremWithDeliveries.{AreFollowedWith, GetOutWith}
@@ -53,7 +53,7 @@ thread_scene file starts reserves private = record {
 
 -- The site of a line, as threads have it.
 abbrev pub site_of : List StartEntry → Line → List ThreadSite
-site_of es l = option_to_list (option_map (λ e. record { number = l.number; entry = e; place = l.tramp.place }) (entry_at es l.tramp.start))
+site_of es l = option_to_list (option_map (λ e. record { number = l.number; entry = e; place = l.tramp.place; event = l.tramp.event }) (entry_at es l.tramp.start))
 
 -- What was patched for threads, by the lines that the turns have done.
 abbrev pub threading_of : Scene → State → Bytes → ℕ → Threading
@@ -66,17 +66,13 @@ threading_of g t patched entry = record {
   private = g.private.lo;
 }
 
--- A line of B1, B2 or T1: it has an event, the instruction at its start can be displaced and shares
--- no byte with another listed one, and one jump leads to its place.
-pub record IsOneJump (g : Scene) (t : State) (l : Line) : Type 0 where
-  pub event : l.tramp.event ≡ true
+-- A line of the turns, with an event or without: the instruction at its start can be displaced where
+-- threads share memory, and shares no byte with another listed one, and one jump leads to its place,
+-- or two, of which the second stands at no listed start.
+pub record IsThreadLine (g : Scene) (t : State) (l : Line) : Type 0 where
   pub moves : (e : StartEntry) → entry_at g.entries l.tramp.start ≡ Some e → is_some (can_in_threads e) ≡ true
   pub alone : (e : StartEntry) → entry_at g.entries l.tramp.start ≡ Some e → e.shared ≡ false
-  pub jump : JumpsTo (memory_at g t) l.tramp.start l.tramp.place
-
--- No two lines have one number.
-abbrev pub AreNumbered : List Line → Type 0
-AreNumbered ls = (i j : ℕ) (l m : Line) → i ≢ j → slice_get ls i ≡ Some l → slice_get ls j ≡ Some m → l.number ≢ m.number
+  pub leads : Leads (memory_at g t) g.entries l.tramp.start l.tramp.place
 
 -- Each line has a counter in the private range.
 abbrev pub HaveCounters : Scene → List Line → Type 0
@@ -85,7 +81,7 @@ HaveCounters g ls = AllByRecursion (λ l. g.private.lo + 72 + 8 * l.number ≤ g
 -- P holds of a line's place and code, whatever the line's instruction is.
 abbrev pub OfCode : Scene → (ℕ → List ℕ → Type 0) → Line → Type 0
 OfCode g P l = (f : Fields) (next : ℕ) → IsInstruction f → Stands g.image l.tramp.start (spelling f) → next ≡ l.tramp.start + length (spelling f)
-    → P l.tramp.place (thread_code g.private.lo l.number f next l.tramp.place)
+    → P l.tramp.place (code_if l.tramp.event g.private.lo l.number f next l.tramp.place)
 
 -- Loaded are memory as it stands, the code of threads at each place, at new addresses, and the
 -- private range of zeros.
@@ -100,26 +96,26 @@ pub record IsThreadLoaded (g : Scene) (t : State) (patched : Bytes) : Type 0 whe
 -- What the turns for threads have done is sound for threads once it is loaded.
 abbrev pub FoldedIsThreadSound : Type 0
 FoldedIsThreadSound = (g : Scene) (t : State) (patched : Bytes) (entry : ℕ) → AreEntries g.image g.entries → IsFolded g t → IsForThreads g
-    → AllByRecursion (IsOneJump g t) (done_by t).lines → AreNumbered (done_by t).lines → IsThreadLoaded g t patched → IsThreadSound (threading_of g t patched entry)
+    → AllByRecursion (IsThreadLine g t) (done_by t).lines → EventsAreNumbered (done_by t).lines → IsThreadLoaded g t patched → IsThreadSound (threading_of g t patched entry)
 
--- After the turns of B1, B2 and T1 one jump leads to each line's place, and the lines' numbers
--- differ.
+-- After the turns of all five schemes one jump or two lead to each line's place, and of two lines with
+-- an event the numbers differ.
 abbrev pub TurnsForThreads : Type 0
 TurnsForThreads = (g : Scene) (sites : List StartEntry) (choices : List Choice) → AreEntries g.image g.entries → IsForThreads g → AreSites g sites
-    → IsTurns g single (first_state g) sites choices
-    → AllByRecursion (IsOneJump g (state_after g (first_state g) sites choices)) (done_by (state_after g (first_state g) sites choices)).lines
-    × AreNumbered (done_by (state_after g (first_state g) sites choices)).lines
+    → IsTurns g five (first_state g) sites choices
+    → AllByRecursion (IsThreadLine g (state_after g (first_state g) sites choices)) (done_by (state_after g (first_state g) sites choices)).lines
+    × EventsAreNumbered (done_by (state_after g (first_state g) sites choices)).lines
 
 -- The private range of a count has room for each line's counter.
 abbrev pub CountersHaveRoom : Type 0
 CountersHaveRoom = (g : Scene) (taken : List Extent) (sites : List StartEntry) (choices : List Choice) → IsPrivate taken Count (length sites) g.private
-    → IsTurns g single (first_state g) sites choices → HaveCounters g (done_by (state_after g (first_state g) sites choices)).lines
+    → IsTurns g five (first_state g) sites choices → HaveCounters g (done_by (state_after g (first_state g) sites choices)).lines
 
 -- Once what the turns have done is loaded, the patched guest runs as the original does and counts,
 -- and its threads get out of the trampolines, with deliveries and without.
 abbrev pub TurnsAreThreaded : Type 0
 TurnsAreThreaded = (g : Scene) (sites : List StartEntry) (choices : List Choice) (patched : Bytes) (entry : ℕ) → AreEntries g.image g.entries → IsForThreads g → AreSites g sites
-    → IsTurns g single (first_state g) sites choices → IsThreadLoaded g (state_after g (first_state g) sites choices) patched
+    → IsTurns g five (first_state g) sites choices → IsThreadLoaded g (state_after g (first_state g) sites choices) patched
     → AreFollowed (threading_of g (state_after g (first_state g) sites choices) patched entry) × GetOut (threading_of g (state_after g (first_state g) sites choices) patched entry)
     × AreFollowedWith (threading_of g (state_after g (first_state g) sites choices) patched entry) × GetOutWith (threading_of g (state_after g (first_state g) sites choices) patched entry)
 
@@ -133,10 +129,10 @@ pub record IsThreadJobOf (g : Scene) (t : State) (j : Job) : Type 0 where
 
 -- A map that shows the job of the turns for threads loads what they have done.
 abbrev pub ThreadJobLoads : Type 0
-ThreadJobLoads = (g : Scene) (t : State) (m : Bytes) (j : Job) → AreEntries g.image g.entries → IsFolded g t → IsForThreads g → AllByRecursion (IsOneJump g t) (done_by t).lines
+ThreadJobLoads = (g : Scene) (t : State) (m : Bytes) (j : Job) → AreEntries g.image g.entries → IsFolded g t → IsForThreads g → AllByRecursion (IsThreadLine g t) (done_by t).lines
     → HaveCounters g (done_by t).lines → IsJob j → Shows j m → IsThreadJobOf g t j → IsThreadLoaded g t m
 
--- The file that is written for the turns of a file's sites, by B1, B2 and T1, runs with any number of threads as the original does, and
+-- The file that is written for the turns of a file's sites, by all five schemes, runs with any number of threads as the original does, and
 -- counts; it starts where the original does.
 pub record IsThreaded (g : Scene) (t : State) (m : Bytes) (j : Job) : Type 0 where
   pub sound : IsThreadSound (threading_of g t m (entry_of j.orig))
@@ -151,7 +147,7 @@ pub record IsThreaded (g : Scene) (t : State) (m : Bytes) (j : Job) : Type 0 whe
 -- does, and counts.
 abbrev pub WrittenIsThreaded : Type 0
 WrittenIsThreaded = (low : ℕ) (file starts : List ℕ) (reserves : List Range) (private : Extent) (sites : List StartEntry) (choices : List Choice) (m : Bytes) (j : Job)
-    → AreStarts low file starts → AreTurnsOf (thread_scene file starts reserves private) (taken_first (segments file) reserves) single sites choices
+    → AreStarts low file starts → AreTurnsOf (thread_scene file starts reserves private) (taken_first (segments file) reserves) five sites choices
     → IsJob j → Shows j m
     → IsThreadJobOf (thread_scene file starts reserves private)
     (state_after (thread_scene file starts reserves private) (first_state (thread_scene file starts reserves private)) sites choices) j

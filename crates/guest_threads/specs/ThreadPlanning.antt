@@ -14,15 +14,15 @@ use Rattle.site_turns.specs.Modes.{thread_rules, can_in_threads}
 use Rattle.site_turns.specs.PlannedState.{PlannedState}
 use Rattle.site_turns.specs.Planning.{Request, Turns, lines_of, AreCodesBy, IsTurned}
 use Rattle.guest_threads.specs.declared.planning.ThreadSetting.{ThreadSetting}
-use Rattle.thread_runs.specs.ThreadCode.{thread_code}
+use Rattle.thread_runs.specs.ThreadCode.{code_if}
 
--- The code of a trampoline for threads, by the instruction that stands at its start in an image; p is the first address of
+-- The code of a trampoline for threads, with an event or without, by the instruction that stands at its start in an image; p is the first address of
 -- the private range.
 pub record HasThreadCode (image : Bytes) (p : ℕ) (l : Line) (code : List ℕ) : Type 0 where
   pub fields : Fields
   pub spelled : IsInstruction fields
   pub stands : Stands image l.tramp.start (spelling fields)
-  pub is : code ≡ thread_code p l.number fields (l.tramp.start + length (spelling fields)) l.tramp.place
+  pub is : code ≡ code_if l.tramp.event p l.number fields (l.tramp.start + length (spelling fields)) l.tramp.place
 
 -- What was planned is what the turns for threads give: the private range, a row for each site in turn order, and the code of
 -- each trampoline in the order of the rows.

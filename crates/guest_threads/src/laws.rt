@@ -17,7 +17,7 @@ pub fn folded_is_thread_sound()
     ensures { FoldedIsThreadSound }
 {}
 
-/// After the turns of B1, B2 and T1 one jump leads to each trampoline, numbers differ, and each number has a counter.
+/// After the turns of all five schemes one jump or two lead to each trampoline, the numbers of events differ, and each has a counter.
 pub fn turns_for_threads()
     ensures jumps { TurnsForThreads }
     ensures room { CountersHaveRoom }

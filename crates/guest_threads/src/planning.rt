@@ -18,7 +18,7 @@ use site_turns::plan::{TurnedSites, turn_sites};
 use site_turns::planned::Planned;
 use start_entries::starts::Starts;
 use std::alloc::Global;
-use thread_runs::thread_build;
+use thread_runs::thread_trampoline;
 
 /// What the code of trampolines for threads is made of: the original, its starts, and the private
 /// range.
@@ -38,7 +38,8 @@ impl Coding for ThreadSetting<'_> {
         let entry = self.starts.at(tramp.start).unwrap();
         let insn = entry.form.as_ref().unwrap();
         let bytes = &self.elf.window(entry.addr)[..usize::from(entry.len)];
-        thread_build(
+        thread_trampoline(
+            tramp.event,
             insn,
             bytes,
             entry.addr,
@@ -51,7 +52,7 @@ impl Coding for ThreadSetting<'_> {
 }
 
 /// Plans each site for a guest of several threads, from the highest to the lowest: the site gets a
-/// jump to new code, or is left.
+/// jump to new code, or is left. A victim's code has no event.
 ///
 /// `sites` are addresses in ascending order, and no new code stands in the reserved ranges.
 pub fn plan_threads(

@@ -1,5 +1,5 @@
 -- Turns at two states that no turn tells apart have the same plans.
-use Rattle.std.proofs.Common.{Option, inl, inr, ℕ, ◌≤◌, List, [], ◌∷◌, ◌++◌, map, None, sym, ap, ◌∙◌, subst}
+use Rattle.std.proofs.Common.{inl, inr, ℕ, ◌≤◌, List, [], ◌∷◌, ◌++◌, map, None, sym, ap, ◌∙◌, subst}
 use Rattle.std.specs.List.{AllByRecursion}
 use Rattle.pun_base.specs.declared.scheme.Scheme.{Scheme}
 use Rattle.pun_base.specs.declared.outcome.Plan.{Plan}
@@ -27,6 +27,7 @@ with_taken v us = record {
   lock = v.lock;
   taken = us;
   event_size = v.event_size;
+  can = v.can;
 }
 
 module _ (v : TurnView) (us : List Extent) (site : StartEntry) where
@@ -155,17 +156,16 @@ module _ (v : TurnView) (us : List Extent) (site : StartEntry) (A : AreEntries v
   none_of_same (k ∷ ss) h = (none_same v us site A s f k h.0, none_of_same ss h.1)
 
   -- the rules give the same choice beside taken ranges that leave the same addresses free
-  choice_taken : (can : StartEntry → Option ℕ) (ss : List Scheme) (x : Choice) → IsChoice v can ss site x
-      → IsChoice (with_taken v us) can ss site x
-  choice_taken can ss (Apply c plan) h = (h.0, first_of_same ss c plan h.1)
-  choice_taken can ss (Left Immovable) h = h
-  choice_taken can ss (Left Unplanned) h = (h.0, h.1, none_of_same ss h.2)
-  choice_taken can ss (Left Shared) h = h
+  choice_taken : (ss : List Scheme) (x : Choice) → IsChoice v ss site x → IsChoice (with_taken v us) ss site x
+  choice_taken ss (Apply c plan) h = (h.0, first_of_same ss c plan h.1)
+  choice_taken ss (Left Immovable) h = h
+  choice_taken ss (Left Unplanned) h = (h.0, h.1, none_of_same ss h.2)
+  choice_taken ss (Left Shared) h = h
 
 -- the rules give the same choices at two states that no turn tells apart
 pub choice_same : (g : Scene) (ss : List Scheme) (t u : State) (site : StartEntry) (x : Choice) → AreEntries g.image g.entries
     → 1 ≤ site.len
-    → SameState t u → IsChoice (view_at g t) g.can ss site x → IsChoice (view_at g u) g.can ss site x
+    → SameState t u → IsChoice (view_at g t) ss site x → IsChoice (view_at g u) ss site x
 choice_same g ss t u site x A s k h =
     let e : (ℕ → Lock) → TurnView = λ l. record {
       image = g.image;
@@ -174,8 +174,9 @@ choice_same g ss t u site x A s k h =
       lock = l;
       taken = t.taken;
       event_size = (view_at g t).event_size;
+      can = g.can;
     } in
-    choice_taken (e u.lock) u.taken site A s k.free g.can ss x (subst (λ (l : ℕ → Lock). IsChoice (e l) g.can ss site x) k.lock h)
+    choice_taken (e u.lock) u.taken site A s k.free ss x (subst (λ (l : ℕ → Lock). IsChoice (e l) ss site x) k.lock h)
 
 -- the same choice leads from two states that no turn tells apart to two such states, with its row
 pub after_same : (g : Scene) (t u : State) (site : StartEntry) (n : ℕ) (x : Choice) → SameState t u

@@ -90,31 +90,29 @@ module _ (v : TurnView) (site : StartEntry) (A : AreEntries v.image v.entries) w
   plan_may (s ∷ ss) c p (inr h) = plan_may ss c p h.1
 
   -- where a plan is applied there is no reason to leave the site
-  none_left : (can : StartEntry → Option ℕ) (ss : List Scheme) (c : Candidate) (p : Plan) (why : Reason) → IsChoice v can ss site (Apply c p)
-      → IsReason v can ss site why → ⊥
-  none_left can ss c p Immovable h k = not_nothing _ h.0 k.1
-  none_left can ss c p Unplanned h k = not_none ss c p h.1 k.2
-  none_left can ss c p Shared h k = not_shared (plan_may ss c p h.1) k
+  none_left : (ss : List Scheme) (c : Candidate) (p : Plan) (why : Reason) → IsChoice v ss site (Apply c p) → IsReason v ss site why → ⊥
+  none_left ss c p Immovable h k = not_nothing _ h.0 k.1
+  none_left ss c p Unplanned h k = not_none ss c p h.1 k.2
+  none_left ss c p Shared h k = not_shared (plan_may ss c p h.1) k
 
   -- there is one reason
-  reason_same : (can : StartEntry → Option ℕ) (ss : List Scheme) (x y : Reason) → IsReason v can ss site x → IsReason v can ss site y → x ≡ y
-  reason_same can ss Immovable Immovable h k = refl
-  reason_same can ss Immovable Unplanned h k = absurd (not_nothing _ k.1 h.1)
-  reason_same can ss Unplanned Immovable h k = absurd (not_nothing _ h.1 k.1)
-  reason_same can ss Unplanned Unplanned h k = refl
-  reason_same can ss Immovable Shared h k = absurd (not_shared h.0 k)
-  reason_same can ss Unplanned Shared h k = absurd (not_shared h.0 k)
-  reason_same can ss Shared Immovable h k = absurd (not_shared k.0 h)
-  reason_same can ss Shared Unplanned h k = absurd (not_shared k.0 h)
-  reason_same can ss Shared Shared h k = refl
+  reason_same : (ss : List Scheme) (x y : Reason) → IsReason v ss site x → IsReason v ss site y → x ≡ y
+  reason_same ss Immovable Immovable h k = refl
+  reason_same ss Immovable Unplanned h k = absurd (not_nothing _ k.1 h.1)
+  reason_same ss Unplanned Immovable h k = absurd (not_nothing _ h.1 k.1)
+  reason_same ss Unplanned Unplanned h k = refl
+  reason_same ss Immovable Shared h k = absurd (not_shared h.0 k)
+  reason_same ss Unplanned Shared h k = absurd (not_shared h.0 k)
+  reason_same ss Shared Immovable h k = absurd (not_shared k.0 h)
+  reason_same ss Shared Unplanned h k = absurd (not_shared k.0 h)
+  reason_same ss Shared Shared h k = refl
 
   -- there is one choice at a turn
-  choice_same : (can : StartEntry → Option ℕ) (ss : List Scheme) (x y : Choice) → IsChoice v can ss site x
-      → IsChoice v can ss site y → x ≡ y
-  choice_same can ss (Apply c p) (Apply d q) h k = first_of_same ss c d p q h.1 k.1
-  choice_same can ss (Apply c p) (Left why) h k = absurd (none_left can ss c p why h k)
-  choice_same can ss (Left why) (Apply d q) h k = absurd (none_left can ss d q why k h)
-  choice_same can ss (Left why) (Left other) h k = ap Left (reason_same can ss why other h k)
+  choice_same : (ss : List Scheme) (x y : Choice) → IsChoice v ss site x → IsChoice v ss site y → x ≡ y
+  choice_same ss (Apply c p) (Apply d q) h k = first_of_same ss c d p q h.1 k.1
+  choice_same ss (Apply c p) (Left why) h k = absurd (none_left ss c p why h k)
+  choice_same ss (Left why) (Apply d q) h k = absurd (none_left ss d q why k h)
+  choice_same ss (Left why) (Left other) h k = ap Left (reason_same ss why other h k)
 
 -- the choices at all turns are one
 choices_same : (g : Scene) (ss : List Scheme) → AreEntries g.image g.entries → (t : State) (es : List StartEntry) (xs ys : List Choice)
@@ -125,7 +123,7 @@ choices_same g ss A t [] (x ∷ xs) ys h k = absurd h
 choices_same g ss A t (e ∷ es) [] ys h k = absurd h
 choices_same g ss A t (e ∷ es) (x ∷ xs) [] h k = absurd k
 choices_same g ss A t (e ∷ es) (x ∷ xs) (y ∷ ys) h k =
-    let first = choice_same (view_at g t) e A g.can ss x y h.0 k.0 in
+    let first = choice_same (view_at g t) e A ss x y h.0 k.0 in
     let rest = choices_same g ss A (after g t e (length es) x) es xs ys h.1
     (subst (λ (z : Choice). IsTurns g ss (after g t e (length es) z) es ys) (sym first) k.1) in
     λ i. first i ∷ rest i

@@ -134,7 +134,7 @@ all_below g (f ∷ es) e A s c m b =
     (ends_below g.image g.entries A f e (entry_listed g.entries f.addr f s.0) c (inr m) b.0, all_below g es e A s.2 c m b.1)
 
 -- what is locked after a turn was locked before, or the site may be patched, and it lies there or above
-locked_after : (g : Scene) (ss : List Scheme) (t : State) (e : StartEntry) (n : ℕ) (x : Choice) (y : ℕ) → IsChoice (view_at g t) g.can ss e x
+locked_after : (g : Scene) (ss : List Scheme) (t : State) (e : StartEntry) (n : ℕ) (x : Choice) (y : ℕ) → IsChoice (view_at g t) ss e x
     → is_locked ((after g t e n x).lock y) ≡ true → (MayBeSite e × (e.addr ≤ y)) ⊎ (is_locked (t.lock y) ≡ true)
 locked_after g ss t e n (Apply c plan) y h k =
     let a = admissible (view_at g t) e ss c plan h.1 in
@@ -228,7 +228,7 @@ turning_next g ss sites left below site n p q e A l at num h t =
     let x : Choice = t.choice in
     let new : State = after g h.state e (length (rest es below)) x in
     let some : 1 ≤ e.len = (A.each e next.listed).some in
-    let is : IsChoice (view_at g h.state) g.can ss e x =
+    let is : IsChoice (view_at g h.state) ss e x =
     choice_same g ss (state_of p) h.state e x A some (state_sym h.state (state_of p)
     h.same) t.is in
     let places : AreSites g (e ∷ rest es below) = subst (λ (xs : List StartEntry). AreSites g xs) first h.places in

@@ -19,7 +19,7 @@ use Rattle.site_turns.proofs.TurnFold.{AreBelow, first_of, still_below, none_yet
 
 module _ (g : Scene) (ss : List Scheme) (S : AllByRecursion SchemeLeads ss) (A : AreEntries g.image g.entries) where
   -- one turn does, where all locks lie at its site or above
-  one_keeps : (t : State) (e : StartEntry) (n : ℕ) (x : Choice) → IsNext g t e → IsChoice (view_at g t) g.can ss e x → IsFolded g t
+  one_keeps : (t : State) (e : StartEntry) (n : ℕ) (x : Choice) → IsNext g t e → IsChoice (view_at g t) ss e x → IsFolded g t
       → IsAbove e.addr t → IsKeptAt g e (after g t e n x)
   one_keeps t e n (Apply c plan) k h f a =
       let q = first_of (view_at g t) e ss c plan S h.1 in

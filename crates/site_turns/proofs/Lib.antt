@@ -45,3 +45,6 @@ pub mod RequestTurns
 pub mod PlannedEvents
 pub mod CodeEnds
 pub mod CountedEntries
+pub mod DisplacedLines
+pub mod NumberedEvents
+pub mod LedLines

@@ -1,5 +1,5 @@
 -- What one turn does is what the rules give for its site.
-use Rattle.std.proofs.Common.{◌≡◌, inl, inr, ℕ, ◌+◌, true, List, [], ◌∷◌, ◌++◌, map, Some, refl, sym, ap, ◌∙◌, subst, arith}
+use Rattle.std.proofs.Common.{◌≡◌, inl, inr, ℕ, ◌+◌, Bool, true, Option, List, [], ◌∷◌, ◌++◌, map, Some, refl, sym, ap, ◌∙◌, subst, arith}
 use Rattle.std.specs.Prelude.{Contains, unwrap_or}
 use Rattle.std.proofs.lemmas.List.{map-append, length-map}
 use Rattle.pun_base.specs.declared.scheme.Scheme.{Scheme}
@@ -20,13 +20,16 @@ use Rattle.start_entries.specs.Finding.{entry_at}
 use Rattle.start_entries.specs.Standing.{AreEntries}
 use Rattle.start_list.specs.TurnViews.{TurnView, memory_now}
 use Rattle.start_list.specs.PlanJumps.{Jump, is_written}
-use Rattle.start_list.specs.Forms.{Candidate, Trampoline, jumps_of, trampolines_of}
+use Rattle.start_list.specs.Forms.{Candidate, Trampoline, jumps_of, trampolines_of, can_where}
 use Rattle.start_list.specs.Plans.{IsPlanOf, tramp_of}
+use Rattle.site_turns.specs.declared.mode.Mode.{Mode}
+use Rattle.site_turns.specs.declared.mode.Mode.TheVariants.{Events, Threads}
 use Rattle.site_turns.specs.declared.setting.Setting.{Setting}
 use Rattle.site_turns.specs.declared.progress.Progress.{Progress}
 use Rattle.site_turns.specs.States.{view_at, extent_for}
 use Rattle.site_turns.specs.Choices.{Apply, Left, FirstOf, IsReason, IsChoice, row_of}
-use Rattle.site_turns.specs.Modes.{rules_of, event_size_of, can_of, schemes_of}
+use Rattle.site_turns.specs.Laws.{five}
+use Rattle.site_turns.specs.Modes.{event_size_of, can_of, schemes_of}
 use Rattle.site_turns.specs.Turned.{IsJudged, IsSetting, scene_by, state_of, HasSameFree, extent_at, HasApplied, CanEnact, HasEnacted, HasTurned}
 use Rattle.site_turns.proofs.LockedBytes.{admissible}
 use Rattle.site_turns.proofs.PlanForms.{Ground, ground, entry_here}
@@ -37,7 +40,7 @@ use Rattle.site_turns.proofs.AppliedPlans.{setting_entries, size_same, AreFound}
 use Rattle.site_turns.proofs.PlanLocks.{locks_after}
 
 -- the plan of the first scheme that has one is told
-first_told : (v : TurnView) (site : StartEntry) (ss : List Scheme) (c : Candidate) (plan : Plan) → FirstOf v site ss c plan
+pub first_told : (v : TurnView) (site : StartEntry) (ss : List Scheme) (c : Candidate) (plan : Plan) → FirstOf v site ss c plan
     → IsPlanOf v site c plan
 first_told v site [] c plan f = absurd f
 first_told v site (s ∷ ss) c plan (inl f) = f.1
@@ -45,7 +48,7 @@ first_told v site (s ∷ ss) c plan (inr f) = first_told v site ss c plan f.1
 
 -- what the rules give for a site can be done
 pub can_enact : (s : Setting) (site : StartEntry) (p : Progress) (outcome : Outcome) → Contains s.starts.now site
-    → IsJudged (rules_of s.mode) (view_at (scene_by s []) (state_of p)) site outcome → CanEnact s outcome p
+    → IsJudged (schemes_of s.mode) (view_at (scene_by s []) (state_of p)) site outcome → CanEnact s outcome p
 can_enact s site p (Patched plan) l j = record {
   site = site;
   candidate = j.0;
@@ -82,7 +85,7 @@ module _ (s : Setting) (h : IsSetting s) (shut : List Extent) (site : StartEntry
   here = entry_here v.image v.entries site A listed
 
   -- a plan is applied
-  applied_is : (plan : Plan) (q r : Progress) (c : Candidate) → IsChoice v (can_of s.mode) (schemes_of s.mode) site (Apply c plan)
+  applied_is : (plan : Plan) (q r : Progress) (c : Candidate) → IsChoice v (schemes_of s.mode) site (Apply c plan)
       → HasApplied s plan p q
       → r.locks ≡ q.locks → r.space ≡ q.space
       → map row_value r.rows.items ≡ map row_value p.rows.items ++ row_of site number (Apply c plan) ∷ []
@@ -116,7 +119,7 @@ module _ (s : Setting) (h : IsSetting s) (shut : List Extent) (site : StartEntry
 
   -- where the site is left, the state stays, with one row more
   left_done : (why : Reason) (q r : Progress) (row : ReportRow) (outcome : Outcome) → outcome_value outcome ≡ left why
-      → IsReason v (can_of s.mode) (schemes_of s.mode) site why → q ≡ p → r.locks ≡ q.locks → r.space ≡ q.space
+      → IsReason v (schemes_of s.mode) site why → q ≡ p → r.locks ≡ q.locks → r.space ≡ q.space
       → r.rows.items ≡ q.rows.items ++ row ∷ [] → row ≡ record { site = site.addr; number = number; outcome = outcome }
       → HasTurned (scene_by s shut) (schemes_of s.mode) site number p r
   left_done why q r row outcome o j k el es er e = record {
@@ -133,7 +136,7 @@ module _ (s : Setting) (h : IsSetting s) (shut : List Extent) (site : StartEntry
   }
 
   -- a turn whose outcome is as the rules judge, and that has enacted it, is done
-  pub turned : (outcome : Outcome) (q r : Progress) (row : ReportRow) → IsJudged (rules_of s.mode) v site outcome
+  pub turned : (outcome : Outcome) (q r : Progress) (row : ReportRow) → IsJudged (schemes_of s.mode) v site outcome
       → HasEnacted s outcome p q → r.locks ≡ q.locks → r.space ≡ q.space
       → r.rows.items ≡ q.rows.items ++ row ∷ [] → row ≡ record { site = site.addr; number = number; outcome = outcome }
       → HasTurned (scene_by s shut) (schemes_of s.mode) site number p r
@@ -144,21 +147,33 @@ module _ (s : Setting) (h : IsSetting s) (shut : List Extent) (site : StartEntry
   turned NoPlan q r row j k el es er e = left_done Unplanned q r row NoPlan refl j k el es er e
   turned SharesBytes q r row j k el es er e = left_done Shared q r row SharesBytes refl j k el es er e
 
+-- all five schemes are tried in each mode
+all_tried : (m : Mode) → five ≡ schemes_of m
+all_tried (Events action) = refl
+all_tried Threads = refl
+
 -- what is judged by a turn's view is judged at the state that the turns so far have left
-pub judged_here : (s : Setting) (site : StartEntry) (p : Progress) (outcome : Outcome) (k : ℕ) → k ≡ event_size_of s.mode
-    → IsJudged (rules_of s.mode) (record {
+pub judged_here : (s : Setting) (site : StartEntry) (p : Progress) (outcome : Outcome) (k : ℕ) (threads : Bool) → k ≡ event_size_of s.mode
+    → can_where threads ≡ can_of s.mode
+    → IsJudged five (record {
       image = image_of s.elf.now.bytes;
       segments = segments s.elf.now.bytes;
       entries = s.starts.now;
       lock = lock_at p.locks;
       taken = p.space.taken;
       event_size = k;
-    }) site outcome → IsJudged (rules_of s.mode) (view_at (scene_by s []) (state_of p)) site outcome
-judged_here s site p outcome k e h = subst (λ (n : ℕ). IsJudged (rules_of s.mode) (record {
-  image = image_of s.elf.now.bytes;
-  segments = segments s.elf.now.bytes;
-  entries = s.starts.now;
-  lock = lock_at p.locks;
-  taken = p.space.taken;
-  event_size = n;
-}) site outcome) e h
+      can = can_where threads;
+    }) site outcome → IsJudged (schemes_of s.mode) (view_at (scene_by s []) (state_of p)) site outcome
+judged_here s site p outcome k threads e f h =
+    let v : ℕ → (StartEntry → Option ℕ) → TurnView = λ n can. record {
+      image = image_of s.elf.now.bytes;
+      segments = segments s.elf.now.bytes;
+      entries = s.starts.now;
+      lock = lock_at p.locks;
+      taken = p.space.taken;
+      event_size = n;
+      can = can;
+    } in
+    subst (λ (ss : List Scheme). IsJudged ss (v (event_size_of s.mode) (can_of s.mode)) site outcome) (all_tried s.mode)
+    (subst (λ (can : StartEntry → Option ℕ). IsJudged five (v (event_size_of s.mode) can) site outcome) f
+    (subst (λ (n : ℕ). IsJudged five (v n (can_where threads)) site outcome) e h))

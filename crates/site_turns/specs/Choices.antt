@@ -1,5 +1,5 @@
 -- What becomes of each site at its turn, the state after it, and the turns of sites that descend. Theorems cite it.
-use Rattle.std.specs.Prelude.{◌≡◌, ◌⊎◌, ℕ, true, List, [], ◌∷◌, length, Option, None, is_some}
+use Rattle.std.specs.Prelude.{◌≡◌, ◌⊎◌, ℕ, true, List, [], ◌∷◌, length, None, is_some}
 use Rattle.pun_base.specs.declared.scheme.Scheme.{Scheme}
 use Rattle.pun_base.specs.declared.outcome.Plan.{Plan}
 use Rattle.patch_report.specs.Values.{RowValue, Reason, Immovable, Unplanned, Shared, OutcomeValue, patched, left, plan_value}
@@ -28,15 +28,15 @@ FirstOf v site (s ∷ ss) c plan =
     ⊎ (FirstPlan v site s None × FirstOf v site ss c plan)
 
 -- Why the rules leave a site, where these schemes are tried: that it shares bytes comes first.
-abbrev pub IsReason : TurnView → (StartEntry → Option ℕ) → List Scheme → StartEntry → Reason → Type 0
-IsReason v can ss site Shared = site.shared ≡ true
-IsReason v can ss site Immovable = MayBeSite site × (can site ≡ None)
-IsReason v can ss site Unplanned = MayBeSite site × (is_some (can site) ≡ true) × NoneOf v site ss
+abbrev pub IsReason : TurnView → List Scheme → StartEntry → Reason → Type 0
+IsReason v ss site Shared = site.shared ≡ true
+IsReason v ss site Immovable = MayBeSite site × (v.can site ≡ None)
+IsReason v ss site Unplanned = MayBeSite site × (is_some (v.can site) ≡ true) × NoneOf v site ss
 
 -- What the rules give at a turn, where these schemes are tried in this order. The site of an admissible plan shares no bytes.
-abbrev pub IsChoice : TurnView → (StartEntry → Option ℕ) → List Scheme → StartEntry → Choice → Type 0
-IsChoice v can ss site (Apply c plan) = (is_some (can site) ≡ true) × FirstOf v site ss c plan
-IsChoice v can ss site (Left why) = IsReason v can ss site why
+abbrev pub IsChoice : TurnView → List Scheme → StartEntry → Choice → Type 0
+IsChoice v ss site (Apply c plan) = (is_some (v.can site) ≡ true) × FirstOf v site ss c plan
+IsChoice v ss site (Left why) = IsReason v ss site why
 
 -- The outcome of a choice, as a report tells it.
 abbrev pub outcome_of : Choice → OutcomeValue
@@ -59,7 +59,7 @@ IsTurns g ss t [] [] = Unit {0}
 IsTurns g ss t [] (x ∷ xs) = ⊥
 IsTurns g ss t (e ∷ es) [] = ⊥
 IsTurns g ss t (e ∷ es) (x ∷ xs) =
-    IsChoice (view_at g t) g.can ss e x × IsTurns g ss (after g t e (length es) x) es xs
+    IsChoice (view_at g t) ss e x × IsTurns g ss (after g t e (length es) x) es xs
 
 -- The state after the turns of sites that descend, with these choices.
 abbrev pub state_after : Scene → State → List StartEntry → List Choice → State

@@ -1,5 +1,5 @@
 -- What the turns keep, and what follows for the written file. Theorems cite it.
-use Rattle.std.specs.Prelude.{◌≡◌, ℕ, ◌+◌, ◌<◌, ◌≤◌, true, List, [], ◌∷◌, length, Some, Contains}
+use Rattle.std.specs.Prelude.{◌≡◌, ◌≢◌, ℕ, ◌+◌, ◌<◌, ◌≤◌, true, List, [], ◌∷◌, length, slice_get, Some, is_some, Contains}
 use Rattle.std.specs.List.{AllByRecursion}
 use Rattle.pun_base.specs.Memory.{Bytes}
 use Rattle.pun_base.specs.declared.scheme.Scheme.{Scheme}
@@ -12,9 +12,10 @@ use Rattle.patch_report.specs.Grammar.{IsTold, CountsDown}
 use Rattle.byte_locks.specs.declared.lock.Lock.TheVariants.{Free}
 use Rattle.start_entries.specs.declared.entry.StartEntry.{StartEntry}
 use Rattle.start_entries.specs.Finding.{entry_at}
+use Rattle.start_entries.specs.Leading.{Leads}
 use Rattle.start_entries.specs.Standing.{AreEntries}
 use Rattle.start_list.specs.TurnViews.{TurnView}
-use Rattle.start_list.specs.Forms.{Candidate, scheme_of, jumps_of, trampolines_of}
+use Rattle.start_list.specs.Forms.{Candidate, MayBeSite, scheme_of, jumps_of, trampolines_of}
 use Rattle.start_list.specs.Admissible.{IsAdmissible}
 use Rattle.start_list.specs.Plans.{IsPlanOf}
 use Rattle.image_check.specs.Reports.{Line}
@@ -23,7 +24,7 @@ use Rattle.image_check.specs.Soundness.{rewriting_of}
 use Rattle.image_check.specs.Headline.{Headline}
 use Rattle.site_turns.specs.States.{Scene, HasEvents, State, view_at, memory_at, first_state, applied, passed_over, report_of}
 use Rattle.site_turns.specs.Choices.{Choice, Apply, Left, row_of, IsTurns, state_after}
-use Rattle.site_turns.specs.Folded.{IsFolded, LeadBy, is_locked, code_size}
+use Rattle.site_turns.specs.Folded.{IsFolded, LeadBy, done_by, is_locked, code_size}
 use Rattle.site_turns.specs.Loaded.{IsLoaded, case_of}
 
 -- The schemes with one trampoline.
@@ -107,6 +108,43 @@ TurnsTell =
     → IsTurns g ss (first_state g) sites choices
     → ((state_after g (first_state g) sites choices).rows ≡ rows_of sites choices)
     × CountsDown (rows_of sites choices)
+
+-- A trampoline does the work of a listed instruction that shares no byte and may be displaced.
+pub record Displaces (g : Scene) (l : Line) : Type 0 where
+  pub entry : StartEntry
+  pub listed : entry_at g.entries l.tramp.start ≡ Some entry
+  pub may : MayBeSite entry
+  pub movable : is_some (g.can entry) ≡ true
+
+-- After the turns of all sites each trampoline, of a site or of a victim, does the work of an
+-- instruction that may be displaced, whatever choices the rules give, by any schemes.
+abbrev pub TurnsDisplace : Type 0
+TurnsDisplace =
+    (g : Scene) (ss : List Scheme) (sites : List StartEntry) (choices : List Choice)
+    → AreEntries g.image g.entries → AreSites g sites → IsTurns g ss (first_state g) sites choices
+    → AllByRecursion (Displaces g) (done_by (state_after g (first_state g) sites choices)).lines
+
+-- No two trampolines with an event have one number.
+abbrev pub EventsAreNumbered : List Line → Type 0
+EventsAreNumbered ls =
+    (i j : ℕ) (l m : Line) → i ≢ j → slice_get ls i ≡ Some l → slice_get ls j ≡ Some m
+    → l.tramp.event ≡ true → m.tramp.event ≡ true → l.number ≢ m.number
+
+-- After the turns of all sites no two trampolines with an event have one number, whatever choices
+-- the rules give, by any schemes.
+abbrev pub TurnsNumber : Type 0
+TurnsNumber =
+    (g : Scene) (ss : List Scheme) (sites : List StartEntry) (choices : List Choice)
+    → IsTurns g ss (first_state g) sites choices
+    → EventsAreNumbered (done_by (state_after g (first_state g) sites choices)).lines
+
+-- In memory as it stands each trampoline's start leads to it, where the invariant of the turns
+-- holds.
+abbrev pub FoldedLeads : Type 0
+FoldedLeads =
+    (g : Scene) (t : State) → IsFolded g t
+    → AllByRecursion (λ l. Leads (memory_at g t) g.entries l.tramp.start l.tramp.place)
+    (done_by t).lines
 
 -- A trampoline's code has as many bytes as its range.
 abbrev pub CodeFills : Type 0

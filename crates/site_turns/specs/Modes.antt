@@ -4,21 +4,16 @@ use Rattle.pun_base.specs.declared.action.Action.{Action}
 use Rattle.pun_base.specs.declared.action.Action.TheVariants.{Count}
 use Rattle.pun_base.specs.declared.scheme.Scheme.{Scheme}
 use Rattle.trampoline.specs.Events.{event_length}
-use Rattle.trampoline.specs.Atomic.{can_by}
 use Rattle.elf_read.specs.Entries.{segments}
 use Rattle.elf_read.specs.Image.{image_of}
 use Rattle.address_space.specs.declared.extent.Extent.{Extent}
 use Rattle.start_entries.specs.declared.entry.StartEntry.{StartEntry}
 use Rattle.start_list.specs.Forms.{work_length}
+pub use Rattle.start_list.specs.Forms.{can_in_threads}
 use Rattle.site_turns.specs.declared.mode.Mode.{Mode}
 use Rattle.site_turns.specs.declared.mode.Mode.TheVariants.{Events, Threads}
 use Rattle.site_turns.specs.States.{Scene}
-use Rattle.site_turns.specs.Laws.{single, five}
-
--- How long the code is that does a listed instruction's work where threads share memory, if the
--- instruction may be displaced.
-abbrev pub can_in_threads : StartEntry → Option ℕ
-can_in_threads e = can_by e.form e.len e.addr
+use Rattle.site_turns.specs.Laws.{five}
 
 -- What a turn goes by: how long the code of an event is, how long the code is that does an instruction's work, if it may
 -- be displaced, and the schemes that are tried, in this order.
@@ -31,9 +26,10 @@ pub record TurnRules : Type 0 where
 abbrev pub event_rules : Action → TurnRules
 event_rules action = record { event_size = event_length action; can = work_length; schemes = five }
 
--- The rules where the sites get counters for threads: no scheme with a victim is tried.
+-- The rules where the sites get counters for threads: sites and victims alike are those that may be
+-- displaced where threads share memory, and all five schemes are tried.
 abbrev pub thread_rules : TurnRules
-thread_rules = record { event_size = 32; can = can_in_threads; schemes = single }
+thread_rules = record { event_size = 32; can = can_in_threads; schemes = five }
 
 -- The scene of a file whose turns go by these rules.
 abbrev pub rules_scene : TurnRules → List ℕ → List StartEntry → Action → Extent → List Extent → Scene

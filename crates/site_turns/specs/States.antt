@@ -52,6 +52,7 @@ view_at g t = record {
   lock = t.lock;
   taken = t.taken;
   event_size = g.event_size;
+  can = g.can;
 }
 
 -- Memory at a turn: the original's image with the bytes changed so far.

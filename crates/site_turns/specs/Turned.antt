@@ -34,7 +34,7 @@ use Rattle.site_turns.specs.declared.setting.Setting.{Setting}
 use Rattle.site_turns.specs.declared.progress.Progress.{Progress}
 use Rattle.site_turns.specs.States.{Scene, State, first_state, view_at}
 use Rattle.site_turns.specs.Choices.{Choice, Apply, Left, NoneOf, FirstOf, IsChoice, outcome_of, after, IsTurns, state_after}
-use Rattle.site_turns.specs.Modes.{TurnRules, event_rules, rules_scene, rules_of, action_of, event_size_of, schemes_of}
+use Rattle.site_turns.specs.Modes.{event_rules, rules_scene, rules_of, action_of, event_size_of, schemes_of}
 use Rattle.site_turns.specs.Folded.{size_from}
 use Rattle.site_turns.specs.Laws.{AreSites}
 use Rattle.site_turns.specs.Loaded.{case_of}
@@ -46,12 +46,12 @@ abbrev pub FoundBy : TurnView → StartEntry → List Scheme → Option Plan →
 FoundBy v site ss None = NoneOf v site ss
 FoundBy v site ss (Some plan) = (c : Candidate) × FirstOf v site ss c plan
 
--- What becomes of a site is what the rules give.
-abbrev pub IsJudged : TurnRules → TurnView → StartEntry → Outcome → Type 0
-IsJudged r v site (Patched plan) = (c : Candidate) × IsChoice v r.can r.schemes site (Apply c plan)
-IsJudged r v site NotRelocatable = IsChoice v r.can r.schemes site (Left Immovable)
-IsJudged r v site NoPlan = IsChoice v r.can r.schemes site (Left Unplanned)
-IsJudged r v site SharesBytes = IsChoice v r.can r.schemes site (Left Shared)
+-- What becomes of a site is what the rules give, where these schemes are tried.
+abbrev pub IsJudged : List Scheme → TurnView → StartEntry → Outcome → Type 0
+IsJudged ss v site (Patched plan) = (c : Candidate) × IsChoice v ss site (Apply c plan)
+IsJudged ss v site NotRelocatable = IsChoice v ss site (Left Immovable)
+IsJudged ss v site NoPlan = IsChoice v ss site (Left Unplanned)
+IsJudged ss v site SharesBytes = IsChoice v ss site (Left Shared)
 
 -- Each byte of an instruction is free.
 abbrev pub IsFreeIn : (ℕ → Lock) → StartEntry → Type 0
@@ -162,7 +162,7 @@ HasEnacted s outcome p q = q ≡ p
 pub record HasTurned (g : Scene) (ss : List Scheme) (site : StartEntry) (number : ℕ)
     (p q : Progress) : Type 0 where
   pub choice : Choice
-  pub is : IsChoice (view_at g (state_of p)) g.can ss site choice
+  pub is : IsChoice (view_at g (state_of p)) ss site choice
   pub same : SameState (after g (state_of p) site number choice) (state_of q)
   pub few : HasFewRuns (outcome_of choice)
 

@@ -1,11 +1,9 @@
 //! What becomes of a site at its turn.
 ghost use Rattle.start_list.specs.Sites.{IsSite};
 ghost use Rattle.start_list.specs.Turning.{view_of};
-ghost use Rattle.site_turns.specs.Modes.{rules_of, schemes_of};
 ghost use Rattle.site_turns.specs.Laws.{single, five};
 ghost use Rattle.site_turns.specs.Turned.{FoundBy, IsJudged, IsFreeSite};
 
-use crate::mode::Mode;
 use pun_base::outcome::{Outcome, Plan};
 use scheme_near::find::plan_t3;
 use scheme_pad::find::plan_t1;
@@ -41,31 +39,28 @@ fn find(here: &SiteTurn<'_>) -> Option<Plan>
     plan_t3(here)
 }
 
-/// The first plan of the first scheme that has one, of the schemes that the mode tries.
-fn find_for(turn: &Turn<'_>, site: &StartEntry, mode: Mode) -> Option<Plan>
+/// The first plan of the first scheme that has one, of all five schemes, for a site of a turn.
+fn find_for(turn: &Turn<'_>, site: &StartEntry) -> Option<Plan>
     requires { IsSite turn.now site.now }
-    ensures { FoundBy (view_of turn.now) site.now (schemes_of mode) result }
+    ensures { FoundBy (view_of turn.now) site.now five result }
 {
     let here = SiteTurn::new(turn, site);
-    match mode {
-        Mode::Events(_) => find(&here),
-        Mode::Threads => find_single(&here),
-    }
+    find(&here)
 }
 
 /// What becomes of a site: a plan is applied, or it is left, since it shares bytes, since its
 /// instruction can't be displaced or since no scheme has a plan.
-pub(crate) fn judge(turn: &Turn<'_>, site: &StartEntry, mode: Mode) -> Outcome
+pub(crate) fn judge(turn: &Turn<'_>, site: &StartEntry) -> Outcome
     requires { IsFreeSite turn.now site.now }
-    ensures { IsJudged (rules_of mode) (view_of turn.now) site.now result }
+    ensures { IsJudged five (view_of turn.now) site.now result }
 {
     if site.shared {
         return Outcome::Shared;
     }
-    if !mode.can_move(turn, site) {
+    if !turn.is_movable(site) {
         return Outcome::NotRelocatable;
     }
-    match find_for(turn, site, mode) {
+    match find_for(turn, site) {
         Some(plan) => Outcome::Patched(plan),
         None => Outcome::NoPlan,
     }

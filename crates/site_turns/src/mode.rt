@@ -1,13 +1,9 @@
 //! What the sites get.
-ghost use Rattle.std.specs.Prelude.{◌≡◌, ◌≤◌, is_some, Contains};
-ghost use Rattle.start_entries.specs.Laws.{IsBuilt};
-ghost use Rattle.trampoline.specs.Atomic.{spot_is_atomic, target_is_atomic, op_is_atomic, is_atomic, is_atomic_in};
+ghost use Rattle.std.specs.Prelude.{◌≡◌, ◌≤◌};
+ghost use Rattle.start_list.specs.Forms.{can_where};
 ghost use Rattle.site_turns.specs.Modes.{action_of, event_size_of, can_of};
 
-use insn_form::{Insn, Op, Spot, Target};
 use pun_base::action::Action;
-use start_entries::entry::StartEntry;
-use start_list::turn::Turn;
 use trampoline::event_size;
 
 /// What the sites get: the events of an action, for a guest of one thread, or counters for a guest
@@ -20,53 +16,6 @@ pub enum Mode {
 
 /// Bytes of the event of a site for a guest of several threads.
 const THREAD_EVENT_LEN: u32 = 32;
-
-/// Whether a call through an operand is one step: through a register other than rsp.
-fn spot_is_atomic(spot: &Spot) -> bool
-    ensures { result ≡ spot_is_atomic spot.now }
-{
-    match spot {
-        Spot::Reg(register) => *register != 4,
-        Spot::High(_) | Spot::Mem(_) => false,
-    }
-}
-
-fn target_is_atomic(target: &Target) -> bool
-    ensures { result ≡ target_is_atomic target.now }
-{
-    match target {
-        Target::Rel(_) => true,
-        Target::Through(spot) => spot_is_atomic(spot),
-    }
-}
-
-fn op_is_atomic(op: &Op) -> bool
-    ensures { result ≡ op_is_atomic op.now }
-{
-    match op {
-        Op::Call { target } => target_is_atomic(target),
-        _ => true,
-    }
-}
-
-fn is_atomic(insn: &Insn) -> bool
-    ensures { result ≡ is_atomic insn.now }
-{
-    match insn {
-        Insn::Exact(op) => op_is_atomic(op),
-        Insn::Asked(_) | Insn::Ending => true,
-    }
-}
-
-/// Whether a listed instruction is known, and isn't an indirect call through memory or through rsp.
-fn is_atomic_in(entry: &StartEntry) -> bool
-    ensures { result ≡ is_atomic_in entry.now.form }
-{
-    match &entry.form {
-        None => false,
-        Some(insn) => is_atomic(insn),
-    }
-}
 
 impl Mode {
     /// What the private range is laid out for.
@@ -90,15 +39,13 @@ impl Mode {
         }
     }
 
-    /// Whether a listed instruction can be displaced.
-    pub(crate) fn can_move(self, turn: &Turn<'_>, site: &StartEntry) -> bool
-        requires built { IsBuilt turn.now.elf.now.bytes turn.now.starts.now }
-        requires listed { Contains turn.now.starts.now site.now }
-        ensures { result ≡ is_some (can_of self site.now) }
+    /// Whether threads share the guest's memory, so that only what may be displaced then is.
+    pub(crate) fn threads(self) -> bool
+        ensures { can_where result ≡ can_of self }
     {
         match self {
-            Mode::Events(_) => turn.is_movable(site),
-            Mode::Threads => is_atomic_in(site) && turn.is_movable(site),
+            Mode::Events(_) => false,
+            Mode::Threads => true,
         }
     }
 }

@@ -144,9 +144,9 @@ impl Progress {
                 locks: &self.locks,
                 space: &self.space,
                 event_size: setting.mode.event_size(),
+                threads: setting.mode.threads(),
             },
             site,
-            setting.mode,
         );
         self.enact(alloc, setting, &outcome)?;
         self.rows.push(ReportRow {

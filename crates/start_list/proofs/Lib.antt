@@ -1,3 +1,4 @@
 pub mod UntouchedEntries
 pub mod CodeSegments
 pub mod StandingJumps
+pub mod DisplacedWork

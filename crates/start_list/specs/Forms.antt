@@ -6,6 +6,7 @@ use Rattle.pun_base.specs.declared.scheme.Scheme.{Scheme}
 use Rattle.pun_base.specs.declared.scheme.Scheme.TheVariants as scheme
 use Rattle.insn_form.specs.declared.form.Insn.{Insn}
 use Rattle.insn_form.specs.Displacing as displacing
+use Rattle.trampoline.specs.Atomic.{can_by}
 use Rattle.start_entries.specs.declared.entry.StartEntry.{StartEntry}
 use Rattle.start_entries.specs.Finding.{entry_at}
 use Rattle.start_list.specs.TurnViews.{TurnView, share_segment, is_untouched}
@@ -91,18 +92,34 @@ work_by (Some i) len addr = displacing.work_length i len addr
 abbrev pub work_length : StartEntry → Option ℕ
 work_length e = work_by e.form e.len e.addr
 
+-- How many bytes the code has that does a listed instruction's work where threads share memory, if
+-- the instruction may be displaced there.
+abbrev pub can_in_threads : StartEntry → Option ℕ
+can_in_threads e = can_by e.form e.len e.addr
+
+-- How many bytes the code has that does a listed instruction's work, if the instruction may be
+-- displaced: for a guest of one thread, and where threads share memory.
+abbrev pub can_where : Bool → StartEntry → Option ℕ
+can_where false = work_length
+can_where true = can_in_threads
+
+-- An instruction that may be displaced has as many bytes of code as where one thread runs.
+abbrev pub DisplacedAreAsLong : Type 0
+DisplacedAreAsLong =
+    (threads : Bool) (e : StartEntry) (n : ℕ) → can_where threads e ≡ Some n → work_length e ≡ Some n
+
 -- A listed instruction may be patched at all where it isn't marked as sharing bytes: none of its
 -- bytes is a byte of another listed one, as `shared_exactly` proves of the mark.
 abbrev pub MayBeSite : StartEntry → Type 0
 MayBeSite site = site.shared ≡ false
 
--- An instruction that may be patched beside the site: listed, in the site's segment, of known
--- length, displaceable and untouched, which means not patched yet and without bytes of another
--- listed instruction.
+-- An instruction that may be patched beside the site: listed, in the site's segment, displaceable
+-- at this turn and untouched, which means not patched yet and without bytes of another listed
+-- instruction.
 pub record MayBeVictim (v : TurnView) (site e : StartEntry) : Type 0 where
   pub listed : Contains v.entries e
   pub beside : share_segment v.segments site.addr e.addr ≡ true
-  pub movable : is_some (work_length e) ≡ true
+  pub movable : is_some (v.can e) ≡ true
   pub untouched : is_untouched v e ≡ true
 
 -- The n low bytes of the displacement of a jump to a target, as a number, the lowest first.

@@ -13,11 +13,12 @@ use Rattle.start_entries.specs.declared.entry.StartEntry.{StartEntry}
 use Rattle.start_entries.specs.Rows.{entry, mov_constant, mov_register, mov_nop_nop}
 use Rattle.start_list.specs.TurnViews.{TurnView, memory_now}
 use Rattle.start_list.specs.PlanJumps.{is_punned, after_writes}
-use Rattle.start_list.specs.Forms.{Candidate, B1, B2, T1, T2, T3, jumps_of, trampolines_of, HasForm}
+use Rattle.start_list.specs.Forms.{Candidate, B1, B2, T1, T2, T3, jumps_of, trampolines_of, work_length, HasForm}
 use Rattle.start_list.specs.Admissible.{size_of}
 use Rattle.start_list.specs.Plans.{bytes_from}
 
--- The first turn over a text, with the private range at 0x20000 and an event's code of eight bytes.
+-- The first turn over a text for a guest of one thread, with the private range at 0x20000 and an
+-- event's code of eight bytes.
 abbrev pub first_turn : List ℕ → List StartEntry → TurnView
 first_turn text es = record {
   image = text_image text;
@@ -26,6 +27,7 @@ first_turn text es = record {
   lock = λ a. Free;
   taken = record { lo = 0x20000; hi = 0x21000 } ∷ record { lo = 0x401000; hi = 0x402000 } ∷ [];
   event_size = 8;
+  can = work_length;
 }
 
 -- mov rax, rbx; add rbx, rax; nop; nop

@@ -1,7 +1,6 @@
 -- The code that is built for a trampoline is the one that it has for threads.
-use Rattle.std.proofs.Common.{◌≡◌, ◌⊎◌, ◌↔◌, inl, inr, ℕ, ◌+◌, ◌<◌, Bool, false, true, List, length, take, get_or, map, Option, Some, None, refl, sym, ap, ◌∙◌, subst, arith}
+use Rattle.std.proofs.Common.{◌≡◌, inl, inr, ℕ, ◌+◌, ◌<◌, false, true, List, ◌++◌, length, length-append, take, get_or, map, Option, Some, None, refl, sym, ap, ◌∙◌, subst, arith}
 use Rattle.std.specs.Option.{is_some, option_map}
-use Rattle.std.proofs.lemmas.Bool.{true≢false}
 use Rattle.std.proofs.lemmas.Option.{slice_get-map, slice_get-get_or}
 use Rattle.pun_base.specs.Memory.{Bytes}
 use Rattle.cpu_state.specs.Bytes.{Stands}
@@ -13,7 +12,6 @@ use Rattle.insn_form.specs.Step.{next_after}
 use Rattle.trampoline.specs.Atomic.{is_atomic, thread_len, back, can_by}
 use Rattle.start_entries.specs.declared.entry.StartEntry.{StartEntry}
 use Rattle.start_entries.specs.Finding.{entry_at}
-use Rattle.start_entries.specs.Leading.{JumpsTo}
 use Rattle.patch_report.specs.Grammar.{IsTold}
 use Rattle.patch_report.specs.Values.{BodyValue}
 use Rattle.patch_report.proofs.ReportBounds.{bounded}
@@ -26,12 +24,14 @@ use Rattle.image_check.specs.declared.verdict.Verdict.TheVariants.{Yes, No}
 use Rattle.image_check.proofs.CodeAtStarts.{IsReadAt, read_at, found_address}
 use Rattle.image_check.proofs.ReportLines.{number_low, place_low}
 use Rattle.site_turns.proofs.TrampolineCodes.{IsTaken, within, taken_spelled}
-use Rattle.thread_runs.specs.Building.{thread_size}
-use Rattle.thread_runs.specs.ThreadCode.{thread_code}
+use Rattle.thread_runs.specs.Building.{size_if}
+use Rattle.thread_runs.specs.ThreadCode.{event_len, event_if, thread_work, code_if}
 use Rattle.thread_runs.proofs.WorkSize.{told}
+use Rattle.thread_runs.proofs.WorkTails.{work_long}
 use Rattle.thread_check.specs.declared.lines.ThreadLine.{ThreadLine}
-use Rattle.thread_check.specs.ThreadRules.{moved_from, is_marked, ThreadLineFails}
-use Rattle.thread_check.specs.LineParts.{line_of, first_broken, IsThreadCode, IsCodeFound, IsCodeVerdict, IsSoundLine, IsLineFailure, IsLinesVerdict}
+use Rattle.thread_check.specs.ThreadRules.{moved_from, is_marked}
+use Rattle.thread_check.specs.LineParts.{line_of, Lands, first_broken, IsThreadCode, IsCodeFound, IsCodeVerdict, IsSoundLine, IsLineFailure, IsLinesVerdict}
+use Rattle.thread_check.proofs.LandingJumps.{lands_too}
 
 -- an option that is mapped to something is something
 mapped_from : (f : ℕ → ℕ) (o : Option ℕ) (n : ℕ) → option_map f o ≡ Some n → (k : ℕ) × (o ≡ Some k)
@@ -41,8 +41,8 @@ mapped_from f (Some k) n h = (k, refl)
 -- the code that is built of what is taken of the file
 pub built : (c : Case) (l : Line) (file : List ℕ) (e : StartEntry) (i : Insn) (n : ℕ) (ws code : List ℕ) (private : ℕ)
     → c.original ≡ image_of file → (got : IsTaken file c.listed l.tramp.start e i n ws) → e.shared ≡ false → private ≡ c.report.private.0
-    → ((f : Fields) → IsInstruction f → take n ws ≡ spelling f → code ≡ thread_code private l.number f (e.addr + length (take n ws)) l.tramp.place)
-    → thread_size i (length (take n ws)) e.addr ≡ Some (length code) → IsThreadCode c l code
+    → ((f : Fields) → IsInstruction f → take n ws ≡ spelling f → code ≡ code_if l.tramp.event private l.number f (e.addr + length (take n ws)) l.tramp.place)
+    → size_if l.tramp.event i (length (take n ws)) e.addr ≡ Some (length code) → IsThreadCode c l code
 built c l file e i n ws code private o got alone p k s =
     let q : IsReadAt file e i = read_at file c.listed l.tramp.start e i got.accepted got.own got.at got.form in
     let spelled = taken_spelled file c.listed l.tramp.start e i n ws got in
@@ -53,6 +53,11 @@ built c l file e i n ws code private o got alone p k s =
     let low = q.low in
     let long_is = q.size in
     let next : e.addr + length (take n ws) ≡ next_after e.addr q.fields = omega (arith, size, low, long_is) in
+    let event = event_if l.tramp.event private l.number in
+    let work = thread_work q.fields (e.addr + length (take n ws)) (l.tramp.place + event_len l.tramp.event) in
+    let longer : 0 < length work = work_long q.fields (e.addr + length (take n ws)) (l.tramp.place + event_len l.tramp.event) w.0 e.len e.addr q.is q.size
+    (ap (λ (x : Insn). thread_len x e.len e.addr) (sym q.insn) ∙ long) in
+    let written : length code ≡ length (event ++ work) = ap length (k q.fields q.is spelled) in
     record {
       moved = ap (λ (z : Option StartEntry). is_some (moved_from z)) got.at ∙ ap (λ (z : Option Insn). is_some (can_by z e.len e.addr)) got.form
           ∙ ap (λ z. is_some (option_map (λ n. n + back i) z)) long;
@@ -64,9 +69,10 @@ built c l file e i n ws code private o got alone p k s =
             (subst (λ (x : ℕ). Stands (image_of file) x (spelling q.fields)) a q.stands);
         displaced = ap is_some (ap displaced_from got.at ∙ ap (λ (z : Option Insn). displaced_by z e.len e.addr) got.form
             ∙ (told (is_atomic i) (displaced_len i e.len e.addr) w.0 long).1);
-        is = k q.fields q.is spelled ∙ (λ j. thread_code (p j) l.number q.fields (next j) l.tramp.place)
-            ∙ ap (λ z. thread_code c.report.private.0 l.number q.fields (next_after z q.fields) l.tramp.place) a;
+        is = k q.fields q.is spelled ∙ (λ j. code_if l.tramp.event (p j) l.number q.fields (next j) l.tramp.place)
+            ∙ ap (λ z. code_if l.tramp.event c.report.private.0 l.number q.fields (next_after z q.fields) l.tramp.place) a;
       };
+      some = omega (arith, written, length-append event work, longer);
     }
 
 -- where nothing is built, the instruction can't be displaced
@@ -117,24 +123,23 @@ line_settles c l (No addr rule) h f = inl (l, contains_at (lines c.report) h.0 l
 
 -- a trampoline of which rules 3 and 4 show nothing is sound
 pub sound_line : (c : Case) (l : Line) (start place : ℕ) (code bytes : List ℕ) → start ≡ l.tramp.start → place ≡ l.tramp.place → bytes ≡ code
-    → IsThreadCode c l code → IsCodeVerdict c.original c.patched start place l.tramp.event bytes Yes → IsSoundLine c l code
+    → IsThreadCode c l code → IsCodeVerdict c.original c.patched start place bytes Yes → IsSoundLine c l code
 sound_line c l start place code bytes s p b k v = record {
   code_is = k;
-  event = v.0;
-  jump = subst (λ (z : ℕ). JumpsTo c.patched l.tramp.start z) p (subst (λ (z : ℕ). JumpsTo c.patched z place) s v.1);
-  held = ap (λ (z : ℕ). first_broken c.original c.patched z code) (sym p) ∙ ap (first_broken c.original c.patched place) (sym b) ∙ v.2;
+  lands = subst (λ (z : ℕ). Lands c.original c.patched l.tramp.start z) p (subst (λ (z : ℕ). Lands c.original c.patched z place) s v.0);
+  held = ap (λ (z : ℕ). first_broken c.original c.patched z code) (sym p) ∙ ap (first_broken c.original c.patched place) (sym b) ∙ v.1;
 }
 
 -- a trampoline of which they show something isn't
 pub failing_line : (c : Case) (l : Line) (start place : ℕ) (code bytes : List ℕ) (addr rule : ℕ) → start ≡ l.tramp.start → place ≡ l.tramp.place
-    → bytes ≡ code → IsThreadCode c l code → IsCodeVerdict c.original c.patched start place l.tramp.event bytes (No addr rule)
-    → IsLineFailure c l (No addr rule)
-failing_line c l start place code bytes addr rule s p b k (inl v) = inl (v.0, v.1 ∙ s, by_kind v.2)
-  where
-    by_kind : (l.tramp.event ≡ false) ⊎ (JumpsTo c.patched start place → ⊥) → ThreadLineFails c l.tramp.start l
-    by_kind (inl e) = inr (inr (inr (inl e)))
-    by_kind (inr n) = inr (inr (inr (inr (λ j.
-        n (subst (λ (z : ℕ). JumpsTo c.patched start z) (sym p) (subst (λ (z : ℕ). JumpsTo c.patched z l.tramp.place) (sym s) j))))))
+    → bytes ≡ code → IsThreadCode c l code → IsCodeVerdict c.original c.patched start place bytes (No addr rule) → IsLineFailure c l (No addr rule)
+failing_line c l start place code bytes addr rule s p b k (inl v) = inl (
+  v.0,
+  v.1 ∙ s,
+  inr (inr (inr (λ t.
+      v.2 (subst (λ (z : ℕ). Lands c.original c.patched start z) (sym p)
+      (subst (λ (z : ℕ). Lands c.original c.patched z l.tramp.place) (sym s) (lands_too c l.tramp.start l.tramp.place t)))))),
+)
 failing_line c l start place code bytes addr rule s p b k (inr v) = inr (
   v.0,
   record {
@@ -143,9 +148,3 @@ failing_line c l start place code bytes addr rule s p b k (inr v) = inr (
     first = ap (λ (z : ℕ). first_broken c.original c.patched z code) (sym p) ∙ ap (first_broken c.original c.patched place) (sym b) ∙ v.1;
   },
 )
-
--- where a trampoline isn't entered, it has no event, or no jump leads to its place
-pub not_entered : (m : Bytes) (start place : ℕ) (event b : Bool) → (b ≡ true) ↔ (event ≡ true) × JumpsTo m start place → b ≡ false
-    → (event ≡ false) ⊎ (JumpsTo m start place → ⊥)
-not_entered m start place false b h e = inl refl
-not_entered m start place true b h e = inr (λ j. true≢false (sym (h.1 (refl, j)) ∙ e))

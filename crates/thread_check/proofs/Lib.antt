@@ -4,3 +4,4 @@ pub mod HeldCode
 pub mod PlacesApart
 pub mod VerdictsOfLines
 pub mod BuiltCode
+pub mod LandingJumps

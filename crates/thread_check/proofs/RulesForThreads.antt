@@ -1,10 +1,10 @@
 -- Where no rule for threads fails, the patched image is sound for threads.
-use Rattle.std.proofs.Common.{◌≡◌, ◌≢◌, inl, inr, ℕ, zero, suc, ◌+◌, ◌*◌, ◌-◌, ◌<◌, ◌≤◌, Bool, true, false, not, ◌&&◌, ◌||◌, eqb, leb, ltb, List, [], ◌∷◌, length, slice_index, Option, Some, None, refl, sym, ap, ap₂, ◌∙◌, subst, arith}
+use Rattle.std.proofs.Common.{◌≡◌, ◌≢◌, ◌⊎◌, inl, inr, ℕ, zero, suc, ◌+◌, ◌*◌, ◌-◌, ◌<◌, ◌≤◌, Bool, true, false, not, ◌&&◌, ◌||◌, eqb, leb, ltb, List, [], ◌∷◌, length, slice_index, Option, Some, None, refl, sym, ap, ap₂, ◌∙◌, subst, arith}
 use Rattle.std.specs.Prelude.{Contains, slice_get}
 use Rattle.std.specs.Option.{is_some, option_map, option_to_list}
 use Rattle.std.specs.List.{list_any, count_by}
 use Rattle.std.proofs.lemmas.Bool.{cases_Bool, cases_eq, cases_lt, cases_order, and_parts, and_from, or_parts, or_cases, or_left, or_right, eqb-true, eq-eqb, leb-true, ltb-true, le-leb, lt-ltb, not-false, true_from_ne_false, false_from_ne_true, false≢true, true≢false}
-use Rattle.pun_base.specs.Memory.{Cell, Bytes}
+use Rattle.pun_base.specs.Memory.{Cell}
 use Rattle.pun_base.specs.declared.action.Action.{Action}
 use Rattle.pun_base.specs.declared.action.Action.TheVariants.{Cover, Count, Ring, When}
 use Rattle.pun_base.specs.Actions.{private_len}
@@ -29,20 +29,21 @@ use Rattle.image_check.specs.Reports.{Line, lines, is_written, starts_line, in_p
 use Rattle.image_check.specs.Rules.{Case, times_owned, belongs, differs, displaced_by, displaced_from, displaced_at, LiesInWith, HoldsCode, is_unexpected, is_expected, is_own, ByteFails, WriteFails, RangeFails}
 use Rattle.image_check.proofs.SoundFacts.{Owned, none_unless, only_one}
 use Rattle.image_check.proofs.LoadedCode.{loaded_fixed}
-use Rattle.image_check.proofs.LeadingBytes.{jump_or_not, one_target}
+use Rattle.image_check.proofs.FixedJumps.{any_found}
 use Rattle.image_check.proofs.CodeAtStarts.{found_address}
 use Rattle.image_check.proofs.ReportLines.{place_low, number_low}
 use Rattle.site_turns.specs.Modes.{can_in_threads}
 use Rattle.site_turns.proofs.PlanForms.{entry_here}
 use Rattle.site_turns.proofs.CodeSizes.{one_standing}
-use Rattle.thread_runs.specs.ThreadCode.{thread_code}
-use Rattle.thread_runs.specs.Threading.{ThreadSite, Threading, IsThreadSite, is_code_of, IsThreadSound}
+use Rattle.thread_runs.specs.ThreadCode.{code_if}
+use Rattle.thread_runs.specs.Threading.{ThreadSite, Threading, next_of, ByTwoJumps, IsThreadSite, is_code_of, IsThreadSound}
 use Rattle.thread_runs.proofs.ThreadsTheorem.{threads_followed, threads_followed_with}
 use Rattle.thread_runs.proofs.WorkSize.{told}
 use Rattle.guest_threads.specs.FromTurns.{site_of}
-use Rattle.thread_check.specs.ThreadRules.{moved_from, moved_at, is_marked, shares_at, ThreadLineFails, ThreadEntryFails, thread_coding, ThreadCodeFails, ThreadSiteFails, IsThreadCaseSound}
+use Rattle.thread_check.specs.ThreadRules.{moved_from, moved_at, is_marked, shares_at, ThreadLeads, ThreadLineFails, ThreadEntryFails, thread_coding, ThreadCodeFails, ThreadSiteFails, IsThreadCaseSound}
 use Rattle.thread_check.specs.ThreadSoundness.{threading_of, ThreadCaseIsFollowed}
-use Rattle.thread_check.proofs.LinesOfRows.{IsOwn, HasEvent, number_once}
+use Rattle.thread_check.proofs.LinesOfRows.{IsOwn, is_numbered, number_once}
+use Rattle.thread_check.proofs.LandingJumps.{leads_unless}
 
 -- an option that can't be nothing is something
 some_unless : {X : Type 0} (o : Option X) → (o ≡ None → ⊥) → (x : X) × (o ≡ Some x)
@@ -79,16 +80,6 @@ same_unless (Some d) (Some g) h n =
       perms = sym (eqb-true d.perms g.perms (not-false (eqb d.perms g.perms) k.0)) i;
     })
 
--- whether a jump leads from an address to a place is decided
-jumps_unless : (m : Bytes) (a place : ℕ) → ((JumpsTo m a place → ⊥) → ⊥) → JumpsTo m a place
-jumps_unless m a place n = elim (jump_or_not m a) [
-  | inl j ↦ elim (cases_eq j.0 place) [
-    | inl e ↦ subst (λ (z : ℕ). JumpsTo m a z) e j.1
-    | inr away ↦ absurd (n (λ k. away (one_target m a j.0 place j.1 k)))
-  ]
-  | inr none ↦ absurd (n (λ k. none place k))
-]
-
 -- an entry that can be displaced where threads share memory has a known form
 known_form : (o : Option Insn) (len a : ℕ) → is_some (can_by o len a) ≡ true → is_some o ≡ true
 known_form None len a h = h
@@ -118,8 +109,7 @@ is_count Count n = refl
 is_count (Ring len) n = absurd (n (λ e. cc))
 is_count (When b list) n = absurd (n (λ e. cc))
 
--- a trampoline's instruction: it is listed and alone, stands in the original, and can be displaced where threads share memory; a jump leads to
--- the trampoline's place
+-- a trampoline's instruction: it is listed and alone, stands in the original, and can be displaced where threads share memory
 pub record Enters (c : Case) (l : Line) : Type 0 where
   pub entry : StartEntry
   pub at : entry_at c.listed l.tramp.start ≡ Some entry
@@ -234,13 +224,9 @@ module _ (c : Case) (A : AreEntries c.original c.listed) (T : IsTold c.report) (
       by_entry (Some x) e m s =
           entered c l x A e (ap (λ (z : Option StartEntry). is_some (moved_from z)) (sym e) ∙ m) (ap is_marked (sym e) ∙ s)
 
-  -- its event
-  has_event : (l : Line) → In (lines c.report) l → HasEvent l
-  has_event l h = true_from_ne_false l.tramp.event (λ e. line_holds l h (inr (inr (inr (inl e)))))
-
-  -- its jump
-  jumps : (l : Line) → In (lines c.report) l → JumpsTo c.patched l.tramp.start l.tramp.place
-  jumps l h = jumps_unless c.patched l.tramp.start l.tramp.place (λ n. line_holds l h (inr (inr (inr (inr n)))))
+  -- its jump, or its two jumps
+  leads : (l : Line) → In (lines c.report) l → ThreadLeads c l.tramp.start l.tramp.place
+  leads l h = leads_unless c l.tramp.start l.tramp.place (λ n. line_holds l h (inr (inr (inr n))))
 
   -- trampolines with one start have one index
   started_once : (i j : ℕ) (l m : Line) → slice_get (lines c.report) i ≡ Some l → slice_get (lines c.report) j ≡ Some m
@@ -259,18 +245,18 @@ module _ (c : Case) (A : AreEntries c.original c.listed) (T : IsTold c.report) (
   own_rows : (r : RowValue) → In c.report.rows r → IsOwn r
   own_rows r h = true_from_ne_false (is_own r.site (tramps_of r.outcome)) (λ n. rule_6 r.site (inl (inl (h.0, r, h.1, refl, inr (inr n)))))
 
-  -- trampolines with one number have one index
+  -- trampolines with an event and one number have one index
   numbered_once : (i j : ℕ) (l m : Line) → slice_get (lines c.report) i ≡ Some l → slice_get (lines c.report) j ≡ Some m
-      → l.number ≡ m.number → i ≡ j
-  numbered_once i j l m e f same =
+      → l.tramp.event ≡ true → m.tramp.event ≡ true → l.number ≡ m.number → i ≡ j
+  numbered_once i j l m e f u v same =
       let n = l.number in
-      let x = eq-eqb l.number n refl in
-      let y = eq-eqb m.number n (sym same) in
-      let few : count_by (λ (z : Line). eqb z.number n) (lines c.report) ≤ 1 = number_once c.report own_rows has_event T.1.numbers n in
+      let x = and_from l.tramp.event (eqb l.number n) u (eq-eqb l.number n refl) in
+      let y = and_from m.tramp.event (eqb m.number n) v (eq-eqb m.number n (sym same)) in
+      let few : count_by (is_numbered n) (lines c.report) ≤ 1 = number_once c.report own_rows T.1.numbers n in
       elim (cases_order i j) [
         | inl k ↦ k
-        | inr (inl k) ↦ absurd (omega (arith, few, counted_twice (λ (z : Line). eqb z.number n) (lines c.report) i j l m k e x f y))
-        | inr (inr k) ↦ absurd (omega (arith, few, counted_twice (λ (z : Line). eqb z.number n) (lines c.report) j i m l k f y e x))
+        | inr (inl k) ↦ absurd (omega (arith, few, counted_twice (is_numbered n) (lines c.report) i j l m k e x f y))
+        | inr (inr k) ↦ absurd (omega (arith, few, counted_twice (is_numbered n) (lines c.report) j i m l k f y e x))
       ]
 
   -- the code stands
@@ -359,30 +345,46 @@ module _ (c : Case) (A : AreEntries c.original c.listed) (T : IsTold c.report) (
     in_lines : In (lines c.report) line
     entry : StartEntry
     at : entry_at c.listed line.tramp.start ≡ Some entry
-    is : record { number = line.number; entry = entry; place = line.tramp.place } ≡ s
+    is : record { number = line.number; entry = entry; place = line.tramp.place; event = line.tramp.event } ≡ s
 
   -- each site is that of a trampoline
   of_site : (s : ThreadSite) → Contains R.sites s → Of s
   of_site s k =
       let q = from_flat (site_of c.listed) (lines c.report) s (place_of R.sites s k) in
-      let o = one_of (λ (e : StartEntry). record { number = q.0.number; entry = e; place = q.0.tramp.place }) (entry_at c.listed q.0.tramp.start) s q.2 in
+      let o = one_of (λ (e : StartEntry). record { number = q.0.number; entry = e; place = q.0.tramp.place; event = q.0.tramp.event }) (entry_at c.listed q.0.tramp.start) s q.2 in
       record { line = q.0; in_lines = q.1; entry = o.0; at = o.1; is = o.2 }
 
   -- the code of a trampoline, by its entry
-  code_is : (l : Line) (e : Enters c l) → thread_code c.report.private.0 l.number e.fields (e.entry.addr + e.entry.len) l.tramp.place ≡ code_with c l e.fields
+  code_is : (l : Line) (e : Enters c l)
+      → code_if l.tramp.event c.report.private.0 l.number e.fields (e.entry.addr + e.entry.len) l.tramp.place ≡ code_with c l e.fields
   code_is l e =
       let a = e.addr in
       let n = e.len in
       let low = e.low in
       let next : e.entry.addr + e.entry.len ≡ next_after l.tramp.start e.fields = omega (arith, a, n, low) in
-      ap (λ z. thread_code c.report.private.0 l.number e.fields z l.tramp.place) next
+      ap (λ z. code_if l.tramp.event c.report.private.0 l.number e.fields z l.tramp.place) next
+
+  -- two jumps to a trampoline's place are two of the patched image, whose second stands at no new address
+  by_two : (a x place : ℕ) → a ≡ x → ThreadLeads c x place → JumpsTo c.patched a place ⊎ ByTwoJumps R a place
+  by_two a x place e (inl j) = inl (subst (λ (z : ℕ). JumpsTo c.patched z place) (sym e) j)
+  by_two a x place e (inr t) = inr (record {
+    second = t.second;
+    there = subst (λ (z : ℕ). JumpsTo c.patched z t.second) (sym e) t.there;
+    unlisted = any_found (λ (e : StartEntry). eqb e.addr t.second) c.listed ∙ t.unlisted;
+    old = not_new (is_some (c.patched t.second)) (is_some (c.original t.second)) t.old;
+    on = t.on;
+  })
+    where
+      not_new : (x y : Bool) → y ≡ true → (x && not y) ≡ false
+      not_new true y e = ap not e
+      not_new false y e = refl
 
   -- the site of a trampoline is a patched one
-  site_sound : (l : Line) (h : In (lines c.report) l) → IsThreadSite R (record { number = l.number; entry = (enters l h).entry; place = l.tramp.place })
+  site_sound : (l : Line) (h : In (lines c.report) l) → IsThreadSite R (record { number = l.number; entry = (enters l h).entry; place = l.tramp.place; event = l.tramp.event })
   site_sound l h =
       let e = enters l h in
       let same = code_is l e in
-      let code = thread_code c.report.private.0 l.number e.fields (e.entry.addr + e.entry.len) l.tramp.place in
+      let code = code_if l.tramp.event c.report.private.0 l.number e.fields (e.entry.addr + e.entry.len) l.tramp.place in
       let n : length code ≡ length (code_with c l e.fields) = ap length same in
       let low : l.tramp.place + length code ≤ 0x7FFF1000 = (let k = code_low h.0 l e h.1 in omega (arith, n, k)) in
       let cells : (k : ℕ) → k < length code → c.patched (l.tramp.place + k) ≡ Some (record { byte = slice_index code k; perms = 5 }) =
@@ -400,7 +402,7 @@ module _ (c : Case) (A : AreEntries c.original c.listed) (T : IsTold c.report) (
         form = e.form;
         size = e.size;
         displaced = e.displaced;
-        jump = subst (λ (z : ℕ). JumpsTo c.patched z l.tramp.place) (sym e.addr) (jumps l h);
+        jump = by_two e.entry.addr l.tramp.start l.tramp.place e.addr (leads l h);
         code = loaded_fixed c.patched l.tramp.place code (omega (arith, low)) cells;
         new = λ x lo hi.
             let hi' : x < l.tramp.place + length (code_with c l e.fields) = omega (arith, hi, n) in
@@ -413,10 +415,10 @@ module _ (c : Case) (A : AreEntries c.original c.listed) (T : IsTold c.report) (
       new_if o q e f = ap₂ (λ x (y : Option Cell). x && not (is_some y)) e f
 
   -- the site of a trampoline has the entry that is found at the start
-  same_site : (s : ThreadSite) (o : Of s) → record { number = o.line.number; entry = (enters o.line o.in_lines).entry; place = o.line.tramp.place } ≡ s
+  same_site : (s : ThreadSite) (o : Of s) → record { number = o.line.number; entry = (enters o.line o.in_lines).entry; place = o.line.tramp.place; event = o.line.tramp.event } ≡ s
   same_site s o =
       let e : (enters o.line o.in_lines).entry ≡ o.entry = some_is (enters o.line o.in_lines).entry o.entry (sym (enters o.line o.in_lines).at ∙ o.at) in
-      ap (λ (z : StartEntry). (let t : ThreadSite = record { number = o.line.number; entry = z; place = o.line.tramp.place } in t)) e ∙ o.is
+      ap (λ (z : StartEntry). (let t : ThreadSite = record { number = o.line.number; entry = z; place = o.line.tramp.place; event = o.line.tramp.event } in t)) e ∙ o.is
 
   -- each site is a patched one
   sites : (s : ThreadSite) → Contains R.sites s → IsThreadSite R s
@@ -427,7 +429,7 @@ module _ (c : Case) (A : AreEntries c.original c.listed) (T : IsTold c.report) (
   one_line s t o p e =
       let l : o.line ≡ p.line = some_is o.line p.line (sym o.in_lines.1 ∙ ap (slice_get (lines c.report)) e ∙ p.in_lines.1) in
       let n : o.entry ≡ p.entry = some_is o.entry p.entry (sym o.at ∙ ap (λ (z : Line). entry_at c.listed z.tramp.start) l ∙ p.at) in
-      sym o.is ∙ (λ i. record { number = (l i).number; entry = n i; place = (l i).tramp.place }) ∙ p.is
+      sym o.is ∙ (λ i. record { number = (l i).number; entry = n i; place = (l i).tramp.place; event = (l i).tramp.event }) ∙ p.is
 
   -- each start has one site
   once : (s t : ThreadSite) → Contains R.sites s → Contains R.sites t → s.entry.addr ≡ t.entry.addr → s ≡ t
@@ -439,12 +441,12 @@ module _ (c : Case) (A : AreEntries c.original c.listed) (T : IsTold c.report) (
       one_line s t o p (started_once o.in_lines.0 p.in_lines.0 o.line p.line o.in_lines.1 p.in_lines.1 (sym a ∙ e ∙ b))
 
   -- each number has one site
-  numbers : (s t : ThreadSite) → Contains R.sites s → Contains R.sites t → s.number ≡ t.number → s ≡ t
-  numbers s t h k e =
+  numbers : (s t : ThreadSite) → Contains R.sites s → Contains R.sites t → s.event ≡ true → t.event ≡ true → s.number ≡ t.number → s ≡ t
+  numbers s t h k u v e =
       let o = of_site s h in
       let p = of_site t k in
       one_line s t o p (numbered_once o.in_lines.0 p.in_lines.0 o.line p.line o.in_lines.1 p.in_lines.1
-      (ap (λ (z : ThreadSite). z.number) o.is ∙ e ∙ sym (ap (λ (z : ThreadSite). z.number) p.is)))
+      (ap (λ (z : ThreadSite). z.event) o.is ∙ u) (ap (λ (z : ThreadSite). z.event) p.is ∙ v) (ap (λ (z : ThreadSite). z.number) o.is ∙ e ∙ sym (ap (λ (z : ThreadSite). z.number) p.is)))
 
   -- an address of a site's code lies in the code of its trampoline
   of_code : (s : ThreadSite) (o : Of s) (h : IsThreadSite R s) (x : ℕ) → is_code_of R s h x → LiesInWith (thread_coding c.report) c o.in_lines.0 x
@@ -454,9 +456,9 @@ module _ (c : Case) (A : AreEntries c.original c.listed) (T : IsTold c.report) (
       let site = same_site s o in
       let same : h.fields ≡ e.fields = one_standing c.original e.entry.addr h.fields e.fields h.spelled e.spelled
       (subst (λ (z : ThreadSite). Stands c.original z.entry.addr (spelling h.fields)) (sym site) h.stands) e.stands in
-      let first : thread_code c.report.private.0 s.number h.fields (s.entry.addr + s.entry.len) s.place
-      ≡ thread_code c.report.private.0 l.number e.fields (e.entry.addr + e.entry.len) l.tramp.place =
-      (λ i. thread_code c.report.private.0 (sym site i).number (same i) ((sym site i).entry.addr + (sym site i).entry.len) (sym site i).place) in
+      let first : code_if s.event c.report.private.0 s.number h.fields (next_of s) s.place
+      ≡ code_if l.tramp.event c.report.private.0 l.number e.fields (e.entry.addr + e.entry.len) l.tramp.place =
+      (λ i. code_if (sym site i).event c.report.private.0 (sym site i).number (same i) (next_of (sym site i)) (sym site i).place) in
       let code = first ∙ code_is l e in
       let p : s.place ≡ l.tramp.place = ap (λ (z : ThreadSite). z.place) (sym site) in
       let n = ap length code in
@@ -505,8 +507,8 @@ module _ (c : Case) (A : AreEntries c.original c.listed) (T : IsTold c.report) (
       owned w =
           let o = owned_at x w in
           let at : entry_at c.listed o.line.tramp.start ≡ Some o.entry = ap (entry_at c.listed) o.start ∙ entry_here c.original c.listed o.entry A o.in_list in
-          let s : ThreadSite = record { number = o.line.number; entry = o.entry; place = o.line.tramp.place } in
-          let k : In (site_of c.listed o.line) s = (0, ap (λ (q : Option StartEntry). slice_get (option_to_list (option_map (λ (e : StartEntry). record { number = o.line.number; entry = e; place = o.line.tramp.place }) q)) 0) at) in
+          let s : ThreadSite = record { number = o.line.number; entry = o.entry; place = o.line.tramp.place; event = o.line.tramp.event } in
+          let k : In (site_of c.listed o.line) s = (0, ap (λ (q : Option StartEntry). slice_get (option_to_list (option_map (λ (e : StartEntry). record { number = o.line.number; entry = e; place = o.line.tramp.place; event = o.line.tramp.event }) q)) 0) at) in
           let i = in_flat (site_of c.listed) (lines c.report) o.line s o.in_lines k in
           any_at (λ (s : ThreadSite). leb s.entry.addr x && ltb x (s.entry.addr + s.entry.len)) R.sites i.0 s i.1
           (and_from (leb o.entry.addr x) (ltb x (o.entry.addr + o.entry.len)) (le-leb o.entry.addr x o.above) (lt-ltb x (o.entry.addr + o.entry.len) o.below))
@@ -523,8 +525,8 @@ module _ (c : Case) (A : AreEntries c.original c.listed) (T : IsTold c.report) (
     once = once;
     numbers = numbers;
     apart = apart;
-    counters = λ s k x a b. let h = room_of s k in zero_at x (omega (arith, a)) (omega (arith, b, h));
-    low = λ s k. let h = room_of s k in let e = B.end in omega (arith, h, e);
+    counters = λ s k v x a b. let h = room_of s k in zero_at x (omega (arith, a)) (omega (arith, b, h));
+    low = λ s k v. let h = room_of s k in let e = B.end in omega (arith, h, e);
   }
 
   -- the entry points are equal

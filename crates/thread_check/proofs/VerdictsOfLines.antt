@@ -1,35 +1,39 @@
 -- What the trampolines and the rules of any patched image show, as a verdict of the rules for threads.
-use Rattle.std.proofs.Common.{◌≡◌, ◌≢◌, ◌⊎◌, inl, inr, ℕ, ◌+◌, ◌-◌, ◌≤◌, Bool, true, false, not, ◌&&◌, ◌||◌, eqb, leb, ltb, List, length, length-append, slice_index, Option, Some, None, refl, sym, ap, ◌∙◌, subst, arith}
+use Rattle.std.proofs.Common.{◌≡◌, ◌≢◌, ◌⊎◌, inl, inr, ℕ, ◌+◌, ◌-◌, ◌≤◌, Bool, true, false, cond, not, ◌&&◌, ◌||◌, eqb, leb, ltb, List, length, slice_index, Option, Some, None, refl, sym, ap, ◌∙◌, subst, arith}
 use Rattle.std.specs.Prelude.{count_by, slice_get}
 use Rattle.std.specs.Option.{is_some, option_map}
 use Rattle.std.specs.List.{list_any}
-use Rattle.std.proofs.lemmas.Bool.{cases_order, and_parts, and_from, or_cases, or_right, eqb-true, leb-true, ltb-true, le-leb, lt-ltb, true_from_ne_false, false_from_ne_true, false≢true, true≢false}
+use Rattle.std.proofs.lemmas.Bool.{cases_order, and_parts, and_from, or_cases, or_right, eqb-true, leb-true, ltb-true, le-leb, lt-ltb, false_from_ne_true, false≢true, true≢false}
 use Rattle.std.proofs.lemmas.Option.{slice_get-map}
 use Rattle.pun_base.specs.Memory.{Cell}
 use Rattle.pun_base.specs.declared.action.Action.{Action}
 use Rattle.pun_base.specs.declared.action.Action.TheVariants.{Cover, Count, Ring, When}
 use Rattle.length_decode.specs.Spelling.{Fields}
-use Rattle.insn_form.specs.Step.{next_after}
+use Rattle.insn_form.specs.declared.form.Insn.{Insn}
+use Rattle.insn_form.specs.Displacing.{displaced_len}
+use Rattle.trampoline.specs.Atomic.{is_atomic, back, can_by}
+use Rattle.start_entries.specs.declared.entry.StartEntry.{StartEntry}
+use Rattle.start_entries.specs.Finding.{entry_at}
+use Rattle.start_entries.specs.Leading.{Leads}
 use Rattle.start_entries.specs.Standing.{AreEntries}
-use Rattle.patch_report.specs.Values.{RowValue}
 use Rattle.patch_report.specs.Grammar.{IsTold}
 use Rattle.patch_report.proofs.ListPlaces.{In, some_is, found, contains_at, place_of, counted_twice, all_in}
-use Rattle.image_check.specs.Reports.{Line, lines, in_private, on_page, tramps_of}
-use Rattle.image_check.specs.Rules.{Case, HasCodeWith, LiesInWith, HoldsCode, is_expected, is_unexpected, is_own}
+use Rattle.image_check.specs.Reports.{Line, lines, times_started, in_private, on_page}
+use Rattle.image_check.specs.Rules.{Case, HasCodeWith, LiesInWith, HoldsCode, is_expected, is_unexpected, displaced_by, displaced_from, displaced_at, EntryFails}
 use Rattle.image_check.specs.declared.rule.Rule.TheVariants as rule
 use Rattle.image_check.specs.declared.verdict.Verdict.{Verdict}
 use Rattle.image_check.specs.declared.verdict.Verdict.TheVariants.{Yes, No}
 use Rattle.image_check.specs.Verdict.{FailsBy, IsLeastOf}
 use Rattle.image_check.proofs.CodeRule.{two_places, held_back}
+use Rattle.image_check.proofs.LeadingBytes.{leads_or_not}
 use Rattle.image_check.proofs.NearCounts.{any_moved, count_moved}
 use Rattle.site_turns.proofs.CodeSizes.{one_standing}
-use Rattle.thread_runs.specs.ThreadCode.{thread_event, thread_work}
 use Rattle.thread_check.specs.declared.places.ThreadCode.{ThreadCode}
-use Rattle.thread_check.specs.ThreadRules.{ThreadLineFails, ThreadEntryFails, thread_coding, ThreadCodeFails, ThreadFails}
+use Rattle.thread_check.specs.ThreadRules.{moved_from, ThreadLineFails, ThreadEntryFails, thread_coding, ThreadCodeFails, ThreadFails}
 use Rattle.thread_check.specs.ThreadVerdict.{IsThreadVerdict}
 use Rattle.thread_check.specs.ThreadSoundness.{IsThreadCaseFollowed}
 use Rattle.thread_check.specs.LineParts.{line_of, is_new_code, IsSoundLine, IsBrokenLine, IsLineFailure, IsSoundCode, in_code, first_overlap, AreSoundLines, IsLinesVerdict, IsSoundImage, ImageFails, IsImageVerdict, first_failure, counts, whole}
-use Rattle.thread_check.proofs.LinesOfRows.{IsOwn, HasEvent, start_once}
+use Rattle.thread_check.proofs.LandingJumps.{leads_too, leads_for}
 use Rattle.thread_check.proofs.HeldCode.{IsHeld, each_held, one_broken}
 use Rattle.thread_check.proofs.PlacesApart.{HaveBytes, in_one, in_two}
 use Rattle.thread_check.proofs.RulesForThreads.{thread_case_is_followed}
@@ -38,14 +42,6 @@ use Rattle.thread_check.proofs.RulesForThreads.{thread_case_is_followed}
 one_code : (c : Case) (l : Line) (f g : List ℕ) → HasCodeWith (thread_coding c.report) c l f → HasCodeWith (thread_coding c.report) c l g → f ≡ g
 one_code c l f g h k =
     h.is ∙ ap (λ (x : Fields). thread_coding c.report l x) (one_standing c.original l.tramp.start h.fields k.fields h.spelled k.spelled h.stands k.stands) ∙ sym k.is
-
--- a trampoline's code has the bytes of its event at least
-some_bytes : (c : Case) (l : Line) (code : List ℕ) → HasCodeWith (thread_coding c.report) c l code → 32 ≤ length code
-some_bytes c l code h =
-    let a : length (thread_event c.report.private.0 l.number) ≡ 32 = refl in
-    let b = length-append (thread_event c.report.private.0 l.number) (thread_work h.fields (next_after l.tramp.start h.fields) (l.tramp.place + 32)) in
-    let n = ap length h.is in
-    omega (arith, a, b, n)
 
 -- what maps to a trampoline is one with its code
 mapped : (o : Option ThreadCode) (l : Line) → option_map (λ (p : ThreadCode). line_of p.line) o ≡ Some l → (p : ThreadCode) × (o ≡ Some p) × (line_of p.line ≡ l)
@@ -154,7 +150,7 @@ module _ (c : Case) (M : IsSoundImage c) where
     have_bytes = false_from_ne_true (list_any (λ (p : ThreadCode). eqb (length p.bytes) 0) sorted) (λ t.
         let f = found (λ (p : ThreadCode). eqb (length p.bytes) 0) codes (sym (any_moved (λ (p : ThreadCode). eqb (length p.bytes) 0) codes sorted L.moved) ∙ t) in
         let n = eqb-true (length f.is.bytes) 0 f.passes in
-        let k = some_bytes c (line_of f.is.line) f.is.bytes (all_in (IsSoundCode c) codes f.is L.each (f.place, f.at)).code_is.has in
+        let k = (all_in (IsSoundCode c) codes f.is L.each (f.place, f.at)).code_is.some in
         absurd (omega (arith, n, k)))
 
     -- two codes that meet break rule 4
@@ -180,22 +176,21 @@ module _ (c : Case) (M : IsSoundImage c) where
               high = ltb-true x (p.line.tramp.place + length p.bytes) q.1;
             }
 
-    module _ (T : IsTold c.report) (apart : first_overlap 0 sorted ≡ None) where
-      -- each row's first trampoline is its own
-      own : (r : RowValue) → In c.report.rows r → IsOwn r
-      own r h = true_from_ne_false (is_own r.site (tramps_of r.outcome)) (λ n. M.sites r.site (inl (h.0, r, h.1, refl, inr (inr n))))
-
-      -- each trampoline has an event
-      events : (l : Line) → In (lines c.report) l → HasEvent l
-      events l h = (at_index h.0 l h.1).sound.event
+    module _ (apart : first_overlap 0 sorted ≡ None) where
+      -- rule 3 of any patched image fails for no trampoline
+      entry_holds : (l : Line) → In (lines c.report) l
+          → ((displaced_at c.listed l.tramp.start ≡ None) ⊎ (2 ≤ times_started c.report l.tramp.start) ⊎ (Leads c.patched c.listed l.tramp.start l.tramp.place → ⊥)) → ⊥
+      entry_holds l h f = M.entries l.tramp.start (l, contains_at (lines c.report) h.0 l h.1, refl, f)
 
       -- rule 3 fails for no trampoline
       line_holds : (l : Line) → In (lines c.report) l → ThreadLineFails c l.tramp.start l → ⊥
       line_holds l h (inl e) = false≢true (sym (ap is_some e) ∙ (at_index h.0 l h.1).sound.code_is.moved)
       line_holds l h (inr (inl e)) = true≢false (sym e ∙ (at_index h.0 l h.1).sound.code_is.alone)
-      line_holds l h (inr (inr (inl two))) = let few = start_once c.report own events T.1.sites l.tramp.start in absurd (omega (arith, two, few))
-      line_holds l h (inr (inr (inr (inl e)))) = true≢false (sym (at_index h.0 l h.1).sound.event ∙ e)
-      line_holds l h (inr (inr (inr (inr n)))) = n (at_index h.0 l h.1).sound.jump
+      line_holds l h (inr (inr (inl two))) = entry_holds l h (inr (inl two))
+      line_holds l h (inr (inr (inr n))) = elim (leads_or_not c.patched c.listed l.tramp.start l.tramp.place) [
+        | inl leads ↦ n (leads_for c l.tramp.start l.tramp.place leads (at_index h.0 l h.1).sound.lands)
+        | inr none ↦ entry_holds l h (inr (inr none))
+      ]
 
       -- rule 3 fails nowhere
       rule_3 : (x : ℕ) → ThreadEntryFails c x → ⊥
@@ -254,26 +249,51 @@ module _ (c : Case) (M : IsSoundImage c) where
   line_fails l addr rule h (inr k) = inr (inr (inr (inl (k.0, broken_fails h.0 l addr h.1 k.1))))
 
   -- the verdict of the trampolines is the verdict, where the action is to count
-  pub verdict_of : IsTold c.report → c.report.action ≡ Count → (v : Verdict) → IsLinesVerdict c v → IsThreadVerdict c v
-  verdict_of T action Yes h = all_hold h.0 h.1 T h.2 action
-  verdict_of T action (No addr rule) (inl k) = line_fails k.0 addr rule (place_of (lines c.report) k.0 k.1) k.2
-  verdict_of T action (No addr rule) (inr k) = inr (inr (inr (inl (k.0, overlap_fails k.1.0 k.1.1 addr k.1.2))))
+  pub verdict_of : c.report.action ≡ Count → (v : Verdict) → IsLinesVerdict c v → IsThreadVerdict c v
+  verdict_of action Yes h = all_hold h.0 h.1 h.2 action
+  verdict_of action (No addr rule) (inl k) = line_fails k.0 addr rule (place_of (lines c.report) k.0 k.1) k.2
+  verdict_of action (No addr rule) (inr k) = inr (inr (inr (inl (k.0, overlap_fails k.1.0 k.1.1 addr k.1.2))))
+
+-- what can't be displaced can't be where threads share memory
+moved_nowhere : (o : Option StartEntry) → displaced_from o ≡ None → moved_from o ≡ None
+moved_nowhere None h = refl
+moved_nowhere (Some e) h = by_form e.form h
+  where
+    by_test : (b : Bool) (k : ℕ) (d : Option ℕ) → d ≡ None → option_map (λ n. n + k) (cond b d None) ≡ None
+    by_test true k d f = ap (option_map (λ n. n + k)) f
+    by_test false k d f = refl
+
+    by_form : (o : Option Insn) → displaced_by o e.len e.addr ≡ None → can_by o e.len e.addr ≡ None
+    by_form None f = refl
+    by_form (Some i) f = by_test (is_atomic i) (back i) (displaced_len i e.len e.addr) f
+
+-- where rule 3 of any patched image fails, that for threads does
+entry_fails : (c : Case) (x : ℕ) → EntryFails c x → ThreadEntryFails c x
+entry_fails c x f = (f.0, f.1, f.2, by_kind f.3)
+  where
+    by_kind : (displaced_at c.listed x ≡ None) ⊎ (2 ≤ times_started c.report x) ⊎ (Leads c.patched c.listed x f.0.tramp.place → ⊥) → ThreadLineFails c x f.0
+    by_kind (inl e) = inl (moved_nowhere (entry_at c.listed x) e)
+    by_kind (inr (inl two)) = inr (inr (inl two))
+    by_kind (inr (inr n)) = inr (inr (inr (λ t. n (leads_too c x f.0.tramp.place t))))
 
 -- a rule of any patched image that fails is one for threads that fails
 pub image_fails : (c : Case) (addr rule : ℕ) → ImageFails c rule addr → ThreadFails c rule addr
 image_fails c addr rule (inl h) = inl h
 image_fails c addr rule (inr (inl h)) = inr (inl h)
 image_fails c addr rule (inr (inr (inl h))) = inr (inr (inr (inr (inl h))))
-image_fails c addr rule (inr (inr (inr h))) = inr (inr (inr (inr (inr (h.0, inl h.1)))))
+image_fails c addr rule (inr (inr (inr (inl h)))) = inr (inr (inr (inr (inr (h.0, inl h.1)))))
+image_fails c addr rule (inr (inr (inr (inr h)))) = inr (inr (inl (h.0, entry_fails c addr h.1)))
 
 -- the first rule that fails is the verdict of the rules of any patched image
-pub image_verdict : (c : Case) (byte write range site : Option ℕ) → IsLeastOf (FailsBy c rule.Byte) byte → IsLeastOf (FailsBy c rule.Write) write
-    → IsLeastOf (FailsBy c rule.Range) range → IsLeastOf (FailsBy c rule.Site) site → IsImageVerdict c (first_failure byte write range site)
-image_verdict c (Some x) write range site h i j k = inl (refl, h.0)
-image_verdict c None (Some x) range site h i j k = inr (inl (refl, i.0))
-image_verdict c None None (Some x) site h i j k = inr (inr (inl (refl, j.0)))
-image_verdict c None None None (Some x) h i j k = inr (inr (inr (refl, k.0)))
-image_verdict c None None None None h i j k = record { bytes = h; writes = i; ranges = j; sites = k }
+pub image_verdict : (c : Case) (byte write range site entry : Option ℕ) → IsLeastOf (FailsBy c rule.Byte) byte → IsLeastOf (FailsBy c rule.Write) write
+    → IsLeastOf (FailsBy c rule.Range) range → IsLeastOf (FailsBy c rule.Site) site → IsLeastOf (FailsBy c rule.Entry) entry
+    → IsImageVerdict c (first_failure byte write range site entry)
+image_verdict c (Some x) write range site entry h i j k l = inl (refl, h.0)
+image_verdict c None (Some x) range site entry h i j k l = inr (inl (refl, i.0))
+image_verdict c None None (Some x) site entry h i j k l = inr (inr (inl (refl, j.0)))
+image_verdict c None None None (Some x) entry h i j k l = inr (inr (inr (inl (refl, k.0))))
+image_verdict c None None None None (Some x) h i j k l = inr (inr (inr (inr (refl, l.0))))
+image_verdict c None None None None None h i j k l = record { bytes = h; writes = i; entries = l; ranges = j; sites = k }
 
 -- an action is to count or isn't
 to_count : (a : Action) → counts a ≡ true → a ≡ Count
@@ -287,13 +307,13 @@ not_to_count : (a : Action) → counts a ≡ false → a ≢ Count
 not_to_count a h = λ e. true≢false (sym (ap counts e) ∙ h)
 
 -- the verdict of all parts is the verdict
-pub whole_verdict : (c : Case) (low : ℕ) (v w : Verdict) → low ≡ c.report.private.0 → IsTold c.report → IsImageVerdict c v → IsLinesVerdict c w
+pub whole_verdict : (c : Case) (low : ℕ) (v w : Verdict) → low ≡ c.report.private.0 → IsImageVerdict c v → IsLinesVerdict c w
     → IsThreadVerdict c (whole (counts c.report.action) low v w)
-whole_verdict c low (No addr rule) w e T h k = image_fails c addr rule h
-whole_verdict c low Yes w e T h k = by_action (counts c.report.action) refl
+whole_verdict c low (No addr rule) w e h k = image_fails c addr rule h
+whole_verdict c low Yes w e h k = by_action (counts c.report.action) refl
   where
     by_action : (b : Bool) → counts c.report.action ≡ b → IsThreadVerdict c (whole b low Yes w)
-    by_action true f = verdict_of c h T (to_count c.report.action f) w k
+    by_action true f = verdict_of c h (to_count c.report.action f) w k
     by_action false f = inr (inr (inr (inr (inr (refl, inr (e, not_to_count c.report.action f))))))
 
 -- where the verdict is Yes, the patched file is followed

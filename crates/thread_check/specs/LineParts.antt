@@ -1,5 +1,5 @@
 -- What the checker keeps of a report's trampolines, and when each is sound. Contracts of private functions alone cite it.
-use Rattle.std.specs.Prelude.{◌≡◌, ◌⊎◌, ℕ, ◌+◌, Bool, true, false, ◌&&◌, nat_le, nat_lt, if◌then◌else◌, List, [], ◌∷◌, map, length, Option, Some, None, is_some, Contains}
+use Rattle.std.specs.Prelude.{◌≡◌, ◌⊎◌, ℕ, ◌+◌, ◌<◌, Bool, true, false, ◌&&◌, nat_le, nat_lt, if◌then◌else◌, List, [], ◌∷◌, map, length, Option, Some, None, is_some, Contains}
 use Rattle.std.specs.List.{AllByRecursion}
 use Rattle.std.specs.List.Sorted.{IsPermutation, IsNonDecreasingBy}
 use Rattle.pun_base.specs.Memory.{Cell, Bytes}
@@ -8,7 +8,7 @@ use Rattle.pun_base.specs.declared.action.Action.TheVariants.{Cover, Count, Ring
 use Rattle.start_entries.specs.Leading.{JumpsTo}
 use Rattle.image_check.specs.CodeParts.{holds_code}
 use Rattle.image_check.specs.Reports.{Line, lines}
-use Rattle.image_check.specs.Rules.{Case, HasCodeWith, ByteFails, WriteFails, RangeFails, SiteFails}
+use Rattle.image_check.specs.Rules.{Case, HasCodeWith, ByteFails, WriteFails, EntryFails, RangeFails, SiteFails}
 use Rattle.image_check.specs.declared.verdict.Verdict.{Verdict}
 use Rattle.image_check.specs.declared.verdict.Verdict.TheVariants.{Yes, No}
 use Rattle.thread_check.specs.declared.lines.ThreadLine.{ThreadLine}
@@ -35,30 +35,38 @@ first_broken m n a [] = None
 first_broken m n a (b ∷ bs) = if is_new_code (m a) (n a) b then first_broken m n (a + 1) bs else Some a
 
 -- The code that a trampoline has for threads: of an instruction that can be displaced and is alone.
+-- It isn't empty.
 pub record IsThreadCode (c : Case) (l : Line) (code : List ℕ) : Type 0 where
   pub moved : is_some (moved_at c.listed l.tramp.start) ≡ true
   pub alone : shares_at c.listed l.tramp.start ≡ false
   pub has : HasCodeWith (thread_coding c.report) c l code
+  pub some : 0 < length code
 
 -- A trampoline has this code, or rule 3 fails for its instruction.
 abbrev pub IsCodeFound : Case → Line → Option (List ℕ) → Type 0
 IsCodeFound c l None = (moved_at c.listed l.tramp.start ≡ None) ⊎ (shares_at c.listed l.tramp.start ≡ true)
 IsCodeFound c l (Some code) = IsThreadCode c l code
 
--- What rules 3 and 4 show for a trampoline with this code, but for its instruction: it has an event,
--- a jump leads to its place, and the code is held there; or which rule fails, and where.
-abbrev pub IsCodeVerdict : Bytes → Bytes → ℕ → ℕ → Bool → List ℕ → Verdict → Type 0
-IsCodeVerdict m n start place event code Yes = (event ≡ true) × JumpsTo n start place × (first_broken m n place code ≡ None)
-IsCodeVerdict m n start place event code (No addr rule) =
-    ((rule ≡ 3) × (addr ≡ start) × ((event ≡ false) ⊎ (JumpsTo n start place → ⊥)))
+-- A jump leads from a start to a place, or to where the original loads a byte.
+pub record Lands (original patched : Bytes) (start place : ℕ) : Type 0 where
+  pub target : ℕ
+  pub jump : JumpsTo patched start target
+  pub there : (target ≡ place) ⊎ (is_some (original target) ≡ true)
+
+-- What rules 3 and 4 show for a trampoline with this code, but for its instruction and for what any
+-- patched image has: a jump leads from its start to its place, or to where the original loads a byte,
+-- and the code is held there; or which rule fails, and where.
+abbrev pub IsCodeVerdict : Bytes → Bytes → ℕ → ℕ → List ℕ → Verdict → Type 0
+IsCodeVerdict m n start place code Yes = Lands m n start place × (first_broken m n place code ≡ None)
+IsCodeVerdict m n start place code (No addr rule) =
+    ((rule ≡ 3) × (addr ≡ start) × (Lands m n start place → ⊥))
     ⊎ ((rule ≡ 4) × (first_broken m n place code ≡ Some addr))
 
--- A trampoline with this code: it has an event, a jump leads to its place, and the code is held
--- there.
+-- A trampoline with this code: a jump leads from its start to its place, or to where the original
+-- loads a byte, and the code is held at the place.
 pub record IsSoundLine (c : Case) (l : Line) (code : List ℕ) : Type 0 where
   pub code_is : IsThreadCode c l code
-  pub event : l.tramp.event ≡ true
-  pub jump : JumpsTo c.patched l.tramp.start l.tramp.place
+  pub lands : Lands c.original c.patched l.tramp.start l.tramp.place
   pub held : first_broken c.original c.patched l.tramp.place code ≡ None
 
 -- The code of a trampoline isn't held at an address.
@@ -103,10 +111,11 @@ IsLinesVerdict c (No addr rule) =
     ((l : Line) × Contains (lines c.report) l × IsLineFailure c l (No addr rule))
     ⊎ ((rule ≡ 4) × ((sorted : List ThreadCode) × AreSoundLines c sorted × (first_overlap 0 sorted ≡ Some addr)))
 
--- Rules 1, 2, 5 and 6 of any patched image hold everywhere.
+-- Rules 1, 2, 3, 5 and 6 of any patched image hold everywhere.
 pub record IsSoundImage (c : Case) : Type 0 where
   pub bytes : (x : ℕ) → ByteFails c x → ⊥
   pub writes : (x : ℕ) → WriteFails c x → ⊥
+  pub entries : (x : ℕ) → EntryFails c x → ⊥
   pub ranges : (x : ℕ) → RangeFails c x → ⊥
   pub sites : (x : ℕ) → SiteFails c x → ⊥
 
@@ -114,19 +123,21 @@ pub record IsSoundImage (c : Case) : Type 0 where
 abbrev pub ImageFails : Case → ℕ → ℕ → Type 0
 ImageFails c rule x =
     ((rule ≡ 1) × ByteFails c x) ⊎ ((rule ≡ 2) × WriteFails c x) ⊎ ((rule ≡ 5) × RangeFails c x) ⊎ ((rule ≡ 6) × SiteFails c x)
+    ⊎ ((rule ≡ 3) × EntryFails c x)
 
 -- What these rules show: each holds everywhere, or one fails at an address.
 abbrev pub IsImageVerdict : Case → Verdict → Type 0
 IsImageVerdict c Yes = IsSoundImage c
 IsImageVerdict c (No addr rule) = ImageFails c rule addr
 
--- The first of the rules 1, 2, 5 and 6 that fails, where each first fails there, if it does.
-abbrev pub first_failure : Option ℕ → Option ℕ → Option ℕ → Option ℕ → Verdict
-first_failure (Some x) write range site = No x 1
-first_failure None (Some x) range site = No x 2
-first_failure None None (Some x) site = No x 5
-first_failure None None None (Some x) = No x 6
-first_failure None None None None = Yes
+-- The first of the rules 1, 2, 5, 6 and 3 that fails, where each first fails there, if it does.
+abbrev pub first_failure : Option ℕ → Option ℕ → Option ℕ → Option ℕ → Option ℕ → Verdict
+first_failure (Some x) write range site entry = No x 1
+first_failure None (Some x) range site entry = No x 2
+first_failure None None (Some x) site entry = No x 5
+first_failure None None None (Some x) entry = No x 6
+first_failure None None None None (Some x) = No x 3
+first_failure None None None None None = Yes
 
 -- An action is to count.
 abbrev pub counts : Action → Bool

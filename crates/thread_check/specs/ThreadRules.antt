@@ -1,6 +1,6 @@
 -- When an image that was patched for threads is sound: six rules, each told by the addresses at which it fails. Theorems cite it.
 -- Rules 1, 2 and 5 are those of any patched image.
-use Rattle.std.specs.Prelude.{◌≡◌, ◌≢◌, ◌⊎◌, ℕ, ◌≤◌, Bool, true, false, List, Option, Some, None, Contains}
+use Rattle.std.specs.Prelude.{◌≡◌, ◌≢◌, ◌⊎◌, ℕ, ◌≤◌, Bool, true, false, List, Option, Some, None, is_some, Contains}
 use Rattle.pun_base.specs.declared.action.Action.TheVariants.{Count}
 use Rattle.insn_form.specs.Step.{next_after}
 use Rattle.start_entries.specs.declared.entry.StartEntry.{StartEntry}
@@ -10,7 +10,7 @@ use Rattle.patch_report.specs.Values.{BodyValue}
 use Rattle.image_check.specs.Reports.{Line, lines, times_started}
 use Rattle.image_check.specs.Rules.{Case, Coding, ByteFails, WriteFails, CodeFailsWith, RangeFails, SiteFails}
 use Rattle.site_turns.specs.Modes.{can_in_threads}
-use Rattle.thread_runs.specs.ThreadCode.{thread_code}
+use Rattle.thread_runs.specs.ThreadCode.{code_if}
 
 -- The length of the code that does the work of an entry's instruction where threads share memory; none without an entry.
 abbrev pub moved_from : Option StartEntry → Option ℕ
@@ -31,21 +31,36 @@ is_marked (Some e) = e.shared
 abbrev pub shares_at : List StartEntry → ℕ → Bool
 shares_at es a = is_marked (entry_at es a)
 
+-- Two jumps of the patched image lead from an address to a place: the second stands at no listed
+-- start, and where the original loads a byte.
+pub record LeadsByTwo (c : Case) (x place : ℕ) : Type 0 where
+  pub second : ℕ
+  pub there : JumpsTo c.patched x second
+  pub unlisted : is_some (entry_at c.listed second) ≡ false
+  pub old : is_some (c.original second) ≡ true
+  pub on : JumpsTo c.patched second place
+
+-- From an address a jump of the patched image leads to a place, or two such jumps do.
+abbrev pub ThreadLeads : Case → ℕ → ℕ → Type 0
+ThreadLeads c x place = JumpsTo c.patched x place ⊎ LeadsByTwo c x place
+
 -- Rule 3 fails at x for a trampoline: x isn't listed or can't be displaced where threads share
 -- memory, or shares a byte with another listed instruction, or is the start of two trampolines, or
--- the trampoline has no event, or no jump leads from x to its place.
+-- neither one jump nor two lead from x to its place.
 abbrev pub ThreadLineFails : Case → ℕ → Line → Type 0
 ThreadLineFails c x l =
     (moved_at c.listed x ≡ None) ⊎ (shares_at c.listed x ≡ true) ⊎ (2 ≤ times_started c.report x)
-    ⊎ (l.tramp.event ≡ false) ⊎ (JumpsTo c.patched x l.tramp.place → ⊥)
+    ⊎ (ThreadLeads c x l.tramp.place → ⊥)
 
 -- Rule 3 fails at x: x is the start of a trampoline for which it fails there.
 abbrev pub ThreadEntryFails : Case → ℕ → Type 0
 ThreadEntryFails c x = (l : Line) × Contains (lines c.report) l × (l.tramp.start ≡ x) × ThreadLineFails c x l
 
--- The coding of a report for threads: the event of the line's number, and the instruction's work.
+-- The coding of a report for threads: the event of the line's number, where the line has one, and
+-- the instruction's work.
 abbrev pub thread_coding : BodyValue → Coding
-thread_coding v l f = thread_code v.private.0 l.number f (next_after l.tramp.start f) l.tramp.place
+thread_coding v l f =
+    code_if l.tramp.event v.private.0 l.number f (next_after l.tramp.start f) l.tramp.place
 
 -- Rule 4 fails at x, by that coding.
 abbrev pub ThreadCodeFails : Case → ℕ → Type 0

@@ -1,22 +1,21 @@
 //! Rules 3 and 4 for one trampoline.
-ghost use Rattle.std.specs.Prelude.{◌≡◌, ◌↔◌, ◌+◌, ◌<◌, ◌^◌, ℕ, true, List, None, IsTrue, MatchResult, length};
+ghost use Rattle.std.specs.Prelude.{◌≡◌, ◌↔◌, ◌+◌, ◌<◌, ◌^◌, ℕ, List, None, IsTrue, MatchResult, length};
 ghost use Rattle.elf_read.specs.Image.{image_of};
 ghost use Rattle.elf_read.specs.Refusals.{refusal};
 ghost use Rattle.start_entries.specs.Laws.{IsBuilt};
-ghost use Rattle.start_entries.specs.Leading.{JumpsTo};
 ghost use Rattle.image_check.specs.CodeParts.{IsLow};
 ghost use Rattle.image_check.specs.Verdict.{case_of};
-ghost use Rattle.thread_check.specs.LineParts.{line_of, IsCodeFound, IsCodeVerdict, IsSoundLine, IsLineFailure};
+ghost use Rattle.thread_check.specs.LineParts.{line_of, Lands, IsCodeFound, IsCodeVerdict, IsSoundLine, IsLineFailure};
 
 use crate::lines::ThreadLine;
-use crate::loaded::first_broken;
+use crate::loaded::{first_broken, is_loaded};
 use code_bytes::code::CodeBytes;
 use elf_read::elf::Elf;
 use image_check::jumps::jump_at;
 use image_check::verdict::Verdict;
 use patch_report::report::Report;
 use start_entries::starts::Starts;
-use thread_runs::thread_build;
+use thread_runs::thread_trampoline;
 
 /// The code of a trampoline, made of the instruction at its start in the original; none where that
 /// isn't listed, shares a byte with another one, or can't be displaced where threads share memory.
@@ -38,7 +37,8 @@ fn code_of(orig: &Elf<'_>, starts: &Starts, report: &Report, line: &ThreadLine) 
     };
     let private = report.private().lo;
     let bytes = &orig.window(entry.addr)[..usize::from(entry.len)];
-    match thread_build(
+    match thread_trampoline(
+        line.tramp.event,
         &insn,
         bytes,
         entry.addr,
@@ -51,37 +51,24 @@ fn code_of(orig: &Elf<'_>, starts: &Starts, report: &Report, line: &ThreadLine) 
     }
 }
 
-/// Whether the jump at an address leads to a place.
-fn jumps_to(elf: &Elf<'_>, addr: u64, place: u64) -> bool
-    ensures { IsTrue result ↔ JumpsTo (image_of elf.now.bytes) addr place }
+/// Whether the jump at a start leads to a place, or to where the original loads a byte.
+fn lands(orig: &Elf<'_>, patched: &Elf<'_>, start: u64, place: u64) -> bool
+    ensures { IsTrue result
+        ↔ Lands (image_of orig.now.bytes) (image_of patched.now.bytes) start place }
 {
-    match jump_at(elf, addr) {
+    match jump_at(patched, start) {
         None => false,
-        Some(target) => target == place,
+        Some(target) => target == place || is_loaded(orig, target),
     }
 }
 
-/// Whether a trampoline has an event, and the jump at its start leads to its place.
-fn enters(patched: &Elf<'_>, start: u64, place: u64, event: bool) -> bool
-    ensures { IsTrue result ↔ (event ≡ true) × JumpsTo (image_of patched.now.bytes) start place }
-{
-    event && jumps_to(patched, start, place)
-}
-
 /// What rule fails of 3 and 4, and where, for a trampoline with this code.
-fn judge_code(
-    orig: &Elf<'_>,
-    patched: &Elf<'_>,
-    start: u64,
-    place: u64,
-    event: bool,
-    code: &[u8],
-) -> Verdict
+fn judge_code(orig: &Elf<'_>, patched: &Elf<'_>, start: u64, place: u64, code: &[u8]) -> Verdict
     requires { place + length code.now < 2 ^ 64 }
     ensures { IsCodeVerdict (image_of orig.now.bytes) (image_of patched.now.bytes)
-        start place event code.now result }
+        start place code.now result }
 {
-    if enters(patched, start, place, event) {
+    if lands(orig, patched, start, place) {
         match first_broken(orig, patched, place, code) {
             None => Verdict::Yes,
             Some(addr) => Verdict::No { addr, rule: 4 },
@@ -120,7 +107,7 @@ pub(crate) fn judge(
         }),
         Some(code) => {
             let bytes = code.as_slice();
-            match judge_code(orig, patched, start, place, line.tramp.event, bytes) {
+            match judge_code(orig, patched, start, place, bytes) {
                 Verdict::Yes => Ok(code),
                 Verdict::No { addr, rule } => Err(Verdict::No { addr, rule }),
             }

@@ -1,5 +1,5 @@
 //! Code that a patched file loads where its original loads nothing.
-ghost use Rattle.std.specs.Prelude.{◌≡◌, ◌+◌, ◌<◌, ◌^◌, length, option_map};
+ghost use Rattle.std.specs.Prelude.{◌≡◌, ◌+◌, ◌<◌, ◌^◌, length, is_some, option_map};
 ghost use Rattle.elf_read.specs.Image.{image_of};
 ghost use Rattle.thread_check.specs.LineParts as parts;
 ghost use Rattle.thread_check.specs.LineParts.{cell_of};
@@ -20,6 +20,13 @@ fn loaded_at(elf: &Elf<'_>, addr: u64) -> Option<LoadedByte>
     let byte = elf.byte(addr)?;
     let perms = elf.perms(addr)?;
     Some(LoadedByte { byte, perms })
+}
+
+/// Whether a file loads a byte at an address.
+pub(crate) fn is_loaded(elf: &Elf<'_>, addr: u64) -> bool
+    ensures { result ≡ is_some (image_of elf.now.bytes addr) }
+{
+    loaded_at(elf, addr).is_some()
 }
 
 /// Whether this byte is loaded, R-X, where the original loads none.

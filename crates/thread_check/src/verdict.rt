@@ -20,14 +20,15 @@ use pun_base::action::Action;
 use start_entries::starts::Starts;
 use std::alloc::{AllocError, Global};
 
-/// The first of the rules 1, 2, 5 and 6 that fails, where each first fails there, if it does.
+/// The first of the rules 1, 2, 5, 6 and 3 that fails, where each first fails there, if it does.
 fn first_failure(
     byte: Option<u64>,
     write: Option<u64>,
     range: Option<u64>,
     site: Option<u64>,
+    entry: Option<u64>,
 ) -> Verdict
-    ensures { result ≡ parts.first_failure byte write range site }
+    ensures { result ≡ parts.first_failure byte write range site entry }
 {
     if let Some(addr) = byte {
         return Verdict::No { addr, rule: 1 };
@@ -38,13 +39,16 @@ fn first_failure(
     if let Some(addr) = range {
         return Verdict::No { addr, rule: 5 };
     }
-    match site {
+    if let Some(addr) = site {
+        return Verdict::No { addr, rule: 6 };
+    }
+    match entry {
         None => Verdict::Yes,
-        Some(addr) => Verdict::No { addr, rule: 6 },
+        Some(addr) => Verdict::No { addr, rule: 3 },
     }
 }
 
-/// Judges by rules 1, 2, 5 and 6 of any patched file.
+/// Judges by rules 1, 2, 3, 5 and 6 of any patched file.
 fn judge_image(alloc: Global, checked: &Checked<'_>) -> Result<Verdict, AllocError>
     ensures { IfOk result (λ v. IsImageVerdict (case_in checked.now) v) }
 {
@@ -52,7 +56,8 @@ fn judge_image(alloc: Global, checked: &Checked<'_>) -> Result<Verdict, AllocErr
     let write = checked.least(alloc, Rule::Write)?;
     let range = checked.least(alloc, Rule::Range)?;
     let site = checked.least(alloc, Rule::Site)?;
-    Ok(first_failure(byte, write, range, site))
+    let entry = checked.least(alloc, Rule::Entry)?;
+    Ok(first_failure(byte, write, range, site, entry))
 }
 
 /// Judges the trampolines by rules 3 and 4, but for what follows where the other rules hold.

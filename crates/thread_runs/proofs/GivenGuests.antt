@@ -94,14 +94,14 @@ module _ (r : Threading) (A : AreEntries r.original r.listed) (S : IsThreadSound
   ]
 
   -- the number of each counter
-  counted : (s : ThreadSite) → Contains r.sites s
+  counted : (s : ThreadSite) → Contains r.sites s → s.event ≡ true
       → number_at v.mem (counter_at r.private s.number) 8 ≡ (count_by (λ e. eqb e.at s.entry.addr) v.log + count_by (λ t. is_counted s t.now.rip) v.threads) % 2 ^ 64
-  counted s c =
-      let n = counter_kept r A S s c w.mem v.mem news in
+  counted s c i =
+      let n = counter_kept r A S s c i w.mem v.mem news in
       let p = count_set (λ (t : Watched). is_counted s t.now.rip) w.threads k one one' D.there in
       let before : is_counted s one.now.rip ≡ false = start_uncounted r A S L one.now.rip s c D.fits.here in
       let after : is_counted s d.rip ≡ false = start_uncounted r A S L d.rip s c D.fits.there in
-      omega (arith, n, R.counted s c, unchanged p before after)
+      omega (arith, n, R.counted s c i, unchanged p before after)
     where
       unchanged : {m n : ℕ} → n + cond (is_counted s one.now.rip) 1 0 ≡ m + cond (is_counted s d.rip) 1 0 → is_counted s one.now.rip ≡ false → is_counted s d.rip ≡ false → n ≡ m
       unchanged q b c =
@@ -120,7 +120,7 @@ module _ (r : Threading) (A : AreEntries r.original r.listed) (S : IsThreadSound
     alike = carried_alike (is_hidden r) w.stale (writes_byte d) R.end.mem w.mem d.writes R.alike (λ z. refl);
     own = written_code r.original R.end.mem d.writes held R.own;
     other = written_code r.patched w.mem d.writes D.fits.held R.other;
-    room = λ s c. let m = R.room s c in record {
+    room = λ s c i. let m = R.room s c i in record {
       read = lacking_on 4 w.mem v.mem (counter_at r.private s.number) 8 (put_all_perms w.mem d.writes) ∙ m.read;
       written = lacking_on 2 w.mem v.mem (counter_at r.private s.number) 8 (put_all_perms w.mem d.writes) ∙ m.written;
     };

@@ -18,8 +18,9 @@ use Rattle.thread_runs.specs.Guest.{Thread, Guest, machine_of, thread_of, Moves,
 use Rattle.thread_runs.specs.GuestDeliveries.{GuestItem, Goes, LeadsBy, IsInterleavedWith}
 use Rattle.thread_runs.specs.WatchedDeliveries.{made_after}
 use Rattle.thread_runs.specs.ThreadCode.{counter_at, slot}
-use Rattle.thread_runs.specs.Event.{Point, offset, HasSaved}
+use Rattle.thread_runs.specs.Event.{Point, offset, is_inside, HasSaved}
 use Rattle.thread_runs.specs.Event.Point.{At0, At7}
+use Rattle.thread_runs.specs.Relation.{point_at}
 use Rattle.thread_runs.specs.Work.{Tail, InTail}
 use Rattle.thread_runs.specs.Work.Tail.{Out, Back, Jump, Ecx}
 use Rattle.thread_runs.specs.Threading.{ThreadSite, Threading, is_part, has_saved, is_one_of, is_saved, is_counted, IsThreadSound}
@@ -32,7 +33,7 @@ use Rattle.image_step.specs.Listed.{is_start}
 use Rattle.thread_runs.specs.Threading.{is_hidden}
 use Rattle.patch_report.proofs.ListPlaces.{some_is, any_at, place_of}
 use Rattle.thread_runs.proofs.ListUpdates.{set_here, set_away, map_set, map_same, get_map, count_set, count_more}
-use Rattle.thread_runs.proofs.ThreadPlaces.{part_true}
+use Rattle.thread_runs.proofs.ThreadPlaces.{part_true, point_inside}
 use Rattle.thread_runs.proofs.WatchedRelation.{ThreadKept, HasRoom, Related, Changes, Made}
 
 -- runs that grow at the end
@@ -93,10 +94,10 @@ tail_on m w t f next to Ecx c rip h = h
 
 module _ (r : Threading) (S : IsThreadSound r) (H : HoldsSlot) where
   -- the saved bytes of another thread hold rax where they stay
-  saved_on : (m w : Bytes) (p : Point) (c : Core) → (offset p ≢ 0 → offset p < 32 → number_at w (slot c) 8 ≡ number_at m (slot c) 8) → HasSaved p c m → HasSaved p c w
+  saved_on : (m w : Bytes) (p : Point) (c : Core) → (is_inside p ≡ true → offset p ≢ 0 → offset p < 32 → number_at w (slot c) 8 ≡ number_at m (slot c) 8) → HasSaved p c m → HasSaved p c w
   saved_on m w At0 c h k = tt
   saved_on m w At7 c h k = tt
-  saved_on m w p c h k = h (λ e. omega (arith, e)) (omega arith) ∙ k
+  saved_on m w p c h k = h refl (λ e. omega (arith, e)) (omega arith) ∙ k
 
   -- where the bytes that another thread has saved stay, so does all that is kept of it
   pub other_kept : (m w : Bytes) (one : Watched) → (has_saved r one.now.rip ≡ true → (x : ℕ) → is_saved one.now.core x ≡ true → w x ≡ m x) → ThreadKept r S m one → ThreadKept r S w one
@@ -106,26 +107,30 @@ module _ (r : Threading) (S : IsThreadSound r) (H : HoldsSlot) where
     start = k.start;
     phase = elim k.phase [
       | inl q ↦ inl q
-      | inr (inl q) ↦ inr (inl (record {
+      | inr (inl q) ↦ inr (inl q)
+      | inr (inr (inl q)) ↦ inr (inr (inl (record {
         site = q.site;
         listed = q.listed;
         point = q.point;
+        counts = q.counts;
         here = q.here;
         there = q.there;
         core = q.core;
         world = q.world;
         old = q.old;
-        saved = saved_on m w q.point one.projected.core (λ n l.
+        saved = saved_on m w q.point one.projected.core (λ i n l.
             let same : slot one.now.core ≡ slot one.projected.core = H q.point one.projected.core one.now.core k.processor q.core in
-            subst (λ (z : ℕ). number_at w z 8 ≡ number_at m z 8) same (number_on m w (slot one.now.core) 8 (h (inside q.site q.listed q.point q.here n l)))) q.saved;
-      }))
-      | inr (inr q) ↦ inr (inr (record { site = q.site; listed = q.listed; tail = q.tail; more = q.more; there = tail_on m w one.now (S.sites q.site q.listed).fields _ _ q.tail _ _ q.there; world = q.world }))
+            subst (λ (z : ℕ). number_at w z 8 ≡ number_at m z 8) same (number_on m w (slot one.now.core) 8 (h (inside q.site q.listed q.point (q.counts i) i q.here n l)))) q.saved;
+      })))
+      | inr (inr (inr q)) ↦ inr (inr (inr (record { site = q.site; listed = q.listed; tail = q.tail; more = q.more; there = tail_on m w one.now (S.sites q.site q.listed).fields _ _ q.tail _ _ q.there; world = q.world })))
     ];
   }
     where
-      inside : (s : ThreadSite) → Contains r.sites s → (p : Point) → one.now.rip ≡ s.place + offset p → offset p ≢ 0 → offset p < 32 → has_saved r one.now.rip ≡ true
-      inside s c p e n l = let i = place_of r.sites s c in
-          any_at (is_part 1 32 one.now.rip) r.sites i.0 s i.1 (part_true 1 32 one.now.rip s (omega (arith, e, n)) (omega (arith, e, l)))
+      inside : (s : ThreadSite) → Contains r.sites s → (p : Point) → s.event ≡ true → is_inside p ≡ true → one.now.rip ≡ point_at s p → offset p ≢ 0 → offset p < 32 → has_saved r one.now.rip ≡ true
+      inside s c p counts j here n l =
+          let e : one.now.rip ≡ s.place + offset p = here ∙ point_inside s p j in
+          let i = place_of r.sites s c in
+          any_at (is_part 1 32 one.now.rip) r.sites i.0 s i.1 (part_true 1 32 one.now.rip s counts (omega (arith, e, n)) (omega (arith, e, l)))
 
   -- the whole relation after a step
   module _ (a : Guest) (made : List GuestItem) (w : Watch) (k : ℕ) (one : Watched) (there : slice_get w.threads k ≡ Some one) (f : Fields) (to : Machine)
@@ -147,19 +152,19 @@ module _ (r : Threading) (S : IsThreadSound r) (H : HoldsSlot) where
     ]
 
     -- each counter of v
-    counted_after : (e : Bool) → is_effect r one.now.rip ≡ e → (s : ThreadSite) → Contains r.sites s
+    counted_after : (e : Bool) → is_effect r one.now.rip ≡ e → (s : ThreadSite) → Contains r.sites s → s.event ≡ true
         → Changes r e s w.mem to.mem one.projected.rip one.now.rip to.rip
         → number_at to.mem (counter_at r.private s.number) 8 ≡ (count_by (λ x. eqb x.at s.entry.addr) v.log + count_by (λ x. is_counted s x.now.rip) v.threads) % 2 ^ 64
-    counted_after true e s c q =
+    counted_after true e s c i q =
         let log : v.log ≡ w.log ++ record { thread = k; at = one.projected.rip } ∷ [] = cond-true (is_effect r one.now.rip) _ _ e in
         let n1 = ap (λ (z : List EffectStep). count_by (λ x. eqb x.at s.entry.addr) z) log ∙ count_more (λ (x : EffectStep). eqb x.at s.entry.addr) w.log (record { thread = k; at = one.projected.rip }) in
         let n2 = count_set (λ (x : Watched). is_counted s x.now.rip) w.threads k one one' there in
-        omega (arith, q.number, q.even, n1, n2, R.counted s c)
-    counted_after false e s c q =
+        omega (arith, q.number, q.even, n1, n2, R.counted s c i)
+    counted_after false e s c i q =
         let log : v.log ≡ w.log = cond-false (is_effect r one.now.rip) _ _ e in
         let n1 = ap (λ (z : List EffectStep). count_by (λ x. eqb x.at s.entry.addr) z) log in
         let n2 = count_set (λ (x : Watched). is_counted s x.now.rip) w.threads k one one' there in
-        omega (arith, q.number, q.even, n1, n2, R.counted s c)
+        omega (arith, q.number, q.even, n1, n2, R.counted s c i)
 
     -- a step that leaves what is due and touches none of the bytes that others saved keeps the relation, if its projection is at a start
     pub kept_by : (m' : Bytes) → LeavesSaved r w k f (machine_of w.mem one.now) → is_start r.listed one'.projected.rip ≡ true
@@ -204,12 +209,12 @@ module _ (r : Threading) (S : IsThreadSound r) (H : HoldsSlot) where
         code : SameCode r.patched to.mem
         code = keeps_code r.patched f (machine_of w.mem one.now) to steps R.other
 
-        room : (s : ThreadSite) → Contains r.sites s → HasRoom to.mem (counter_at r.private s.number)
-        room s c = keeps_room (counter_at r.private s.number) f (machine_of w.mem one.now) to steps (R.room s c)
+        room : (s : ThreadSite) → Contains r.sites s → s.event ≡ true → HasRoom to.mem (counter_at r.private s.number)
+        room s c i = keeps_room (counter_at r.private s.number) f (machine_of w.mem one.now) to steps (R.room s c i)
 
-        counted : (s : ThreadSite) → Contains r.sites s
+        counted : (s : ThreadSite) → Contains r.sites s → s.event ≡ true
             → number_at to.mem (counter_at r.private s.number) 8 ≡ (count_by (λ x. eqb x.at s.entry.addr) v.log + count_by (λ x. is_counted s x.now.rip) v.threads) % 2 ^ 64
-        counted s c = counted_after (is_effect r one.now.rip) refl s c (M.counted s c)
+        counted s c i = counted_after (is_effect r one.now.rip) refl s c i (M.counted s c i)
 
         each : (j : ℕ) (other : Watched) → slice_get v.threads j ≡ Some other → ThreadKept r S to.mem other
         each = each_after m' free (record { processor = M.processor; words = M.words; start = start; phase = M.phase })

@@ -1,10 +1,10 @@
 -- Steps of threads outside the trampolines: at kept starts, and at displaced ones.
-use Rattle.std.proofs.Common.{◌≡◌, inl, inr, ℕ, ◌+◌, ◌%◌, ◌^◌, Bool, true, false, not, ◌&&◌, cond, eqb, Option, None, Ok, ℤ, refl, sym, ap, ap₂, ◌∙◌, subst, arith}
+use Rattle.std.proofs.Common.{◌≡◌, ◌⊎◌, inl, inr, ℕ, ◌+◌, ◌%◌, ◌^◌, Bool, true, false, not, ◌&&◌, cond, eqb, Option, None, Ok, ℤ, refl, sym, ap, ◌∙◌, subst, arith}
 use Rattle.std.specs.Prelude.{Contains}
 use Rattle.std.proofs.lemmas.Bool.{or_right, not_from_true, and_parts, and_left, and_right, cond-true, cond-false, ne_eqb, eq-eqb, true≢false, false≢true, not-true, false_from_ne_true}
 use Rattle.pun_base.specs.Memory.{Bytes}
 use Rattle.length_decode.specs.Spelling.{Fields, spelling}
-use Rattle.cpu_state.specs.Bytes.{advanced, Stands}
+use Rattle.cpu_state.specs.Bytes.{advanced}
 use Rattle.cpu_state.specs.Fixed.{IsFixed}
 use Rattle.cpu_state.specs.Processor.{IsProcessorCore, GiveWords}
 use Rattle.cpu_state.specs.declared.world.Entry.{Entry}
@@ -21,7 +21,7 @@ use Rattle.insn_form.specs.Machine.{Machine, Task, first, act}
 use Rattle.insn_form.specs.Step.{IsAt, next_after, task_of, question_of}
 use Rattle.insn_form.specs.Touched.{writes_none, writes_avoid}
 use Rattle.insn_form.specs.Processor.{IsProcessorState}
-use Rattle.thread_runs.specs.ThreadSteps.{is_locked_inc, thread_task, ThreadStepsBy, ThreadStep}
+use Rattle.thread_runs.specs.ThreadSteps.{thread_task, ThreadStepsBy, ThreadStep}
 use Rattle.insn_form.specs.Alike.{AreAlike, IsAlike, writes_at, still}
 use Rattle.insn_form.proofs.UniqueSteps.{one_instruction, same_ok}
 use Rattle.insn_form.proofs.FrameRule.{keep}
@@ -32,17 +32,18 @@ use Rattle.relocate_insn.proofs.PieceSteps.{gone_to}
 use Rattle.start_entries.specs.Standing.{AreEntries}
 use Rattle.image_step.specs.Listed.{is_start, is_listed_byte}
 use Rattle.thread_runs.specs.Guest.{Thread, machine_of, thread_of}
-use Rattle.thread_runs.specs.Event.Point.{At0}
-use Rattle.thread_runs.specs.Threading.{ThreadSite, Threading, is_new, is_hidden, is_site, is_kept, in_event, saves, is_counted, relocated_at, IsThreadSound}
+use Rattle.thread_runs.specs.Event.Point.{At0, At7}
+use Rattle.thread_runs.specs.Threading.{ThreadSite, Threading, is_new, is_hidden, is_site, is_kept, in_event, saves, is_counted, relocated_at, ByTwoJumps, IsThreadSound}
 use Rattle.thread_runs.specs.Watching.{Watched, Watch, is_effect, behind, projection, stale_after}
 use Rattle.thread_runs.specs.Premises.{IsQuietAt, reads_nothing_of}
 use Rattle.thread_runs.specs.StepLaws.{StepLaws}
 use Rattle.patch_report.proofs.ListPlaces.{any_at, place_of}
 use Rattle.image_check.proofs.LoadedCode.{jump_acts}
-use Rattle.thread_runs.proofs.ThreadPlaces.{start_old, part_never, start_no_site, site_of, effect_kept, effect_never, code_new, in_code, part_is}
+use Rattle.thread_runs.proofs.ThreadPlaces.{start_old, part_never, start_no_site, site_of, effect_kept, effect_never, old_uncounted, in_code, place_in, plain_len, part_is}
 use Rattle.thread_runs.proofs.StandingCode.{own_at, counter_kept}
 use Rattle.thread_runs.proofs.KeptRelation.{keeps_code}
-use Rattle.thread_runs.specs.Relation.{Outside}
+use Rattle.start_entries.specs.Leading.{JumpsTo}
+use Rattle.thread_runs.specs.Relation.{Outside, AtSecond}
 use Rattle.thread_runs.proofs.WatchedRelation.{Phase, ThreadKept, Base, Made}
 
 -- memories that are alike are so by each set that has the same stale bytes
@@ -71,11 +72,49 @@ calm_projection r one m to h e = cond-false (is_kept r one.now.rip) (thread_of t
 module _ (r : Threading) (A : AreEntries r.original r.listed) (S : IsThreadSound r) (L : StepLaws) where
   -- no start is where a thread is counted
   pub start_uncounted : (x : ℕ) (s : ThreadSite) → Contains r.sites s → is_start r.listed x ≡ true → is_counted s x ≡ false
-  start_uncounted x s h e = false_from_ne_true (is_counted s x) (λ p. let q = part_is 21 33 x s p in
-      true≢false (sym (code_new r A S L.long s h x (in_code r A S L.long s h x (omega (arith, q.0)) (omega (arith, q.1)))) ∙ start_old r A S L.long x e))
+  start_uncounted x s h e = old_uncounted r A S L.long x s h (start_old r A S L.long x e)
+
+  -- nothing is counted at the first address of a trampoline
+  pub place_uncounted : (x : ℕ) (site : ThreadSite) → Contains r.sites site → x ≡ site.place → (t : ThreadSite) → Contains r.sites t → is_counted t x ≡ false
+  place_uncounted x site h e t k = false_from_ne_true (is_counted t x) (λ b.
+      let v = part_is 21 33 x t b in
+      let same : t ≡ site = S.apart t site k h x (in_code r A S L.long t k x v.2 (omega (arith, v.0)) (omega (arith, v.1))) (place_in r A S L.long site h x e) in
+      let p : t.place ≡ site.place = ap (λ (y : ThreadSite). y.place) same in
+      omega (arith, v.0, e, p))
+
+  -- a thread that comes to a site's trampoline, with its projection at the site, is at the first point
+  pub come : (site : ThreadSite) → Contains r.sites site → (m : Bytes) (now projected : Thread) → now.rip ≡ site.place → projected.rip ≡ site.entry.addr → now.core ≡ projected.core
+      → now.world ≡ projected.world → Phase r S m now projected
+  come site h m now projected here there core world = by_event site.event refl
+    where
+      by_event : (b : Bool) → site.event ≡ b → Phase r S m now projected
+      by_event true e = inr (inr (inl (record {
+        site = site;
+        listed = h;
+        point = At0;
+        counts = λ i. e;
+        here = omega (arith, here);
+        there = there;
+        core = core;
+        world = world;
+        saved = tt;
+        old = λ e. absurd (false≢true e);
+      })))
+      by_event false e = inr (inr (inl (record {
+        site = site;
+        listed = h;
+        point = At7;
+        counts = λ i. absurd (false≢true i);
+        here = omega (arith, here, plain_len site e);
+        there = there;
+        core = core;
+        world = world;
+        saved = tt;
+        old = λ e. absurd (false≢true e);
+      })))
 
   module _ (M : Bytes) (w : Watch) (one : Watched) (f : Fields) (to : Machine)
-      (steps : ThreadStepsBy f (machine_of w.mem one.now) to) (R : Base r S M w.stale w.mem one) (o : Outside r one.now one.projected) where
+      (steps : ThreadStepsBy f (machine_of w.mem one.now) to) (R : Base r S M w.stale w.mem one) (old : is_new r one.now.rip ≡ false) where
     abbrev s : Machine
     s = machine_of M one.now
 
@@ -91,23 +130,79 @@ module _ (r : Threading) (A : AreEntries r.original r.listed) (S : IsThreadSound
     abbrev stale' : ℕ → Bool
     stale' = stale_after r w.stale one f u
 
-    -- a listed start isn't a new address
-    not_new : is_new r x0 ≡ false
-    not_new = start_old r A S L.long x0 o.start
-
-    -- outside, staleness goes with what is written
+    -- at an address that isn't new staleness goes with what is written
     pub stale_is : (x : ℕ) → stale' x ≡ still w.stale (writes_at (thread_task f next) next s) x
-    stale_is x = cond-false (saves r x0) _ _ (part_never r A S L.long x0 0 1 (omega arith) not_new)
-        ∙ cond-false (in_event r x0) _ _ (part_never r A S L.long x0 0 32 (omega arith) not_new)
+    stale_is x = cond-false (saves r x0) _ _ (part_never r A S L.long x0 0 1 (omega arith) old)
+        ∙ cond-false (in_event r x0) _ _ (part_never r A S L.long x0 0 32 (omega arith) old)
 
     -- the thread's own relation to its projection holds before the step
     kept : ThreadKept r S w.mem one
     kept = R.kept
 
+    -- a direct jump that stands at the thread's address is what the thread makes
+    pub jumped : (target : ℕ) → JumpsTo r.patched x0 target → to ≡ gone_to u target
+    jumped target j =
+        let at_u : IsAt u j.fields = record { spelled = j.spelled; here = fixed_stands w.mem x0 (spelling j.fields) (fixed_on r.patched w.mem x0 (spelling j.fields) R.other j.stands) } in
+        let g : j.fields ≡ f = one_instruction u j.fields f at_u steps.at in
+        let i : insn_of f ≡ Exact (Jmp (Rel j.rel)) = subst (λ (z : Fields). insn_of z ≡ Exact (Jmp (Rel j.rel))) g j.jump in
+        let task : thread_task f next ≡ task_of f next = unlocked_task f next (L.not_locked f (Jmp (Rel j.rel)) i) in
+        let leads : advanced next (word_of j.rel) ≡ target = ap (λ (h : Fields). advanced (next_after x0 h) (word_of j.rel)) (sym g) ∙ j.leads in
+        let acts : act (thread_task f next) next u ≡ Ok (gone_to u target) = ap (λ (t : Task). act t next u) task ∙ jump_acts u next target (insn_of f) (question_of f next) j.rel i leads in
+        same_ok to (gone_to u target) (sym steps.acts ∙ acts)
+
+    -- a direct jump writes nothing
+    jump_calm : (target : ℕ) → JumpsTo r.patched x0 target → (x : ℕ) → writes_at (thread_task f next) next s x ≡ false
+    jump_calm target j x =
+        let at_u : IsAt u j.fields = record { spelled = j.spelled; here = fixed_stands w.mem x0 (spelling j.fields) (fixed_on r.patched w.mem x0 (spelling j.fields) R.other j.stands) } in
+        let g : j.fields ≡ f = one_instruction u j.fields f at_u steps.at in
+        let i : insn_of f ≡ Exact (Jmp (Rel j.rel)) = subst (λ (z : Fields). insn_of z ≡ Exact (Jmp (Rel j.rel))) g j.jump in
+        let task : thread_task f next ≡ task_of f next = unlocked_task f next (L.not_locked f (Jmp (Rel j.rel)) i) in
+        not_from_true _ (ap (λ (t : Task). writes_none (λ y. eqb x y) t next s) task ∙ jump_writes (λ y. eqb x y) next (insn_of f) j.rel s.core (first s.world) i)
+
+    -- a step by a direct jump leaves what is due, in the phase that it leads to, where nothing is counted: the original makes no step
+    made_jump : (target : ℕ) → JumpsTo r.patched x0 target → is_kept r x0 ≡ false → ((t : ThreadSite) → Contains r.sites t → is_counted t target ≡ false)
+        → Phase r S to.mem (thread_of to) one.projected → Made r S stale' M M one w.mem to
+    made_jump target j calm uncounted phase =
+        let end = jumped target j in
+        let none = start_no_site r A S L.long x0 old in
+        let p = calm_projection r one w.mem to calm none in
+        let mem : to.mem ≡ w.mem = ap (λ (z : Machine). z.mem) end in
+        let rip : to.rip ≡ target = ap (λ (z : Machine). z.rip) end in
+        let eff = effect_never r A S L.long x0 calm none in
+        record {
+          went = inl (eff, refl, p);
+          alike = subst (λ (z : Bytes). AreAlike (is_hidden r) stale' M z) (sym mem)
+              (alike_on (is_hidden r) w.stale stale' M w.mem (λ x. stale_is x ∙ ap (λ b. w.stale x && not b) (jump_calm target j x) ∙ and_true (w.stale x)) R.alike);
+          own = R.own;
+          counted = λ t h i. record {
+            more = 0;
+            number = none_more _ _ _ (counter_kept r A S t h i w.mem to.mem (λ x e. ap (λ (z : Bytes). z x) mem)) (R.numbers t h i).1;
+            even = all_zero (is_effect r x0 && eqb one.projected.rip t.entry.addr) (is_counted t to.rip) (is_counted t x0)
+                (and_left (is_effect r x0) (eqb one.projected.rip t.entry.addr) eff)
+                (ap (is_counted t) rip ∙ uncounted t h) (old_uncounted r A S L.long x0 t h old);
+          };
+          processor = subst (λ (t : Thread). IsProcessorCore t.core) (sym p) kept.processor;
+          words = subst (λ (t : Thread). GiveWords t.world) (sym p) kept.words;
+          phase = subst (λ (t : Thread). Phase r S to.mem (thread_of to) t) (sym p) phase;
+        }
+      where
+        and_true : (b : Bool) → (b && true) ≡ b
+        and_true true = refl
+        and_true false = refl
+
+    -- a step at the second of two jumps, into the trampoline, leaves what is due: the original makes no step
+    pub made_second : (q : AtSecond r one.now one.projected) → Made r S stale' M M one w.mem to
+    made_second q =
+        let j : JumpsTo r.patched x0 q.site.place = subst (λ (z : ℕ). JumpsTo r.patched z q.site.place) (sym q.here) q.jumps.on in
+        let end = jumped q.site.place j in
+        let calm : is_kept r x0 ≡ false = and_left (is_start r.listed x0) (not (is_site r x0)) (ap (is_start r.listed) q.here ∙ q.jumps.unlisted) in
+        made_jump q.site.place j calm (λ t h. place_uncounted q.site.place q.site q.listed refl t h)
+        (come q.site q.listed to.mem (thread_of to) one.projected (ap (λ (z : Machine). z.rip) end) q.there (ap (λ (z : Machine). z.core) end ∙ q.core) (ap (λ (z : Machine). z.world) end ∙ q.world))
+
     -- a step at a kept start leaves what is due: the original makes the same step
-    pub made_kept : is_kept r x0 ≡ true → IsQuietAt r (machine_of w.mem one.projected) → (in_event r x0 ≡ false → reads_nothing_of w.stale f u ≡ true)
+    pub made_kept : (o : Outside r one.now one.projected) → is_kept r x0 ≡ true → IsQuietAt r (machine_of w.mem one.projected) → (in_event r x0 ≡ false → reads_nothing_of w.stale f u ≡ true)
         → is_start r.listed (projection r one w.mem to).rip ≡ true → (m' : Bytes) × Made r S stale' M m' one w.mem to
-    made_kept here quiet fresh stand =
+    made_kept o here quiet fresh stand =
         let q = subst (λ (t : Thread). IsQuietAt r (machine_of w.mem t)) (sym o.same) quiet in
         let own = own_at r A S x0 q.known here in
         let at_u : IsAt u own.fields = record { spelled = own.spelled; here = fixed_stands w.mem x0 (spelling own.fields) (fixed_on r.patched w.mem x0 (spelling own.fields) R.other own.patched) } in
@@ -115,7 +210,7 @@ module _ (r : Threading) (A : AreEntries r.original r.listed) (S : IsThreadSound
         let there' = subst (λ (z : Fields). IsFixed r.original x0 (spelling z)) g own.original in
         let at_s : IsAt s f = record { spelled = steps.at.spelled; here = fixed_stands M x0 (spelling f) (fixed_on r.original M x0 (spelling f) R.own there') } in
         let quiet' = q.leaves f steps.at.spelled (fixed_stands r.original x0 (spelling f) there') in
-        let reads = fresh (part_never r A S L.long x0 0 32 (omega arith) not_new) in
+        let reads = fresh (part_never r A S L.long x0 0 32 (omega arith) old) in
         let both : IsAlike (is_hidden r) w.stale s u = record { core = refl; world = refl; mem = R.alike } in
         let X = (L.alike thread_task (is_hidden r) w.stale f s u both refl at_s steps.at quiet' reads).1 to steps in
         let p : projection r one w.mem to ≡ thread_of to = cond-true (is_kept r x0) (thread_of to) _ here in
@@ -130,9 +225,9 @@ module _ (r : Threading) (A : AreEntries r.original r.listed) (S : IsThreadSound
             went = inr (record { is = effect_kept r A S L.long x0 here; to = X.0; steps = subst (λ (t : Thread). ThreadStep (machine_of M t) X.0) o.same (f, X.1.own); mem = refl; thread = z });
             alike = alike_on (is_hidden r) (still w.stale (writes_at (thread_task f next) next s)) stale' X.0.mem to.mem stale_is X.1.alike.mem;
             own = keeps_code r.original f s X.0 X.1.own R.own;
-            counted = λ t h. record {
+            counted = λ t h i. record {
               more = 0;
-              number = none_more _ _ _ (counter_kept r A S t h w.mem to.mem still_new) (R.numbers t h).1;
+              number = none_more _ _ _ (counter_kept r A S t h i w.mem to.mem still_new) (R.numbers t h i).1;
               even = all_zero (is_effect r x0 && eqb one.projected.rip t.entry.addr) (is_counted t to.rip) (is_counted t x0)
                   (and_right (is_effect r x0) (eqb one.projected.rip t.entry.addr) (ne_eqb one.projected.rip t.entry.addr (λ same. no_site t h (ap (λ (y : Thread). y.rip) o.same ∙ same))))
                   (start_uncounted to.rip t h go) (start_uncounted x0 t h o.start);
@@ -152,70 +247,35 @@ module _ (r : Threading) (A : AreEntries r.original r.listed) (S : IsThreadSound
             let b = and_parts (is_start r.listed x0) (not (is_site r x0)) here in
             true≢false (sym (any_at (λ (y : ThreadSite). eqb y.entry.addr x0) r.sites i.0 t i.1 (eq-eqb t.entry.addr x0 (sym e))) ∙ not-true (is_site r x0) b.1)
 
-    -- a step at a patched site, into its trampoline, leaves what is due: the original makes no step
-    pub made_displaced : is_site r x0 ≡ true → Made r S stale' M M one w.mem to
-    made_displaced here =
-        let q = site_of r A S L.long x0 here in
-        let site = q.0 in
-        let K = S.sites site q.1 in
-        let j = K.jump in
-        let at_u : IsAt u j.fields = record {
-          spelled = j.spelled;
-          here = subst (λ (z : ℕ). Stands w.mem z (spelling j.fields)) q.2
-              (fixed_stands w.mem site.entry.addr (spelling j.fields) (fixed_on r.patched w.mem site.entry.addr (spelling j.fields) R.other j.stands));
-        } in
-        let g : j.fields ≡ f = one_instruction u j.fields f at_u steps.at in
-        let i : insn_of f ≡ Exact (Jmp (Rel j.rel)) = subst (λ (z : Fields). insn_of z ≡ Exact (Jmp (Rel j.rel))) g j.jump in
-        let n : is_locked_inc f ≡ false = L.not_locked f (Jmp (Rel j.rel)) i in
-        let task : thread_task f next ≡ task_of f next = unlocked_task f next n in
-        let leads : advanced next (word_of j.rel) ≡ site.place = ap₂ (λ z (h : Fields). advanced (next_after z h) (word_of j.rel)) (sym q.2) (sym g) ∙ j.leads in
-        let acts : act (thread_task f next) next u ≡ Ok (gone_to u site.place) = ap (λ (t : Task). act t next u) task ∙ jump_acts u next site.place (insn_of f) (question_of f next) j.rel i leads in
-        let end : to ≡ gone_to u site.place = same_ok to (gone_to u site.place) (sym steps.acts ∙ acts) in
-        let calm : is_kept r x0 ≡ false = and_right (is_start r.listed x0) (not (is_site r x0)) (not_from_true (is_site r x0) here) in
-        let none = start_no_site r A S L.long x0 not_new in
-        let p = calm_projection r one w.mem to calm none in
-        let writes : (x : ℕ) → writes_at (thread_task f next) next s x ≡ false = λ x. not_from_true _ (ap (λ (t : Task). writes_none (λ y. eqb x y) t next s) task
-        ∙ jump_writes (λ y. eqb x y) next (insn_of f) j.rel s.core (first s.world) i) in
-        let mem : to.mem ≡ w.mem = ap (λ (z : Machine). z.mem) end in
-        let eff = effect_never r A S L.long x0 calm none in
-        record {
-          went = inl (eff, refl, p);
-          alike = subst (λ (z : Bytes). AreAlike (is_hidden r) stale' M z) (sym mem)
-              (alike_on (is_hidden r) w.stale stale' M w.mem (λ x. stale_is x ∙ ap (λ b. w.stale x && not b) (writes x) ∙ and_true (w.stale x)) R.alike);
-          own = R.own;
-          counted = λ t h. record {
-            more = 0;
-            number = none_more _ _ _ (counter_kept r A S t h w.mem to.mem (λ x e. ap (λ (z : Bytes). z x) mem)) (R.numbers t h).1;
-            even = all_zero (is_effect r x0 && eqb one.projected.rip t.entry.addr) (is_counted t to.rip) (is_counted t x0)
-                (and_left (is_effect r x0) (eqb one.projected.rip t.entry.addr) eff)
-                (uncounted t h (ap (λ (z : Machine). z.rip) end)) (start_uncounted x0 t h o.start);
-          };
-          processor = subst (λ (t : Thread). IsProcessorCore t.core) (sym p) kept.processor;
-          words = subst (λ (t : Thread). GiveWords t.world) (sym p) kept.words;
-          phase = subst (λ (t : Thread). Phase r S to.mem (thread_of to) t) (sym p) (inr (inl (record {
-            site = site;
-            listed = q.1;
-            point = At0;
-            here = ap (λ (z : Machine). z.rip) end ∙ zero_more site.place;
-            there = ap (λ (t : Thread). t.rip) (sym o.same) ∙ sym q.2;
-            core = ap (λ (z : Machine). z.core) end ∙ ap (λ (t : Thread). t.core) o.same;
-            world = ap (λ (z : Machine). z.world) end ∙ ap (λ (t : Thread). t.world) o.same;
-            saved = tt;
-            old = λ e. absurd (false≢true e);
-          })));
-        }
+    -- a step at a patched site leaves what is due: it leads into the trampoline or to the second jump, and the original makes no step
+    pub made_displaced : Outside r one.now one.projected → is_site r x0 ≡ true → Made r S stale' M M one w.mem to
+    made_displaced o here = by_jump (S.sites q.0 q.1).jump
       where
-        and_true : (b : Bool) → (b && true) ≡ b
-        and_true true = refl
-        and_true false = refl
+        q : (site : ThreadSite) × Contains r.sites site × (site.entry.addr ≡ x0)
+        q = site_of r A S L.long x0 here
 
-        zero_more : (n : ℕ) → n ≡ n + 0
-        zero_more n = omega arith
+        calm : is_kept r x0 ≡ false
+        calm = and_right (is_start r.listed x0) (not (is_site r x0)) (not_from_true (is_site r x0) here)
 
-        uncounted : (t : ThreadSite) → Contains r.sites t → to.rip ≡ (site_of r A S L.long x0 here).0.place → is_counted t to.rip ≡ false
-        uncounted t h e = false_from_ne_true (is_counted t to.rip) (λ b.
-            let v = part_is 21 33 to.rip t b in
-            let z = site_of r A S L.long x0 here in
-            let same : t ≡ z.0 = S.apart t z.0 h z.1 to.rip (in_code r A S L.long t h to.rip (omega (arith, v.0)) (omega (arith, v.1))) (in_code r A S L.long z.0 z.1 to.rip (omega (arith, e)) (omega (arith, e))) in
-            let pl : t.place ≡ z.0.place = ap (λ (y : ThreadSite). y.place) same in
-            omega (arith, v.0, e, pl))
+        at : one.projected.rip ≡ q.0.entry.addr
+        at = ap (λ (t : Thread). t.rip) (sym o.same) ∙ sym q.2
+
+        by_jump : JumpsTo r.patched q.0.entry.addr q.0.place ⊎ ByTwoJumps r q.0.entry.addr q.0.place → Made r S stale' M M one w.mem to
+        by_jump (inl k) =
+            let j : JumpsTo r.patched x0 q.0.place = subst (λ (z : ℕ). JumpsTo r.patched z q.0.place) q.2 k in
+            let end = jumped q.0.place j in
+            made_jump q.0.place j calm (λ t h. place_uncounted q.0.place q.0 q.1 refl t h)
+            (come q.0 q.1 to.mem (thread_of to) one.projected (ap (λ (z : Machine). z.rip) end) at (ap (λ (z : Machine). z.core) end ∙ ap (λ (t : Thread). t.core) o.same)
+            (ap (λ (z : Machine). z.world) end ∙ ap (λ (t : Thread). t.world) o.same))
+        by_jump (inr k) =
+            let j : JumpsTo r.patched x0 k.second = subst (λ (z : ℕ). JumpsTo r.patched z k.second) q.2 k.there in
+            let end = jumped k.second j in
+            made_jump k.second j calm (λ t h. old_uncounted r A S L.long k.second t h k.old) (inr (inl (record {
+              site = q.0;
+              listed = q.1;
+              jumps = k;
+              here = ap (λ (z : Machine). z.rip) end;
+              there = at;
+              core = ap (λ (z : Machine). z.core) end ∙ ap (λ (t : Thread). t.core) o.same;
+              world = ap (λ (z : Machine). z.world) end ∙ ap (λ (t : Thread). t.world) o.same;
+            })))

@@ -16,14 +16,13 @@ use Rattle.start_entries.specs.Standing.{AreEntries}
 use Rattle.image_step.specs.Listed.{is_start, is_known_start}
 use Rattle.image_check.proofs.LoadedCode.{stands_fixed, fixed_at}
 use Rattle.image_check.proofs.RelatedStates.{allowed_some}
-use Rattle.thread_runs.specs.ThreadCode.{thread_event, thread_work, thread_code, counter_at}
+use Rattle.thread_runs.specs.ThreadCode.{thread_event, event_len, event_if, thread_work, code_if, counter_at}
 use Rattle.trampoline.specs.Atomic.{thread_len}
 use Rattle.thread_runs.specs.Work.{IsWork}
-use Rattle.thread_runs.specs.Threading.{ThreadSite, Threading, is_new, is_site, is_kept, is_one_of, IsThreadSound}
+use Rattle.thread_runs.specs.Threading.{ThreadSite, Threading, next_of, work_at, is_new, is_site, is_kept, is_one_of, IsThreadSound}
 use Rattle.patch_report.proofs.ListPlaces.{found, any_at, contains_at, place_of}
-use Rattle.thread_runs.proofs.ThreadPlaces.{any_none}
+use Rattle.thread_runs.proofs.ThreadPlaces.{any_none, event_length}
 use Rattle.thread_runs.proofs.KeptRelation.{number_on}
-use Rattle.thread_runs.specs.Relation.{next_of, work_at}
 
 -- the instruction at a start, in the original and in the patched image
 pub record Own (r : Threading) (a : ℕ) : Type 0 where
@@ -76,17 +75,16 @@ module _ (r : Threading) (A : AreEntries r.original r.listed) (S : IsThreadSound
       let i = A.each s.entry k.listed in
       stands_fixed r.original s.entry.addr (spelling k.fields) (omega (arith, i.low, k.len)) (λ x l g. (i.executed x l (omega (arith, k.len, g))).1) k.stands
 
-  -- the event stands at its trampoline's place in each memory that has the patched image's code
-  pub event_stands : (s : ThreadSite) (h : Contains r.sites s) (m : Bytes) → SameCode r.patched m → IsFixed m s.place (thread_event r.private s.number)
-  event_stands s h m c =
-      fixed_front m s.place (thread_event r.private s.number) (thread_work (fields_of s h) (next_of s) (work_at s)) (fixed_on r.patched m s.place (thread_code r.private s.number (fields_of s h) (next_of s) s.place) c (S.sites s h).code)
+  -- the event of a site that counts stands at its trampoline's place in each memory that has the patched image's code
+  pub event_stands : (s : ThreadSite) (h : Contains r.sites s) → s.event ≡ true → (m : Bytes) → SameCode r.patched m → IsFixed m s.place (thread_event r.private s.number)
+  event_stands s h e m c = subst (λ (b : Bool). IsFixed m s.place (event_if b r.private s.number)) e
+      (fixed_front m s.place (event_if s.event r.private s.number) (thread_work (fields_of s h) (next_of s) (work_at s)) (fixed_on r.patched m s.place (code_if s.event r.private s.number (fields_of s h) (next_of s) s.place) c (S.sites s h).code))
 
-  -- the trampoline of a site has the event's 32 bytes and those of the relocated code
+  -- the trampoline of a site has the event's bytes and those of the relocated code
   pub code_length : (s : ThreadSite) (h : Contains r.sites s)
-      → length (thread_code r.private s.number (fields_of s h) (next_of s) s.place) ≡ 32 + length (thread_work (fields_of s h) (next_of s) (work_at s))
+      → length (code_if s.event r.private s.number (fields_of s h) (next_of s) s.place) ≡ event_len s.event + length (thread_work (fields_of s h) (next_of s) (work_at s))
   code_length s h =
-      let e : length (thread_event r.private s.number) ≡ 32 = refl in
-      omega (arith, length-append (thread_event r.private s.number) (thread_work (fields_of s h) (next_of s) (work_at s)), e)
+      omega (arith, length-append (event_if s.event r.private s.number) (thread_work (fields_of s h) (next_of s) (work_at s)), event_length s.event r.private s.number)
 
   -- the relocated code stands after the event in each memory that has the patched image's code
   pub work_stands : (s : ThreadSite) (h : Contains r.sites s) (v : Machine) → SameCode r.patched v.mem → IsWork (fields_of s h) s.entry.addr (next_of s) (work_at s) v
@@ -94,21 +92,22 @@ module _ (r : Threading) (A : AreEntries r.original r.listed) (S : IsThreadSound
       let k = S.sites s h in
       let i = A.each s.entry k.listed in
       let n = code_length s h in
-      let e : length (thread_event r.private s.number) ≡ 32 = refl in
+      let e = event_length s.event r.private s.number in
       record {
         spelled = k.spelled;
         size = k.size;
         displaced = subst (λ (z : ℕ). thread_len (insn_of k.fields) z s.entry.addr ≡ Some k.size) (sym k.len) k.displaced;
         behind = ap (λ z. s.entry.addr + z) (sym k.len);
         low = i.low;
-        stands = fixed_back v.mem s.place (thread_event r.private s.number) (thread_work k.fields (next_of s) (work_at s)) (omega (arith, k.low, n, e)) (fixed_on r.patched v.mem s.place (thread_code r.private s.number k.fields (next_of s) s.place) c k.code);
+        stands = subst (λ (z : ℕ). IsFixed v.mem (s.place + z) (thread_work k.fields (next_of s) (work_at s))) e
+            (fixed_back v.mem s.place (event_if s.event r.private s.number) (thread_work k.fields (next_of s) (work_at s)) (omega (arith, k.low, n, e)) (fixed_on r.patched v.mem s.place (code_if s.event r.private s.number k.fields (next_of s) s.place) c k.code));
         place_low = omega (arith, k.low, n);
       }
 
   -- the bytes of a counter are new
-  pub counter_new : (s : ThreadSite) (h : Contains r.sites s) (x : ℕ) → counter_at r.private s.number ≤ x → x < counter_at r.private s.number + 8 → is_new r x ≡ true
-  counter_new s h x a b =
-      let q = S.counters s h x a (omega (arith, b)) in
+  pub counter_new : (s : ThreadSite) (h : Contains r.sites s) → s.event ≡ true → (x : ℕ) → counter_at r.private s.number ≤ x → x < counter_at r.private s.number + 8 → is_new r x ≡ true
+  counter_new s h e x a b =
+      let q = S.counters s h e x a (omega (arith, b)) in
       ap₂ (λ (o p : Option Cell). is_some o && not (is_some p)) q.0 q.1
 
   -- where n addresses from a on don't wrap round, each of them lies from a on and below a + n
@@ -123,8 +122,8 @@ module _ (r : Threading) (A : AreEntries r.original r.listed) (S : IsThreadSound
       by_test false e go k = let q = go k in (omega (arith, q.0), omega (arith, q.1))
 
   -- what keeps new bytes keeps the counters' numbers
-  pub counter_kept : (s : ThreadSite) (h : Contains r.sites s) (m w : Bytes) → ((x : ℕ) → is_new r x ≡ true → w x ≡ m x)
+  pub counter_kept : (s : ThreadSite) (h : Contains r.sites s) → s.event ≡ true → (m w : Bytes) → ((x : ℕ) → is_new r x ≡ true → w x ≡ m x)
       → number_at w (counter_at r.private s.number) 8 ≡ number_at m (counter_at r.private s.number) 8
-  counter_kept s h m w k = number_on m w (counter_at r.private s.number) 8 (λ x e.
-      let low = S.low s h in
-      let q = one_in (counter_at r.private s.number) 8 x (omega (arith, low)) e in k x (counter_new s h x q.0 q.1))
+  counter_kept s h c m w k = number_on m w (counter_at r.private s.number) 8 (λ x e.
+      let low = S.low s h c in
+      let q = one_in (counter_at r.private s.number) 8 x (omega (arith, low)) e in k x (counter_new s h c x q.0 q.1))

@@ -1,5 +1,5 @@
 -- A trampoline for threads as it is written.
-use Rattle.std.proofs.Common.{◌≡◌, ℕ, ◌+◌, Bool, true, false, not, cond, eqb, List, [], ◌++◌, length, length-append, Option, Some, None, sym, ap, ◌∙◌, arith}
+use Rattle.std.proofs.Common.{◌≡◌, ℕ, ◌+◌, Bool, true, false, not, cond, eqb, List, [], ◌++◌, length, length-append, Option, Some, None, refl, sym, ap, ◌∙◌, arith}
 use Rattle.std.specs.Option.{option_map}
 use Rattle.std.proofs.lemmas.List.{append-nil}
 use Rattle.length_decode.specs.Spelling.{Fields}
@@ -13,8 +13,8 @@ use Rattle.relocate_insn.specs.Relocating.{relocated_by}
 use Rattle.relocate_insn.proofs.CodeRuns.{told_low}
 use Rattle.trampoline.specs.Trampolines.{back_if}
 use Rattle.trampoline.proofs.TrampolineBytes.{back_long}
-use Rattle.thread_runs.specs.ThreadCode.{thread_relocated, call_reg_code, thread_event}
-use Rattle.thread_runs.specs.Building.{call_register, some_register, work_by, thread_size}
+use Rattle.thread_runs.specs.ThreadCode.{thread_relocated, call_reg_code, event_len, event_if}
+use Rattle.thread_runs.specs.Building.{call_register, some_register, work_by, size_if}
 use Rattle.thread_runs.proofs.WorkSize.{call_long}
 
 -- the code after an event, as it is written, is the work of the definition
@@ -35,34 +35,39 @@ work_is (Asked form) p f next to r work goes h e g = let q : r ≡ None = cc in 
 work_is Ending p f next to r work goes h e g = let q : r ≡ None = cc in λ i. work_by (q i) (e i) (g i) to next
 
 -- a trampoline that calls through no register has as many bytes as its size says
-plain : (x : Insn) (len addr next to : ℕ) (r : Option ℕ) (work : List ℕ) (goes : Bool) → r ≡ None → goes ≡ falls x → displaced_len x len addr ≡ Some (length work)
-    → option_map (λ n. 32 + n + cond (falls x) 5 0) (displaced_len x len addr) ≡ Some (32 + length (work_by r work goes to next))
-plain x len addr next to r work goes q g d =
+plain : (b : Bool) (x : Insn) (len addr next to : ℕ) (r : Option ℕ) (work : List ℕ) (goes : Bool) → r ≡ None → goes ≡ falls x → displaced_len x len addr ≡ Some (length work)
+    → option_map (λ n. event_len b + n + cond (falls x) 5 0) (displaced_len x len addr) ≡ Some (event_len b + length (work_by r work goes to next))
+plain b x len addr next to r work goes q g d =
     let l : length (work_by r work goes to next) ≡ length work + length (back_if goes (to + length work) next) = ap (λ z. length (work_by z work goes to next)) q ∙ length-append work (back_if goes (to + length work) next) in
-    let b : length (back_if goes (to + length work) next) ≡ cond (falls x) 5 0 = back_long goes (to + length work) next ∙ ap (λ z. cond z 5 0) g in
-    ap (option_map (λ n. 32 + n + cond (falls x) 5 0)) d ∙ ap Some (omega (arith, l, b))
+    let back : length (back_if goes (to + length work) next) ≡ cond (falls x) 5 0 = back_long goes (to + length work) next ∙ ap (λ z. cond z 5 0) g in
+    ap (option_map (λ n. event_len b + n + cond (falls x) 5 0)) d ∙ ap Some (omega (arith, l, back))
 
 -- the work has as many bytes as the relocated code of elsewhere and the jump back
-pub work_long : (x : Insn) (len addr next to : ℕ) (r : Option ℕ) (work : List ℕ) (goes : Bool) → call_register x ≡ Some r → goes ≡ falls x → displaced_len x len addr ≡ Some (length work)
-    → thread_size x len addr ≡ Some (32 + length (work_by r work goes to next))
-work_long (Exact (Call (Through (Reg a)))) len addr next to r work goes h g d = by_rsp (eqb a 4) h
+pub work_long : (b : Bool) (x : Insn) (len addr next to : ℕ) (r : Option ℕ) (work : List ℕ) (goes : Bool) → call_register x ≡ Some r → goes ≡ falls x → displaced_len x len addr ≡ Some (length work)
+    → size_if b x len addr ≡ Some (event_len b + length (work_by r work goes to next))
+work_long b (Exact (Call (Through (Reg a)))) len addr next to r work goes h g d = by_rsp (eqb a 4) h
   where
     n39 : 39 ≡ length work
     n39 = let k = (told_low (is_low (addr + len) None) (is_low (addr + len) None) (Some 39) (length work) d).2 in cc
 
-    by_rsp : (b : Bool) → some_register (cond b None (Some a)) ≡ Some r → option_map (λ n. 32 + n + 0) (cond (not b) (displaced_len (Exact (Call (Through (Reg a)))) len addr) None) ≡ Some (32 + length (work_by r work goes to next))
+    by_rsp : (c : Bool) → some_register (cond c None (Some a)) ≡ Some r → option_map (λ n. event_len b + n + 0) (cond (not c) (displaced_len (Exact (Call (Through (Reg a)))) len addr) None) ≡ Some (event_len b + length (work_by r work goes to next))
     by_rsp true k = absurd cc
     by_rsp false k =
         let q : Some a ≡ r = cc in
         let l : length (work_by r work goes to next) ≡ 39 = ap (λ z. length (work_by z work goes to next)) (sym q) ∙ call_long a next in
         ap Some (omega (arith, l))
-work_long (Exact (Call (Through (High a)))) len addr next to r work goes h g d = absurd cc
-work_long (Exact (Call (Through (Mem m)))) len addr next to r work goes h g d = absurd cc
-work_long (Exact (Call (Rel z))) len addr next to r work goes h g d = let q : r ≡ None = cc in plain (Exact (Call (Rel z))) len addr next to r work goes q g d
-work_long (Exact op) len addr next to r work goes h g d = let q : r ≡ None = cc in plain (Exact op) len addr next to r work goes q g d
-work_long (Asked form) len addr next to r work goes h g d = let q : r ≡ None = cc in plain (Asked form) len addr next to r work goes q g d
-work_long Ending len addr next to r work goes h g d = let q : r ≡ None = cc in plain Ending len addr next to r work goes q g d
+work_long b (Exact (Call (Through (High a)))) len addr next to r work goes h g d = absurd cc
+work_long b (Exact (Call (Through (Mem m)))) len addr next to r work goes h g d = absurd cc
+work_long b (Exact (Call (Rel z))) len addr next to r work goes h g d = let q : r ≡ None = cc in plain b (Exact (Call (Rel z))) len addr next to r work goes q g d
+work_long b (Exact op) len addr next to r work goes h g d = let q : r ≡ None = cc in plain b (Exact op) len addr next to r work goes q g d
+work_long b (Asked form) len addr next to r work goes h g d = let q : r ≡ None = cc in plain b (Asked form) len addr next to r work goes q g d
+work_long b Ending len addr next to r work goes h g d = let q : r ≡ None = cc in plain b Ending len addr next to r work goes q g d
 
--- the event has 32 bytes
-pub event_more : (p i : ℕ) (w : List ℕ) → 32 + length w ≡ length (thread_event p i ++ w)
-event_more p i w = omega (arith, length-append (thread_event p i) w)
+-- an event has 32 bytes, where there is one
+pub event_long : (b : Bool) (p i : ℕ) → length (event_if b p i) ≡ event_len b
+event_long true p i = refl
+event_long false p i = refl
+
+-- a trampoline has the bytes of its event, where there is one, and those after it
+pub event_more : (b : Bool) (p i : ℕ) (w : List ℕ) → event_len b + length w ≡ length (event_if b p i ++ w)
+event_more b p i w = let n = event_long b p i in omega (arith, n, length-append (event_if b p i) w)

@@ -13,9 +13,9 @@ use Rattle.thread_runs.specs.Guest.{Thread, Guest, machine_of, thread_of, last_g
 use Rattle.thread_runs.specs.GuestDeliveries.{GuestItem, IsInterleavedWith}
 use Rattle.thread_runs.specs.ThreadCode.{counter_at}
 use Rattle.thread_runs.specs.Work.{Tail, left, InTail}
-use Rattle.thread_runs.specs.Threading.{ThreadSite, Threading, is_hidden, is_counted, IsThreadSound}
+use Rattle.thread_runs.specs.Threading.{ThreadSite, Threading, next_of, work_at, is_hidden, is_counted, IsThreadSound}
 use Rattle.thread_runs.specs.Watching.{Watched, Watch, is_effect, projection}
-use Rattle.thread_runs.specs.Relation.{next_of, work_at, Outside, AtEvent}
+use Rattle.thread_runs.specs.Relation.{Outside, AtSecond, AtEvent}
 use Rattle.thread_runs.specs.Theorem.{AreCounted}
 
 -- after the effect step
@@ -27,9 +27,9 @@ pub record OnWay (r : Threading) (S : IsThreadSound r) (m : Bytes) (now projecte
   pub there : InTail (S.sites site listed).fields (next_of site) (work_at site) tail projected.core projected.rip (machine_of m now)
   pub world : now.world ≡ projected.world
 
--- where a thread stands: outside and as its projection, in an event, or after its effect step
+-- where a thread stands: outside and as its projection, at a second jump, in an event or at the relocated code, or after its effect step
 abbrev pub Phase : (r : Threading) → IsThreadSound r → Bytes → Thread → Thread → Type 0
-Phase r S m now projected = Outside r now projected ⊎ AtEvent r m now projected ⊎ OnWay r S m now projected
+Phase r S m now projected = Outside r now projected ⊎ AtSecond r now projected ⊎ AtEvent r m now projected ⊎ OnWay r S m now projected
 
 -- what each step keeps of one thread: its projection is a processor's state at a listed start, and it stands in one of the phases
 pub record ThreadKept (r : Threading) (S : IsThreadSound r) (m : Bytes) (one : Watched) : Type 0 where
@@ -48,8 +48,8 @@ pub record Base (r : Threading) (S : IsThreadSound r) (m : Bytes) (stale : ℕ �
   pub alike : AreAlike (is_hidden r) stale m u
   pub own : SameCode r.original m
   pub other : SameCode r.patched u
-  pub room : (s : ThreadSite) → Contains r.sites s → HasRoom u (counter_at r.private s.number)
-  pub numbers : (s : ThreadSite) → Contains r.sites s → (n : ℕ) × (number_at u (counter_at r.private s.number) 8 ≡ n % 2 ^ 64)
+  pub room : (s : ThreadSite) → Contains r.sites s → s.event ≡ true → HasRoom u (counter_at r.private s.number)
+  pub numbers : (s : ThreadSite) → Contains r.sites s → s.event ≡ true → (n : ℕ) × (number_at u (counter_at r.private s.number) 8 ≡ n % 2 ^ 64)
   pub kept : ThreadKept r S u one
 
 -- what each item keeps of a watched guest: what was made so far is a run of the original, with equal threads and memory but for hidden and stale bytes
@@ -62,7 +62,7 @@ pub record Related (r : Threading) (S : IsThreadSound r) (a : Guest) (made : Lis
   pub alike : AreAlike (is_hidden r) w.stale end.mem w.mem
   pub own : SameCode r.original end.mem
   pub other : SameCode r.patched w.mem
-  pub room : (s : ThreadSite) → Contains r.sites s → HasRoom w.mem (counter_at r.private s.number)
+  pub room : (s : ThreadSite) → Contains r.sites s → s.event ≡ true → HasRoom w.mem (counter_at r.private s.number)
   pub counted : AreCounted r w
   pub each : (k : ℕ) (one : Watched) → slice_get w.threads k ≡ Some one → ThreadKept r S w.mem one
 
@@ -89,7 +89,7 @@ pub record Made (r : Threading) (S : IsThreadSound r) (stale' : ℕ → Bool) (m
   pub went : Calm (is_effect r one.now.rip) m m' one.projected (projection r one u to) ⊎ Acts (is_effect r one.now.rip) m m' one.projected (projection r one u to)
   pub alike : AreAlike (is_hidden r) stale' m' to.mem
   pub own : SameCode r.original m'
-  pub counted : (s : ThreadSite) → Contains r.sites s → Changes r (is_effect r one.now.rip) s u to.mem one.projected.rip one.now.rip to.rip
+  pub counted : (s : ThreadSite) → Contains r.sites s → s.event ≡ true → Changes r (is_effect r one.now.rip) s u to.mem one.projected.rip one.now.rip to.rip
   pub processor : IsProcessorCore (projection r one u to).core
   pub words : GiveWords (projection r one u to).world
   pub phase : Phase r S to.mem (thread_of to) (projection r one u to)
@@ -101,6 +101,6 @@ base_of r S a made w R k one e = record {
   own = R.own;
   other = R.other;
   room = R.room;
-  numbers = λ s c. (_, R.counted s c);
+  numbers = λ s c e. (_, R.counted s c e);
   kept = R.each k one e;
 }

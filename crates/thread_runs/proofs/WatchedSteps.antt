@@ -16,10 +16,10 @@ use Rattle.thread_runs.specs.Guest.{Thread, Guest, machine_of, thread_of}
 use Rattle.thread_runs.specs.ThreadCode.{counter_at, slot}
 use Rattle.thread_runs.specs.Event.{Point, offset, is_inside, Holds, HasSaved}
 use Rattle.thread_runs.specs.Event.Point.{At0, At1, At2, At3, At4, At5, At6, At7}
-use Rattle.thread_runs.specs.Threading.{ThreadSite, Threading, is_new, is_hidden, is_site, is_kept, is_counted, relocated_at, is_code_of, IsThreadSound}
+use Rattle.thread_runs.specs.Threading.{ThreadSite, Threading, next_of, work_at, is_new, is_hidden, is_site, is_kept, is_counted, relocated_at, is_code_of, IsThreadSound}
 use Rattle.thread_runs.specs.Watching.{Watched, Watch, watch_of, projection, stale_after, watched_after, Watches}
 use Rattle.thread_runs.specs.Premises.{StandAtStarts, IsProper}
-use Rattle.thread_runs.specs.Relation.{next_of, work_at, has_rax, Outside, AtEvent, BehindEffect, IsBeside}
+use Rattle.thread_runs.specs.Relation.{has_rax, point_at, Outside, AtSecond, AtEvent, BehindEffect, IsBeside}
 use Rattle.thread_runs.specs.Theorem.{AreStartGuests, AreCounted}
 use Rattle.thread_runs.specs.GuestDeliveries.{GuestItem}
 use Rattle.thread_runs.specs.WatchedDeliveries.{WatchWith, made_after}
@@ -29,10 +29,10 @@ use Rattle.patch_report.proofs.ListPlaces.{any_at, place_of, some_is, all_in, al
 use Rattle.image_check.proofs.RelatedStates.{allowed_some}
 use Rattle.image_check.proofs.StartPairs.{held_first}
 use Rattle.thread_runs.proofs.ListUpdates.{set_here}
-use Rattle.thread_runs.proofs.ThreadPlaces.{any_none, effect_kept, effect_there, kept_not, site_here, in_code, code_unlisted}
+use Rattle.thread_runs.proofs.ThreadPlaces.{any_none, effect_kept, effect_there, kept_not, site_here, work_in, point_in, start_old, code_unlisted}
 use Rattle.thread_runs.proofs.KeptRelation.{kept_by}
 use Rattle.thread_runs.proofs.StandingCode.{fields_of, code_length, work_stands}
-use Rattle.thread_runs.proofs.OutsideSteps.{made_kept, made_displaced, start_uncounted}
+use Rattle.thread_runs.proofs.OutsideSteps.{made_kept, made_displaced, made_second, start_uncounted}
 use Rattle.thread_runs.proofs.ThreadEventSteps.{made_event}
 use Rattle.thread_runs.proofs.DisplacedSteps.{made_tail, reads_too, at_work, effect_told, made_effect}
 use Rattle.thread_runs.proofs.WatchedRelation.{OnWay, Phase, ThreadKept, Base, Related, base_of, Made}
@@ -68,6 +68,10 @@ map_back_all [] = refl
 map_back_all (t ∷ ts) = ap (λ l. t ∷ l) (map_back_all ts)
 
 module _ (r : Threading) (A : AreEntries r.original r.listed) (S : IsThreadSound r) (L : StepLaws) where
+  -- a second jump stands at no new address
+  second_old : (now projected : Thread) → (q : AtSecond r now projected) → is_new r now.rip ≡ false
+  second_old now projected q = ap (is_new r) q.here ∙ q.jumps.old
+
   -- one step keeps the relation
   pub stepped : (a : Guest) (made : List GuestItem) (k : ℕ) (w v : Watch) → Related r S a made w → (m : Watches r k w v) → IsProper r k w v m → Related r S a (made_after r k m.one made) v
   stepped a made k w v R m P =
@@ -92,23 +96,23 @@ module _ (r : Threading) (A : AreEntries r.original r.listed) (S : IsThreadSound
       done m' M = kept_by r S L.slots a made w k m.one m.there m.fields m.to m.steps R m' P.apart stand M
 
       outside : Outside r m.one.now m.one.projected → (b : Bool) → is_site r m.one.now.rip ≡ b → Related r S a (made_after r k m.one made) (watched_after r k w m.one m.fields m.to)
-      outside o true e = done R.end.mem (made_displaced r A S L R.end.mem w m.one m.fields m.to m.steps B o e)
+      outside o true e = done R.end.mem (made_displaced r A S L R.end.mem w m.one m.fields m.to m.steps B (start_old r A S L.long m.one.now.rip o.start) o e)
       outside o false e =
           let is : is_kept r m.one.now.rip ≡ true = and_from (is_start r.listed m.one.now.rip) (not (is_site r m.one.now.rip)) o.start (not_from_false (is_site r m.one.now.rip) e) in
-          let q = made_kept r A S L R.end.mem w m.one m.fields m.to m.steps B o is (P.quiet (effect_kept r A S L.long m.one.now.rip is)) P.fresh stand in
+          let q = made_kept r A S L R.end.mem w m.one m.fields m.to m.steps B (start_old r A S L.long m.one.now.rip o.start) o is (P.quiet (effect_kept r A S L.long m.one.now.rip is)) P.fresh stand in
           done q.0 q.1
 
-      event : (site : ThreadSite) → Contains r.sites site → (p : Point) → is_inside p ≡ true → m.one.now.rip ≡ site.place + offset p → m.one.projected.rip ≡ site.entry.addr
+      event : (site : ThreadSite) → Contains r.sites site → site.event ≡ true → (p : Point) → is_inside p ≡ true → m.one.now.rip ≡ site.place + offset p → m.one.projected.rip ≡ site.entry.addr
           → Holds p m.one.projected.core m.one.now.core → m.one.now.world ≡ m.one.projected.world → HasSaved p m.one.projected.core w.mem
           → (has_rax p ≡ true → avoids (is_new r) (slot m.one.projected.core) 8 ≡ true) → Related r S a (made_after r k m.one made) (watched_after r k w m.one m.fields m.to)
-      event site listed p i e at core world saved old =
-          done R.end.mem (made_event r A S L R.end.mem w m.one m.fields m.to m.steps B P.saved site listed p i e at core world saved old)
+      event site listed counts p i e at core world saved old =
+          done R.end.mem (made_event r A S L R.end.mem w m.one m.fields m.to m.steps B P.saved site listed counts p i e at core world saved old)
 
-      by_point : (site : ThreadSite) → Contains r.sites site → (p : Point) → m.one.now.rip ≡ site.place + offset p → m.one.projected.rip ≡ site.entry.addr
+      by_point : (site : ThreadSite) → Contains r.sites site → (p : Point) → (is_inside p ≡ true → site.event ≡ true) → m.one.now.rip ≡ point_at site p → m.one.projected.rip ≡ site.entry.addr
           → Holds p m.one.projected.core m.one.now.core → m.one.now.world ≡ m.one.projected.world → HasSaved p m.one.projected.core w.mem
           → (has_rax p ≡ true → avoids (is_new r) (slot m.one.projected.core) 8 ≡ true) → Related r S a (made_after r k m.one made) (watched_after r k w m.one m.fields m.to)
-      by_point site listed At7 e at core world saved old =
-          let c = in_code r A S L.long site listed m.one.now.rip (omega (arith, e)) (omega (arith, e)) in
+      by_point site listed At7 c e at core world saved old =
+          let c = work_in r A S L.long site listed m.one.now.rip e in
           let calm = kept_not r A S L.long site listed m.one.now.rip c in
           let eff = effect_there r A S L.long m.one.now.rip site calm (ap (relocated_at r.sites) e ∙ site_here r A S L.long site listed) in
           let reads = reads_too r A S L site listed R.end.mem w m.one m.fields m.to m.steps B e at core world P.fresh in
@@ -116,18 +120,19 @@ module _ (r : Threading) (A : AreEntries r.original r.listed) (S : IsThreadSound
           let T = effect_told r A S L site listed R.end.mem w m.one m.fields m.to m.steps B e at work in
           let q = made_effect r A S L site listed R.end.mem w m.one m.fields m.to m.steps B e at T stand in
           done q.0 q.1
-      by_point site listed At0 e at core world saved old = event site listed At0 refl e at core world saved old
-      by_point site listed At1 e at core world saved old = event site listed At1 refl e at core world saved old
-      by_point site listed At2 e at core world saved old = event site listed At2 refl e at core world saved old
-      by_point site listed At3 e at core world saved old = event site listed At3 refl e at core world saved old
-      by_point site listed At4 e at core world saved old = event site listed At4 refl e at core world saved old
-      by_point site listed At5 e at core world saved old = event site listed At5 refl e at core world saved old
-      by_point site listed At6 e at core world saved old = event site listed At6 refl e at core world saved old
+      by_point site listed At0 c e at core world saved old = event site listed (c refl) At0 refl e at core world saved old
+      by_point site listed At1 c e at core world saved old = event site listed (c refl) At1 refl e at core world saved old
+      by_point site listed At2 c e at core world saved old = event site listed (c refl) At2 refl e at core world saved old
+      by_point site listed At3 c e at core world saved old = event site listed (c refl) At3 refl e at core world saved old
+      by_point site listed At4 c e at core world saved old = event site listed (c refl) At4 refl e at core world saved old
+      by_point site listed At5 c e at core world saved old = event site listed (c refl) At5 refl e at core world saved old
+      by_point site listed At6 c e at core world saved old = event site listed (c refl) At6 refl e at core world saved old
 
       by_phase : Phase r S w.mem m.one.now m.one.projected → Related r S a (made_after r k m.one made) (watched_after r k w m.one m.fields m.to)
       by_phase (inl o) = outside o (is_site r m.one.now.rip) refl
-      by_phase (inr (inl q)) = by_point q.site q.listed q.point q.here q.there q.core q.world q.saved q.old
-      by_phase (inr (inr q)) = done R.end.mem (made_tail r A S L q.site q.listed R.end.mem w m.one m.fields m.to m.steps B q.tail q.more q.there q.world)
+      by_phase (inr (inl q)) = done R.end.mem (made_second r A S L R.end.mem w m.one m.fields m.to m.steps B (second_old m.one.now m.one.projected q) q)
+      by_phase (inr (inr (inl q))) = by_point q.site q.listed q.point q.counts q.here q.there q.core q.world q.saved q.old
+      by_phase (inr (inr (inr q))) = done R.end.mem (made_tail r A S L q.site q.listed R.end.mem w m.one m.fields m.to m.steps B q.tail q.more q.there q.world)
 
   -- what the relation shows. A thread on its way out is in the code: told in the original's memory, where the code stands
   pub way_inside : (m : Bytes) (now projected : Thread) → SameCode r.patched m → (q : OnWay r S m now projected) → is_code_of r q.site (S.sites q.site q.listed) now.rip
@@ -139,25 +144,17 @@ module _ (r : Threading) (A : AreEntries r.original r.listed) (S : IsThreadSound
   -- a thread at a listed start, whatever its phase, is its projection
   pub phase_outside : (m : Bytes) (now projected : Thread) → SameCode r.patched m → Phase r S m now projected → is_start r.listed now.rip ≡ true → now ≡ projected
   phase_outside m now projected c (inl o) h = o.same
-  phase_outside m now projected c (inr (inl q)) h = absurd (true≢false (sym h ∙ code_unlisted r A S L.long q.site q.listed now.rip
-      (in_code r A S L.long q.site q.listed now.rip (omega (arith, q.here)) (offset_low q.point q.here))))
-    where
-      offset_low : (p : Point) → now.rip ≡ q.site.place + offset p → now.rip < q.site.place + 33
-      offset_low At0 e = omega (arith, e)
-      offset_low At1 e = omega (arith, e)
-      offset_low At2 e = omega (arith, e)
-      offset_low At3 e = omega (arith, e)
-      offset_low At4 e = omega (arith, e)
-      offset_low At5 e = omega (arith, e)
-      offset_low At6 e = omega (arith, e)
-      offset_low At7 e = omega (arith, e)
-  phase_outside m now projected c (inr (inr q)) h = absurd (true≢false (sym h ∙ code_unlisted r A S L.long q.site q.listed now.rip (way_inside m now projected c q)))
+  phase_outside m now projected c (inr (inl q)) h = absurd (true≢false (sym h ∙ ap (is_start r.listed) q.here ∙ q.jumps.unlisted))
+  phase_outside m now projected c (inr (inr (inl q))) h = absurd (true≢false (sym h ∙ code_unlisted r A S L.long q.site q.listed now.rip
+      (point_in r A S L.long q.site q.listed q.point now.rip q.counts q.here)))
+  phase_outside m now projected c (inr (inr (inr q))) h = absurd (true≢false (sym h ∙ code_unlisted r A S L.long q.site q.listed now.rip (way_inside m now projected c q)))
 
   -- where a thread stands beside its projection
-  beside_at : (m : Bytes) (now projected : Thread) → Phase r S m now projected → Outside r now projected ⊎ AtEvent r m now projected ⊎ BehindEffect r m now projected
+  beside_at : (m : Bytes) (now projected : Thread) → Phase r S m now projected → Outside r now projected ⊎ AtSecond r now projected ⊎ AtEvent r m now projected ⊎ BehindEffect r m now projected
   beside_at m now projected (inl o) = inl o
-  beside_at m now projected (inr (inl e)) = inr (inl e)
-  beside_at m now projected (inr (inr q)) = inr (inr (record {
+  beside_at m now projected (inr (inl q)) = inr (inl q)
+  beside_at m now projected (inr (inr (inl e))) = inr (inr (inl e))
+  beside_at m now projected (inr (inr (inr q))) = inr (inr (inr (record {
     site = q.site;
     listed = q.listed;
     whole = S.sites q.site q.listed;
@@ -165,7 +162,7 @@ module _ (r : Threading) (A : AreEntries r.original r.listed) (S : IsThreadSound
     more = q.more;
     there = q.there;
     world = q.world;
-  }))
+  })))
 
   -- each thread of a related guest stands beside its projection
   beside : (m : Bytes) (one : Watched) → ThreadKept r S m one → IsBeside r m one
@@ -185,7 +182,7 @@ module _ (r : Threading) (A : AreEntries r.original r.listed) (S : IsThreadSound
         each = all_from (λ (t : Watched). IsBeside r w.mem t) w.threads (λ t i. beside w.mem t (R.each i.0 t i.1));
         own = λ x e n. ap (λ (g : Guest). g.mem x) R.last ∙ R.own x e n;
         other = R.other;
-        counters = λ s c. ((R.room s c).read, (R.room s c).written);
+        counters = λ s c i. ((R.room s c i).read, (R.room s c i).written);
       };
     },
     R.counted,
@@ -202,12 +199,12 @@ module _ (r : Threading) (A : AreEntries r.original r.listed) (S : IsThreadSound
     alike = record { bytes = λ x h s. same x h; perms = λ x h. ap (λ (o : Option Cell). perms_of o) (same x h) };
     own = λ x e w. at_a x ∙ held_first (r.original x) (G.further x) (allowed_some 1 (r.original x) e);
     other = λ x e w. at_b x ∙ held_first (r.patched x) (G.further x) (allowed_some 1 (r.patched x) e);
-    room = λ s c. let low = S.low s c in record {
-      read = held_none 4 b.mem (counter_at r.private s.number) 8 (omega (arith, low)) (λ x i j. ap (allows 4) (zero_at s c x i j));
-      written = held_none 2 b.mem (counter_at r.private s.number) 8 (omega (arith, low)) (λ x i j. ap (allows 2) (zero_at s c x i j));
+    room = λ s c v. let low = S.low s c v in record {
+      read = held_none 4 b.mem (counter_at r.private s.number) 8 (omega (arith, low)) (λ x i j. ap (allows 4) (zero_at s c v x i j));
+      written = held_none 2 b.mem (counter_at r.private s.number) 8 (omega (arith, low)) (λ x i j. ap (allows 2) (zero_at s c v x i j));
     };
-    counted = λ s c. let low = S.low s c in
-        let n = zero_number b.mem (counter_at r.private s.number) 8 (omega (arith, low)) (λ x i j. ap byte_of (zero_at s c x i j)) in
+    counted = λ s c v. let low = S.low s c v in
+        let n = zero_number b.mem (counter_at r.private s.number) 8 (omega (arith, low)) (λ x i j. ap byte_of (zero_at s c v x i j)) in
         let k = count_none (λ (t : Watched). is_counted s t.now.rip) (watch_of b).threads (λ i t e. uncounted s c i t e) in
         omega (arith, n, k);
     each = λ k one e. let q = map_back (λ (t : Thread). record { now = t; projected = t }) b.threads k one e in
@@ -248,8 +245,8 @@ module _ (r : Threading) (A : AreEntries r.original r.listed) (S : IsThreadSound
       same : (x : ℕ) → is_hidden r x ≡ false → a.mem x ≡ b.mem x
       same x h = at_a x ∙ ap (λ o. or_else o (G.further x)) (images x h) ∙ sym (at_b x)
 
-      zero_at : (s : ThreadSite) → Contains r.sites s → (x : ℕ) → counter_at r.private s.number ≤ x → x < counter_at r.private s.number + 8 → b.mem x ≡ Some (record { byte = 0; perms = 6 })
-      zero_at s c x i j = let z = (S.counters s c x i (omega (arith, j))).0 in at_b x ∙ held_first (r.patched x) (G.further x) (ap is_some z) ∙ z
+      zero_at : (s : ThreadSite) → Contains r.sites s → s.event ≡ true → (x : ℕ) → counter_at r.private s.number ≤ x → x < counter_at r.private s.number + 8 → b.mem x ≡ Some (record { byte = 0; perms = 6 })
+      zero_at s c v x i j = let z = (S.counters s c v x i (omega (arith, j))).0 in at_b x ∙ held_first (r.patched x) (G.further x) (ap is_some z) ∙ z
 
       uncounted : (s : ThreadSite) → Contains r.sites s → (i : ℕ) (t : Watched) → slice_get (watch_of b).threads i ≡ Some t → is_counted s t.now.rip ≡ false
       uncounted s c i t e =

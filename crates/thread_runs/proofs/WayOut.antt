@@ -27,6 +27,7 @@ use Rattle.thread_runs.proofs.ThreadSteps.{made, unlocked_task}
 use Rattle.relocate_insn.proofs.FixedCode.{fixed_stands, fixed_on}
 use Rattle.relocate_insn.proofs.PieceSteps.{gone_to}
 use Rattle.start_entries.specs.declared.entry.StartEntry.{StartEntry}
+use Rattle.start_entries.specs.Leading.{JumpsTo}
 use Rattle.start_entries.specs.Standing.{AreEntries}
 use Rattle.image_step.specs.Listed.{is_start, is_known_start}
 use Rattle.thread_runs.specs.Guest.{Thread, Guest, machine_of, thread_of}
@@ -36,7 +37,7 @@ use Rattle.thread_runs.specs.Event.{Point, offset, following, is_inside, Holds, 
 use Rattle.thread_runs.specs.Event.Point.{At0, At1, At2, At3, At4, At5, At6, At7}
 use Rattle.thread_runs.specs.Work.{Tail, left, InTail}
 use Rattle.thread_runs.specs.Work.Tail.{Out, Back, Jump, Ecx}
-use Rattle.thread_runs.specs.Threading.{ThreadSite, Threading, is_new, is_hidden, is_site, is_kept, in_event, saves, is_one_of, is_saved, is_code_of, IsThreadSound}
+use Rattle.thread_runs.specs.Threading.{ThreadSite, Threading, next_of, work_at, is_new, is_hidden, is_site, is_kept, in_event, saves, is_one_of, is_saved, is_code_of, ByTwoJumps, IsThreadSound}
 use Rattle.thread_runs.specs.Watching.{Watched, Watch, EffectStep, projection, stale_after, watched_after, is_effect, Watches}
 use Rattle.thread_runs.specs.Premises.{IsQuietAt, reads_nothing_of}
 use Rattle.thread_runs.specs.Theorem.{last_watch, IsWatched, CanGo, GetsOut}
@@ -44,14 +45,14 @@ use Rattle.thread_runs.specs.StepLaws.{StepLaws, reads_of}
 use Rattle.patch_report.proofs.ListPlaces.{some_is}
 use Rattle.image_check.proofs.LoadedCode.{jump_acts}
 use Rattle.thread_runs.proofs.ListUpdates.{set_here}
-use Rattle.thread_runs.proofs.ThreadPlaces.{longer, start_old, start_no_site, site_of, effect_kept, effect_never, kept_not, no_site}
+use Rattle.thread_runs.proofs.ThreadPlaces.{counted_len, plain_len, point_inside, point_counted, longer, start_old, start_no_site, site_of, effect_kept, effect_never, kept_not, no_site}
 use Rattle.thread_runs.proofs.KeptRelation.{keeps_code, keeps_perms, keeps_room, lacking_on}
 use Rattle.thread_runs.proofs.StandingCode.{fields_of, site_stands, own_at, work_stands, event_stands, code_length}
-use Rattle.thread_runs.proofs.OutsideSteps.{calm_projection, stale_is, made_displaced}
+use Rattle.thread_runs.proofs.OutsideSteps.{calm_projection, stale_is, made_displaced, made_second}
 use Rattle.thread_runs.proofs.ThreadEventSteps.{at_point, inside, inside_low, good_at, made_event}
 use Rattle.thread_runs.proofs.DisplacedSteps.{at_work, effect_told, made_effect, made_tail}
 use Rattle.thread_runs.proofs.WatchedSteps.{phase_outside}
-use Rattle.thread_runs.specs.Relation.{next_of, work_at, Outside}
+use Rattle.thread_runs.specs.Relation.{point_at, Outside}
 use Rattle.thread_runs.proofs.WatchedRelation.{Base, Related, base_of, Calm, Acts, Made}
 
 -- what a range avoids, it avoids in a set that is no larger
@@ -132,8 +133,8 @@ module _ (r : Threading) (A : AreEntries r.original r.listed) (S : IsThreadSound
     alike = M.alike;
     own = M.own;
     other = keeps_code r.patched f (machine_of w.mem one.now) to st B.other;
-    room = λ s c. keeps_room (counter_at r.private s.number) f (machine_of w.mem one.now) to st (B.room s c);
-    numbers = λ s c. (_, (M.counted s c).number);
+    room = λ s c i. keeps_room (counter_at r.private s.number) f (machine_of w.mem one.now) to st (B.room s c i);
+    numbers = λ s c i. (_, (M.counted s c i).number);
     kept = record { processor = M.processor; words = M.words; start = start; phase = M.phase };
   }
 
@@ -157,7 +158,7 @@ module _ (r : Threading) (A : AreEntries r.original r.listed) (S : IsThreadSound
 
   module _ (site : ThreadSite) (listed : Contains r.sites site) where
     -- in a trampoline, but for the effect step, the projection stays
-    calm_in : (one : Watched) (m : Bytes) (to : Machine) → is_code_of r site (S.sites site listed) one.now.rip → one.now.rip ≢ site.place + 32
+    calm_in : (one : Watched) (m : Bytes) (to : Machine) → is_code_of r site (S.sites site listed) one.now.rip → one.now.rip ≢ work_at site
         → (is_effect r one.now.rip ≡ false) × (projection r one m to ≡ one.projected)
     calm_in one m to c n =
         let b = kept_not r A S L.long site listed one.now.rip c in
@@ -217,7 +218,7 @@ module _ (r : Threading) (A : AreEntries r.original r.listed) (S : IsThreadSound
         perms : (x : ℕ) → perms_at w.mem x ≡ perms_at w0.mem x
         staler : (x : ℕ) → w0.stale x ≡ false → is_saved one0.now.core x ≡ false → w.stale x ≡ false
         projected : one.projected ≡ one0.now
-        here : one.now.rip ≡ site.place + offset p
+        here : one.now.rip ≡ point_at site p
         at : one.projected.rip ≡ site.entry.addr
         core : Holds p one.projected.core one.now.core
         world : one.now.world ≡ one.projected.world
@@ -288,24 +289,25 @@ module _ (r : Threading) (A : AreEntries r.original r.listed) (S : IsThreadSound
       same_slot w one p P = L.slots p one.projected.core one.now.core P.base.kept.processor P.core ∙ ap (λ (t : Thread). slot t.core) P.projected
 
       -- one step of the event, and then the rest
-      event_out : (n : ℕ) (p : Point) → is_inside p ≡ true → ((v : Watch) (one' : Watched) → At (following p) v one' → GoesOut r k v log1 (thread_of to0) to0.mem n)
+      event_out : site.event ≡ true → (n : ℕ) (p : Point) → is_inside p ≡ true → ((v : Watch) (one' : Watched) → At (following p) v one' → GoesOut r k v log1 (thread_of to0) to0.mem n)
           → (w : Watch) (one : Watched) → At p w one → GoesOut r k w log1 (thread_of to0) to0.mem (suc n)
-      event_out n p i rest w one P =
+      event_out counts n p i rest w one P =
           let u : Machine = machine_of w.mem one.now in
           let K = S.sites site listed in
           let more = longer r A S L.long site listed in
-          let low = S.low site listed in
+          let low = S.low site listed counts in
           let c = one.projected.core in
+          let rip : one.now.rip ≡ site.place + offset p = P.here ∙ point_inside site p i in
           let E : InEvent r.private site.number site.place p c u = record {
             processor = P.base.kept.processor;
             core = P.core;
             saved = P.saved;
-            rip = P.here;
-            stands = event_stands r A S site listed w.mem P.base.other;
-            low = omega (arith, K.low, more);
+            rip = rip;
+            stands = event_stands r A S site listed counts w.mem P.base.other;
+            low = omega (arith, K.low, more, counted_len site counts);
             room = omega (arith, low);
           } in
-          let room = P.base.room site listed in
+          let room = P.base.room site listed counts in
           let where' : slot c ≡ slot one0.now.core = ap (λ (t : Thread). slot t.core) P.projected in
           let C : CanCount r.private site.number c w.mem = record {
             slot_read = lacking_on 4 w0.mem w.mem (slot c) 8 P.perms ∙ ap (λ z. lacking 4 w0.mem z 8) where' ∙ read;
@@ -318,14 +320,14 @@ module _ (r : Threading) (A : AreEntries r.original r.listed) (S : IsThreadSound
           let f = G.1.0 in
           let st : ThreadStepsBy f u to = G.1.1 in
           let N = G.2 in
-          let l = inside_low r A S L M w one f to st P.base (λ e. free w one p P) site listed p i in
-          let good = good_at r A S L M w one f to st P.base (λ e. free w one p P) site listed p i E P.at P.world P.saved (λ e. P.old) N in
-          let made = made_event r A S L M w one f to st P.base (λ e. free w one p P) site listed p i P.here P.at P.core P.world P.saved (λ e. P.old) in
-          let q = calm_in one w.mem to (at_point r A S L M w one f to st P.base (λ e. free w one p P) site listed p P.here (omega (arith, l))) (λ e. omega (arith, e, P.here, l)) in
+          let l = inside_low r A S L M w one f to st P.base (λ e. free w one p P) site listed counts p i in
+          let good = good_at r A S L M w one f to st P.base (λ e. free w one p P) site listed counts p i E P.at P.world P.saved (λ e. P.old) N in
+          let made = made_event r A S L M w one f to st P.base (λ e. free w one p P) site listed counts p i rip P.at P.core P.world P.saved (λ e. P.old) in
+          let q = calm_in one w.mem to (at_point r A S L M w one f to st P.base (λ e. free w one p P) site listed counts p rip (omega (arith, l))) (λ e. omega (arith, e, rip, l, counted_len site counts)) in
           let start = ap (λ (t : Thread). is_start r.listed t.rip) q.1 ∙ P.base.kept.start in
           let B' = base_after M M w one f to st P.base made start in
           let log : (after_watch w one f to).log ≡ w0.log = cond-false (is_effect r one.now.rip) _ _ q.0 ∙ P.log in
-          let inside' : in_event r one.now.rip ≡ true = inside r A S L M w one f to st P.base (λ e. free w one p P) site listed p P.here l in
+          let inside' : in_event r one.now.rip ≡ true = inside r A S L M w one f to st P.base (λ e. free w one p P) site listed counts p rip l in
           let s = sym q.1 in
           one_more r k w (after_watch w one f to) log1 (thread_of to0) to0.mem n (watches w one f to P.there st)
           (rest (after_watch w one f to) (after_thread w one f to) (record {
@@ -335,7 +337,7 @@ module _ (r : Threading) (A : AreEntries r.original r.listed) (S : IsThreadSound
             perms = λ x. keeps_perms f u to st x ∙ P.perms x;
             staler = λ x a b. stale_in w one f u x (saves r one.now.rip) refl inside' (P.staler x a b) (ap (λ z. is_one_of z 8 x) (same_slot w one p P) ∙ b);
             projected = q.1 ∙ P.projected;
-            here = N.rip;
+            here = N.rip ∙ sym (point_counted site (following p) counts);
             at = ap (λ (t : Thread). t.rip) q.1 ∙ P.at;
             core = subst (λ (t : Thread). Holds (following p) t.core to.core) s N.core;
             world = N.world ∙ P.world ∙ ap (λ (t : Thread). t.world) s;
@@ -352,56 +354,125 @@ module _ (r : Threading) (A : AreEntries r.original r.listed) (S : IsThreadSound
           stale_in w one f u x false e g h j = cond-false (saves r one.now.rip) _ _ e ∙ cond-true (in_event r one.now.rip) _ _ g ∙ h
 
       -- the whole event
-      event_whole : (w : Watch) (one : Watched) → At At0 w one → GoesOut r k w log1 (thread_of to0) to0.mem 10
-      event_whole = event_out 9 At0 refl (event_out 8 At1 refl (event_out 7 At2 refl (event_out 6 At3 refl (event_out 5 At4 refl (event_out 4 At5 refl (event_out 3 At6 refl effect_out))))))
+      event_whole : site.event ≡ true → (w : Watch) (one : Watched) → At At0 w one → GoesOut r k w log1 (thread_of to0) to0.mem 10
+      event_whole c =
+          event_out c 9 At0 refl (event_out c 8 At1 refl (event_out c 7 At2 refl (event_out c 6 At3 refl (event_out c 5 At4 refl (event_out c 4 At5 refl (event_out c 3 At6 refl effect_out))))))
 
-      -- from the displaced start
-      displaced_out : slice_get w0.threads k ≡ Some one0 → Base r S M w0.stale w0.mem one0 → is_start r.listed one0.now.rip ≡ true → site.entry.addr ≡ one0.now.rip → is_site r one0.now.rip ≡ true
-          → GoesOut r k w0 log1 (thread_of to0) to0.mem 11
-      displaced_out e B start here is =
-          let u : Machine = machine_of w0.mem one0.now in
-          let x0 = one0.now.rip in
-          let K = S.sites site listed in
-          let j = K.jump in
+      -- the thread before the trampoline, at an address, with the registers and flags of its projection
+      record Near (x : ℕ) (w : Watch) (one : Watched) : Type 0 where
+        there : slice_get w.threads k ≡ Some one
+        base : Base r S M w.stale w.mem one
+        log : w.log ≡ w0.log
+        perms : (x : ℕ) → perms_at w.mem x ≡ perms_at w0.mem x
+        staler : (x : ℕ) → w0.stale x ≡ false → is_saved one0.now.core x ≡ false → w.stale x ≡ false
+        projected : one.projected ≡ one0.now
+        here : one.now.rip ≡ x
+        at : one.projected.rip ≡ site.entry.addr
+        core : one.now.core ≡ one.projected.core
+        world : one.now.world ≡ one.projected.world
+        old : avoids (is_new r) (slot one.projected.core) 8 ≡ true
+
+      -- before the trampoline the thread is at a point of it, where the point's address is the thread's
+      entered : (p : Point) (w : Watch) (one : Watched) (x : ℕ) → Near x w one → x ≡ point_at site p → Holds p one.projected.core one.now.core → HasSaved p one.projected.core w.mem → At p w one
+      entered p w one x P e core saved = record {
+        there = P.there;
+        base = P.base;
+        log = P.log;
+        perms = P.perms;
+        staler = P.staler;
+        projected = P.projected;
+        here = P.here ∙ e;
+        at = P.at;
+        core = core;
+        world = P.world;
+        saved = saved;
+        old = P.old;
+      }
+
+      -- from the first address of the trampoline, with an event or without
+      come_out : (w : Watch) (one : Watched) → Near site.place w one → GoesOut r k w log1 (thread_of to0) to0.mem 10
+      come_out w one P = by_event site.event refl
+        where
+          by_event : (b : Bool) → site.event ≡ b → GoesOut r k w log1 (thread_of to0) to0.mem 10
+          by_event true e = event_whole e w one (entered At0 w one site.place P (omega arith) P.core tt)
+          by_event false e = wider w _ _ _ 3 10 (omega arith) (effect_out w one (entered At7 w one site.place P (omega (arith, plain_len site e)) P.core tt))
+
+      -- one direct jump outside the trampolines, and then the rest
+      jump_out : (n x target : ℕ) → JumpsTo r.patched x target → is_new r x ≡ false → is_kept r x ≡ false → (w : Watch) (one : Watched) → Near x w one
+          → ((f : Fields) (to : Machine) → ThreadStepsBy f (machine_of w.mem one.now) to → Made r S (stale_after r w.stale one f (machine_of w.mem one.now)) M M one w.mem to)
+          → ((v : Watch) (one' : Watched) → Near target v one' → GoesOut r k v log1 (thread_of to0) to0.mem n) → GoesOut r k w log1 (thread_of to0) to0.mem (suc n)
+      jump_out n x target j old kept w one P makes rest =
+          let u : Machine = machine_of w.mem one.now in
+          let x0 = one.now.rip in
           let f = j.fields in
           let next = next_after x0 f in
-          let to : Machine = gone_to u site.place in
+          let to : Machine = gone_to u target in
           let at_u : IsAt u f = record {
             spelled = j.spelled;
-            here = subst (λ (z : ℕ). Stands w0.mem z (spelling f)) here
-                (fixed_stands w0.mem site.entry.addr (spelling f) (fixed_on r.patched w0.mem site.entry.addr (spelling f) B.other j.stands));
+            here = subst (λ (z : ℕ). Stands w.mem z (spelling f)) (sym P.here) (fixed_stands w.mem x (spelling f) (fixed_on r.patched w.mem x (spelling f) P.base.other j.stands));
           } in
-          let n = L.not_locked f (Jmp (Rel j.rel)) j.jump in
-          let leads : advanced next (word_of j.rel) ≡ site.place = ap (λ z. advanced (next_after z f) (word_of j.rel)) (sym here) ∙ j.leads in
-          let acts : act (thread_task f next) next u ≡ Ok to = ap (λ (t : Task). act t next u) (unlocked_task f next n) ∙ jump_acts u next site.place (insn_of f) (question_of f next) j.rel j.jump leads in
+          let unlocked = L.not_locked f (Jmp (Rel j.rel)) j.jump in
+          let leads : advanced next (word_of j.rel) ≡ target = ap (λ z. advanced (next_after z f) (word_of j.rel)) P.here ∙ j.leads in
+          let acts : act (thread_task f next) next u ≡ Ok to = ap (λ (t : Task). act t next u) (unlocked_task f next unlocked) ∙ jump_acts u next target (insn_of f) (question_of f next) j.rel j.jump leads in
           let st : ThreadStepsBy f u to = made f u to at_u acts in
-          let o : Outside r one0.now one0.projected = record { same = same0; start = start } in
-          let made = made_displaced r A S L M w0 one0 f to st B o is in
-          let none = start_no_site r A S L.long x0 (start_old r A S L.long x0 start) in
-          let calm : is_kept r x0 ≡ false = and_right (is_start r.listed x0) (not (is_site r x0)) (not_from_true (is_site r x0) is) in
+          let old' : is_new r x0 ≡ false = ap (is_new r) P.here ∙ old in
+          let calm : is_kept r x0 ≡ false = ap (is_kept r) P.here ∙ kept in
+          let none = start_no_site r A S L.long x0 old' in
           let eff = effect_never r A S L.long x0 calm none in
-          let q = calm_projection r one0 w0.mem to calm none in
-          let start' = ap (λ (t : Thread). is_start r.listed t.rip) q ∙ B.kept.start in
-          let B' = base_after M M w0 one0 f to st B made start' in
-          let s : one0.now ≡ projection r one0 w0.mem to = same0 ∙ sym q in
-          one_more r k w0 (after_watch w0 one0 f to) log1 (thread_of to0) to0.mem 10 (watches w0 one0 f to e st)
-          (event_whole (after_watch w0 one0 f to) (after_thread w0 one0 f to) (record {
-            there = set_here w0.threads k one0 (after_thread w0 one0 f to) e;
+          let q = calm_projection r one w.mem to calm none in
+          let start = ap (λ (t : Thread). is_start r.listed t.rip) q ∙ P.base.kept.start in
+          let B' = base_after M M w one f to st P.base (makes f to st) start in
+          let s = sym q in
+          one_more r k w (after_watch w one f to) log1 (thread_of to0) to0.mem n (watches w one f to P.there st)
+          (rest (after_watch w one f to) (after_thread w one f to) (record {
+            there = set_here w.threads k one (after_thread w one f to) P.there;
             base = B';
-            log = cond-false (is_effect r x0) _ _ eff;
-            perms = λ x. refl;
-            staler = λ x a b. stale_is r A S L M w0 one0 f to st B o x ∙ and_left (w0.stale x) _ a;
-            projected = sym s;
-            here = zero_more site.place;
-            at = ap (λ (t : Thread). t.rip) (sym s) ∙ sym here;
-            core = ap (λ (t : Thread). t.core) s;
-            world = ap (λ (t : Thread). t.world) s;
-            saved = tt;
-            old = subst (λ (t : Thread). avoids (is_new r) (slot t.core) 8 ≡ true) s old0;
+            log = cond-false (is_effect r x0) _ _ eff ∙ P.log;
+            perms = P.perms;
+            staler = λ x a b. stale_is r A S L M w one f to st P.base old' x ∙ and_left (w.stale x) _ (P.staler x a b);
+            projected = q ∙ P.projected;
+            here = refl;
+            at = ap (λ (t : Thread). t.rip) q ∙ P.at;
+            core = P.core ∙ ap (λ (t : Thread). t.core) s;
+            world = P.world ∙ ap (λ (t : Thread). t.world) s;
+            old = subst (λ (t : Thread). avoids (is_new r) (slot t.core) 8 ≡ true) s P.old;
           }))
+
+      -- from the displaced start, by one jump or by two
+      displaced_out : slice_get w0.threads k ≡ Some one0 → Base r S M w0.stale w0.mem one0 → is_start r.listed one0.now.rip ≡ true → site.entry.addr ≡ one0.now.rip → is_site r one0.now.rip ≡ true
+          → GoesOut r k w0 log1 (thread_of to0) to0.mem 12
+      displaced_out e B start here is = by_jump (S.sites site listed).jump
         where
-          zero_more : (n : ℕ) → n ≡ n + 0
-          zero_more n = omega arith
+          old : is_new r one0.now.rip ≡ false
+          old = start_old r A S L.long one0.now.rip start
+
+          calm : is_kept r one0.now.rip ≡ false
+          calm = and_right (is_start r.listed one0.now.rip) (not (is_site r one0.now.rip)) (not_from_true (is_site r one0.now.rip) is)
+
+          near : Near one0.now.rip w0 one0
+          near = record {
+            there = e;
+            base = B;
+            log = refl;
+            perms = λ x. refl;
+            staler = λ x a b. a;
+            projected = sym same0;
+            here = refl;
+            at = ap (λ (t : Thread). t.rip) (sym same0) ∙ sym here;
+            core = ap (λ (t : Thread). t.core) same0;
+            world = ap (λ (t : Thread). t.world) same0;
+            old = subst (λ (t : Thread). avoids (is_new r) (slot t.core) 8 ≡ true) same0 old0;
+          }
+
+          first : (f : Fields) (to : Machine) → ThreadStepsBy f (machine_of w0.mem one0.now) to → Made r S (stale_after r w0.stale one0 f (machine_of w0.mem one0.now)) M M one0 w0.mem to
+          first f to st = made_displaced r A S L M w0 one0 f to st B old (record { same = same0; start = start }) is
+
+          by_jump : JumpsTo r.patched site.entry.addr site.place ⊎ ByTwoJumps r site.entry.addr site.place → GoesOut r k w0 log1 (thread_of to0) to0.mem 12
+          by_jump (inl j) = wider w0 _ _ _ 11 12 (omega arith)
+              (jump_out 10 one0.now.rip site.place (subst (λ (z : ℕ). JumpsTo r.patched z site.place) here j) old calm w0 one0 near first come_out)
+          by_jump (inr j) = jump_out 11 one0.now.rip j.second (subst (λ (z : ℕ). JumpsTo r.patched z j.second) here j.there) old calm w0 one0 near first (λ v one' P.
+              jump_out 10 j.second site.place j.on j.old (and_left (is_start r.listed j.second) (not (is_site r j.second)) j.unlisted) v one' P (λ f to st.
+              made_second r A S L M v one' f to st P.base (ap (is_new r) P.here ∙ j.old) (record { site = site; listed = listed; jumps = j; here = P.here; there = P.at; core = P.core; world = P.world })) come_out)
 
   -- at a kept start
   kept_out : (M : Bytes) (w : Watch) (one : Watched) (f : Fields) (to0 : Machine) → ThreadStepsBy f (machine_of M one.now) to0 → one.now ≡ one.projected → IsQuietAt r (machine_of M one.now)
@@ -430,7 +501,7 @@ module _ (r : Threading) (A : AreEntries r.original r.listed) (S : IsThreadSound
         states = v ∷ [];
         run = (watches w one f to e X.1.other, tt);
         there = set_here w.threads k one (after_thread w one f to) e ∙ ap₂ (λ (t p : Thread). Some (record { now = t; projected = p })) now projected;
-        memory = λ x h z. X.1.alike.mem.bytes x h (sym (stale_is r A S L M w one f to X.1.other B o x) ∙ z);
+        memory = λ x h z. X.1.alike.mem.bytes x h (sym (stale_is r A S L M w one f to X.1.other B (start_old r A S L.long x0 o.start) x) ∙ z);
         effect = cond-true (is_effect r x0) _ _ (effect_kept r A S L.long x0 kept) ∙ ap (λ (t : Thread). w.log ++ record { thread = k; at = t.rip } ∷ []) (sym same);
       }
 
@@ -458,8 +529,8 @@ module _ (r : Threading) (A : AreEntries r.original r.listed) (S : IsThreadSound
                 (fixed_stands R.end.mem q.0.entry.addr (spelling F) (fixed_on r.original R.end.mem q.0.entry.addr (spelling F) R.own (site_stands r A S q.0 q.1)));
           } in
           let g : C.fields ≡ F = one_instruction m C.fields F C.steps.at at_s in
-          wider w _ _ _ 11 12 (omega arith) (displaced_out q.0 q.1 R.end.mem w one C.to (C.fields, C.steps) same C.quiet C.ends C.read C.written C.old
-          (subst (λ (z : Fields). reads_nothing_of (is_saved one.now.core) z m ≡ true) g C.unread) (subst (λ (z : Fields). reads_nothing_of w.stale z m ≡ true) g C.fresh) e B C.stands q.2 is)
+          displaced_out q.0 q.1 R.end.mem w one C.to (C.fields, C.steps) same C.quiet C.ends C.read C.written C.old
+          (subst (λ (z : Fields). reads_nothing_of (is_saved one.now.core) z m ≡ true) g C.unread) (subst (λ (z : Fields). reads_nothing_of w.stale z m ≡ true) g C.fresh) e B C.stands q.2 is
 
       by_start : (b : Bool) → is_site r one.now.rip ≡ b → GoesOut r k w (w.log ++ record { thread = k; at = one.now.rip } ∷ []) (thread_of C.to) C.to.mem 12
       by_start true is = displaced is (site_of r A S L.long one.now.rip is)

@@ -11,7 +11,7 @@ use Rattle.insn_form.specs.declared.form.Insn.TheVariants.{Exact, Asked, Ending}
 use Rattle.insn_form.specs.Operands.{rsp}
 use Rattle.insn_form.specs.Displacing.{falls}
 use Rattle.trampoline.specs.Trampolines.{back_if}
-use Rattle.thread_runs.specs.ThreadCode.{call_reg_code}
+use Rattle.thread_runs.specs.ThreadCode.{event_len, call_reg_code}
 use Rattle.trampoline.specs.Atomic.{thread_len}
 
 -- the operand of an indirect call
@@ -58,6 +58,10 @@ abbrev pub work_by : Option ℕ → List ℕ → Bool → ℕ → ℕ → List �
 work_by None work falls to next = work ++ back_if falls (to + length work) next
 work_by (Some r) work falls to next = call_reg_code r next
 
--- how many bytes the trampoline of an instruction has
+-- how many bytes the trampoline of an instruction has, with an event or without
+abbrev pub size_if : Bool → Insn → ℕ → ℕ → Option ℕ
+size_if event i len addr = option_map (λ n. event_len event + n + (if falls i then 5 else 0)) (thread_len i len addr)
+
+-- how many bytes the trampoline of a site that counts has
 abbrev pub thread_size : Insn → ℕ → ℕ → Option ℕ
 thread_size i len addr = option_map (λ n. 32 + n + (if falls i then 5 else 0)) (thread_len i len addr)

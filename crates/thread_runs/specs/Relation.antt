@@ -1,24 +1,21 @@
 -- Where a thread of the patched guest stands beside the original's that it counts as, and what else both guests keep. Theorems cite it.
-use Rattle.std.specs.Prelude.{◌≡◌, ◌⊎◌, ℕ, ◌+◌, ◌<◌, Bool, true, false, Contains, None}
+use Rattle.std.specs.Prelude.{◌≡◌, ◌⊎◌, ℕ, ◌+◌, ◌<◌, Bool, true, false, if◌then◌else◌, Contains, None}
 use Rattle.pun_base.specs.Memory.{Bytes}
 use Rattle.cpu_state.specs.Bytes.{allows, avoids, lacking}
 use Rattle.cpu_state.specs.Processor.{IsProcessorCore, GiveWords}
 use Rattle.image_step.specs.Listed.{is_start}
 use Rattle.thread_runs.specs.Guest.{Thread, machine_of}
 use Rattle.thread_runs.specs.ThreadCode.{counter_at, slot}
-use Rattle.thread_runs.specs.Event.{Point, offset, Holds, HasSaved}
+use Rattle.thread_runs.specs.Event.{Point, offset, is_inside, Holds, HasSaved}
 use Rattle.thread_runs.specs.Event.Point.{At0, At7}
 use Rattle.thread_runs.specs.Work.{Tail, left, InTail}
-use Rattle.thread_runs.specs.Threading.{ThreadSite, Threading, is_new, IsThreadSite}
+use Rattle.thread_runs.specs.Threading.{ThreadSite, Threading, next_of, work_at, is_new, ByTwoJumps, IsThreadSite}
 use Rattle.thread_runs.specs.Watching.{Watched}
 
--- the address after the instruction of a site
-abbrev pub next_of : ThreadSite → ℕ
-next_of s = s.entry.addr + s.entry.len
-
--- where the relocated code of a site begins
-abbrev pub work_at : ThreadSite → ℕ
-work_at s = s.place + 32
+-- the address of a point in a site's trampoline: in its event, or, after all of it, where the relocated
+-- code begins
+abbrev pub point_at : ThreadSite → Point → ℕ
+point_at s k = if is_inside k then s.place + offset k else work_at s
 
 -- a point between the save of rax and its restore
 abbrev pub has_rax : Point → Bool
@@ -31,13 +28,26 @@ pub record Outside (r : Threading) (now projected : Thread) : Type 0 where
   pub same : now ≡ projected
   pub start : is_start r.listed now.rip ≡ true
 
--- A thread inside an event, or right after it, whose projection stands at the site. The point says
--- its registers and flags, by those of the projection.
+-- A thread at the second of the two jumps that lead from a site to its trampoline. Its projection
+-- stands at the site, with the same registers and flags.
+pub record AtSecond (r : Threading) (now projected : Thread) : Type 0 where
+  pub site : ThreadSite
+  pub listed : Contains r.sites site
+  pub jumps : ByTwoJumps r site.entry.addr site.place
+  pub here : now.rip ≡ jumps.second
+  pub there : projected.rip ≡ site.entry.addr
+  pub core : now.core ≡ projected.core
+  pub world : now.world ≡ projected.world
+
+-- A thread inside an event, or where the relocated code begins, whose projection stands at the site.
+-- The point says its registers and flags, by those of the projection. Where the site doesn't count it
+-- is the last one.
 pub record AtEvent (r : Threading) (m : Bytes) (now projected : Thread) : Type 0 where
   pub site : ThreadSite
   pub listed : Contains r.sites site
   pub point : Point
-  pub here : now.rip ≡ site.place + offset point
+  pub counts : is_inside point ≡ true → site.event ≡ true
+  pub here : now.rip ≡ point_at site point
   pub there : projected.rip ≡ site.entry.addr
   pub core : Holds point projected.core now.core
   pub world : now.world ≡ projected.world
@@ -61,13 +71,13 @@ pub record IsBeside (r : Threading) (m : Bytes) (one : Watched) : Type 0 where
   pub processor : IsProcessorCore one.projected.core
   pub words : GiveWords one.projected.world
   pub start : is_start r.listed one.projected.rip ≡ true
-  pub place : Outside r one.now one.projected ⊎ AtEvent r m one.now one.projected ⊎ BehindEffect r m one.now one.projected
+  pub place : Outside r one.now one.projected ⊎ AtSecond r one.now one.projected ⊎ AtEvent r m one.now one.projected ⊎ BehindEffect r m one.now one.projected
 
 -- What can be executed and not written in an image stands in memory.
 abbrev pub KeepsCode : Bytes → Bytes → Type 0
 KeepsCode image m = (x : ℕ) → allows 1 (image x) ≡ true → allows 2 (image x) ≡ false → m x ≡ image x
 
--- The counter of each site can be read and written.
+-- The counter of each site that counts can be read and written.
 abbrev pub KeepsCounters : Threading → Bytes → Type 0
-KeepsCounters r m = (s : ThreadSite) → Contains r.sites s
+KeepsCounters r m = (s : ThreadSite) → Contains r.sites s → s.event ≡ true
     → (lacking 4 m (counter_at r.private s.number) 8 ≡ None) × (lacking 2 m (counter_at r.private s.number) 8 ≡ None)

@@ -29,8 +29,9 @@ pub record AreStartGuests (r : Threading) (a b : Guest) : Type 0 where
 
 -- How a guest of the original lies beside a watched one: its threads are the projected ones, and
 -- memory is equal but for listed instructions, new bytes and stale bytes, and stale bytes have equal
--- permissions, too. A thread at a listed start is its projection; one inside a trampoline stands in
--- an event or after its effect step. Both codes and the counters stay.
+-- permissions, too. A thread at a listed start is its projection; any other one stands at the second of
+-- two jumps, in an event, where relocated code begins, or after its effect step. Both codes and the
+-- counters stay.
 pub record LiesBeside (r : Threading) (g : Guest) (w : Watch) : Type 0 where
   pub threads : g.threads ≡ map (λ t. t.projected) w.threads
   pub memory : (x : ℕ) → is_hidden r x ≡ false → w.stale x ≡ false → g.mem x ≡ w.mem x
@@ -48,10 +49,10 @@ pub record IsGuestFollowed (r : Threading) (a : Guest) (w : Watch) : Type 0 wher
   pub run : IsInterleaved (map (λ e. e.thread) w.log) a states
   pub beside : LiesBeside r (last_guest a states) w
 
--- The counter of each site is the number of the site's effect steps and of the threads between its
--- LOCK INC and its effect step, modulo 2^64.
+-- The counter of each site that counts is the number of the site's effect steps and of the threads
+-- between its LOCK INC and its effect step, modulo 2^64.
 abbrev pub AreCounted : Threading → Watch → Type 0
-AreCounted r w = (s : ThreadSite) → Contains r.sites s
+AreCounted r w = (s : ThreadSite) → Contains r.sites s → s.event ≡ true
     → number_at w.mem (counter_at r.private s.number) 8 ≡ (count_by (λ e. e.at == s.entry.addr) w.log + count_by (λ t. is_counted s t.now.rip) w.threads) % 2 ^ 64
 
 -- Each proper run from start guests is followed and counted, at each moment.

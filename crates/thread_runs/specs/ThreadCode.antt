@@ -1,7 +1,7 @@
 -- The code of a trampoline where threads share their memory: the event, the relocated code, and a jump back. Theorems cite it. The event
 -- has 32 bytes, and the jump back stands where the relocated code falls through (Intel SDM, volume 2, MOV, LAHF, SETcc, INC, ADD, SAHF,
 -- PUSH, JMP).
-use Rattle.std.specs.Prelude.{ℕ, ◌+◌, ◌*◌, ◌-◌, ◌%◌, ◌^◌, nat_lt, if◌then◌else◌, List, [], ◌∷◌, ◌++◌, length, replicate}
+use Rattle.std.specs.Prelude.{ℕ, Bool, true, false, ◌+◌, ◌*◌, ◌-◌, ◌%◌, ◌^◌, nat_lt, if◌then◌else◌, List, [], ◌∷◌, ◌++◌, length, replicate}
 use Rattle.cpu_state.specs.declared.state.Core.{Core}
 use Rattle.cpu_state.specs.Bytes.{advanced}
 use Rattle.length_decode.specs.Spelling.{Fields}
@@ -37,6 +37,16 @@ restoring_code = 0x04 ∷ 0x7f ∷ 0x9e ∷ 0x48 ∷ 0x8b ∷ 0x84 ∷ 0x24 ∷ 
 abbrev pub thread_event : ℕ → ℕ → List ℕ
 thread_event p i = saving_code ++ (counting_code (counter_at p i) ++ restoring_code)
 
+-- how many bytes the event of a trampoline has, where it has one
+abbrev pub event_len : Bool → ℕ
+event_len true = 32
+event_len false = 0
+
+-- the event of site i, where its trampoline has one
+abbrev pub event_if : Bool → ℕ → ℕ → List ℕ
+event_if true p i = thread_event p i
+event_if false p i = []
+
 -- JMP to a register
 abbrev pub jump_reg : ℕ → List ℕ
 jump_reg r = (if nat_lt r 8 then [] else 0x41 ∷ []) ++ 0xff ∷ (0xe0 + r % 8) ∷ []
@@ -54,8 +64,12 @@ thread_relocated i f next place = relocated_by i 0 f next place
 abbrev pub thread_work : Fields → ℕ → ℕ → List ℕ
 thread_work f next place = thread_relocated (insn_of f) f next place ++ back_if (falls (insn_of f)) (place + length (thread_relocated (insn_of f) f next place)) next
 
--- the code of the trampoline of site i, which stands at a place: its event, and the code after the
--- event
+-- the code of the trampoline of site i, which stands at a place, with an event or without: the event,
+-- and the code after it
+abbrev pub code_if : Bool → ℕ → ℕ → Fields → ℕ → ℕ → List ℕ
+code_if counts p i f next place = event_if counts p i ++ thread_work f next (place + event_len counts)
+
+-- the code of the trampoline of a site that counts
 abbrev pub thread_code : ℕ → ℕ → Fields → ℕ → ℕ → List ℕ
 thread_code p i f next place = thread_event p i ++ thread_work f next (place + 32)
 

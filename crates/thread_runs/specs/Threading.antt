@@ -1,5 +1,5 @@
 -- What was rewritten for a guest of several threads, and where a thread stands in it. Theorems cite it.
-use Rattle.std.specs.Prelude.{◌≡◌, ℕ, zero, suc, ◌+◌, ◌*◌, ◌==◌, ◌<◌, ◌≤◌, nat_le, nat_lt, Bool, true, false, not, ◌&&◌, ◌||◌, List, [], ◌∷◌, length, Option, Some, None, is_some, Contains}
+use Rattle.std.specs.Prelude.{◌≡◌, ◌⊎◌, ℕ, zero, suc, ◌+◌, ◌*◌, ◌==◌, ◌<◌, ◌≤◌, nat_le, nat_lt, Bool, true, false, not, ◌&&◌, ◌||◌, List, [], ◌∷◌, length, Option, Some, None, is_some, Contains}
 use Rattle.std.specs.List.{list_any}
 use Rattle.pun_base.specs.Memory.{Bytes}
 use Rattle.length_decode.specs.Spelling.{Fields, IsInstruction, spelling}
@@ -10,14 +10,24 @@ use Rattle.insn_form.specs.Instruction.{insn_of}
 use Rattle.start_entries.specs.declared.entry.StartEntry.{StartEntry}
 use Rattle.start_entries.specs.Leading.{JumpsTo}
 use Rattle.image_step.specs.Listed.{is_start, is_listed_byte}
-use Rattle.thread_runs.specs.ThreadCode.{thread_code, slot}
+use Rattle.thread_runs.specs.ThreadCode.{event_len, code_if, slot}
 use Rattle.trampoline.specs.Atomic.{thread_len}
 
--- a patched site: its number, its instruction, and the first address of its trampoline
+-- a patched site: its number, its instruction, the first address of its trampoline, and whether it
+-- counts, so that the trampoline begins with an event
 pub record ThreadSite : Type 0 where
   pub number : ℕ
   pub entry : StartEntry
   pub place : ℕ
+  pub event : Bool
+
+-- the address after the instruction of a site
+abbrev pub next_of : ThreadSite → ℕ
+next_of s = s.entry.addr + s.entry.len
+
+-- where the relocated code of a site begins: after the event, or at the place, where there is none
+abbrev pub work_at : ThreadSite → ℕ
+work_at s = s.place + event_len s.event
 
 -- what was patched: both images, the entry point, the listed starts, the patched sites, and the
 -- private range
@@ -47,9 +57,10 @@ is_site r x = list_any (λ s. s.entry.addr == x) r.sites
 abbrev pub is_kept : Threading → ℕ → Bool
 is_kept r x = is_start r.listed x && not (is_site r x)
 
--- the address is that of a byte of the site's trampoline, from its byte lo on and below its byte hi
+-- the site counts, and the address is that of a byte of its trampoline, from its byte lo on and below
+-- its byte hi
 abbrev pub is_part : ℕ → ℕ → ℕ → ThreadSite → Bool
-is_part lo hi x s = nat_le (s.place + lo) x && nat_lt x (s.place + hi)
+is_part lo hi x s = s.event && (nat_le (s.place + lo) x && nat_lt x (s.place + hi))
 
 -- an address of a site's event
 abbrev pub in_event : Threading → ℕ → Bool
@@ -76,7 +87,7 @@ site_if false s o = o
 -- the site whose relocated code begins at the address, where there is one
 abbrev pub relocated_at : List ThreadSite → ℕ → Option ThreadSite
 relocated_at [] x = None
-relocated_at (s ∷ ss) x = site_if (s.place + 32 == x) s (relocated_at ss x)
+relocated_at (s ∷ ss) x = site_if (work_at s == x) s (relocated_at ss x)
 
 -- x is one of n addresses from a on
 abbrev pub is_one_of : ℕ → ℕ → ℕ → Bool
@@ -87,9 +98,18 @@ is_one_of a (suc n) x = (x == a) || is_one_of (advanced a 1) n x
 abbrev pub is_saved : Core → ℕ → Bool
 is_saved c x = is_one_of (slot c) 8 x
 
+-- Two jumps of the patched image lead from an address to a place: the second stands at no listed start
+-- and at no new address.
+pub record ByTwoJumps (r : Threading) (a place : ℕ) : Type 0 where
+  pub second : ℕ
+  pub there : JumpsTo r.patched a second
+  pub unlisted : is_start r.listed second ≡ false
+  pub old : is_new r second ≡ false
+  pub on : JumpsTo r.patched second place
+
 -- A patched site: its instruction stands in the original, shares no byte with another listed one,
--- can be displaced, and has a jump to the trampoline in its place in the patched image, where the
--- trampoline's code stands, at new addresses, and can't be written.
+-- can be displaced, and has a jump to the trampoline in its place in the patched image, or the first
+-- of two, where the trampoline's code stands, at new addresses, and can't be written.
 pub record IsThreadSite (r : Threading) (s : ThreadSite) : Type 0 where
   pub listed : Contains r.listed s.entry
   pub alone : s.entry.shared ≡ false
@@ -100,25 +120,25 @@ pub record IsThreadSite (r : Threading) (s : ThreadSite) : Type 0 where
   pub form : s.entry.form ≡ Some (insn_of fields)
   pub size : ℕ
   pub displaced : thread_len (insn_of fields) s.entry.len s.entry.addr ≡ Some size
-  pub jump : JumpsTo r.patched s.entry.addr s.place
-  pub code : IsFixed r.patched s.place (thread_code r.private s.number fields (s.entry.addr + s.entry.len) s.place)
-  pub new : (x : ℕ) → s.place ≤ x → x < s.place + length (thread_code r.private s.number fields (s.entry.addr + s.entry.len) s.place) → is_new r x ≡ true
-  pub low : s.place + length (thread_code r.private s.number fields (s.entry.addr + s.entry.len) s.place) ≤ 0x7FFF1000
+  pub jump : JumpsTo r.patched s.entry.addr s.place ⊎ ByTwoJumps r s.entry.addr s.place
+  pub code : IsFixed r.patched s.place (code_if s.event r.private s.number fields (next_of s) s.place)
+  pub new : (x : ℕ) → s.place ≤ x → x < s.place + length (code_if s.event r.private s.number fields (next_of s) s.place) → is_new r x ≡ true
+  pub low : s.place + length (code_if s.event r.private s.number fields (next_of s) s.place) ≤ 0x7FFF1000
 
 -- x is an address of the site's code
 abbrev pub is_code_of : (r : Threading) (s : ThreadSite) → IsThreadSite r s → ℕ → Type 0
-is_code_of r s h x = (s.place ≤ x) × (x < s.place + length (thread_code r.private s.number h.fields (s.entry.addr + s.entry.len) s.place))
+is_code_of r s h x = (s.place ≤ x) × (x < s.place + length (code_if s.event r.private s.number h.fields (next_of s) s.place))
 
 -- The patched image is sound for threads.
 pub record IsThreadSound (r : Threading) : Type 0 where
   -- what the original holds stays, but for the instructions of patched sites
   pub stays : (x : ℕ) → is_some (r.original x) ≡ true → list_any (λ s. nat_le s.entry.addr x && nat_lt x (s.entry.addr + s.entry.len)) r.sites ≡ false → r.patched x ≡ r.original x
   pub sites : (s : ThreadSite) → Contains r.sites s → IsThreadSite r s
-  -- each start and each number has one site, and codes don't meet
+  -- each start and each number that counts has one site, and codes don't meet
   pub once : (s t : ThreadSite) → Contains r.sites s → Contains r.sites t → s.entry.addr ≡ t.entry.addr → s ≡ t
-  pub numbers : (s t : ThreadSite) → Contains r.sites s → Contains r.sites t → s.number ≡ t.number → s ≡ t
+  pub numbers : (s t : ThreadSite) → Contains r.sites s → Contains r.sites t → s.event ≡ true → t.event ≡ true → s.number ≡ t.number → s ≡ t
   pub apart : (s t : ThreadSite) (h : Contains r.sites s) (k : Contains r.sites t) (x : ℕ) → is_code_of r s (sites s h) x → is_code_of r t (sites t k) x → s ≡ t
-  -- each site has a counter: eight zeros, RW, at new addresses below 2^31
-  pub counters : (s : ThreadSite) → Contains r.sites s → (x : ℕ) → r.private + 64 + 8 * s.number ≤ x → x < r.private + 72 + 8 * s.number
+  -- each site that counts has a counter: eight zeros, RW, at new addresses below 2^31
+  pub counters : (s : ThreadSite) → Contains r.sites s → s.event ≡ true → (x : ℕ) → r.private + 64 + 8 * s.number ≤ x → x < r.private + 72 + 8 * s.number
       → (r.patched x ≡ Some (record { byte = 0; perms = 6 })) × (r.original x ≡ None)
-  pub low : (s : ThreadSite) → Contains r.sites s → r.private + 72 + 8 * s.number ≤ 0x7FFF0000
+  pub low : (s : ThreadSite) → Contains r.sites s → s.event ≡ true → r.private + 72 + 8 * s.number ≤ 0x7FFF0000

@@ -4,9 +4,9 @@ ghost use Rattle.pun_base.specs.Limits.{most_sites};
 ghost use Rattle.length_decode.specs.Spelling.{Fields, IsInstruction, spelling};
 ghost use Rattle.relocate_insn.specs.Relocating.{Spells};
 ghost use Rattle.trampoline.specs.Trampolines.{back_if};
-ghost use Rattle.thread_runs.specs.ThreadCode.{thread_code, thread_event, call_reg_code};
+ghost use Rattle.thread_runs.specs.ThreadCode.{thread_code, thread_event, event_len, event_if, code_if, call_reg_code};
 ghost use Rattle.trampoline.specs.Atomic.{thread_len};
-ghost use Rattle.thread_runs.specs.Building.{target_spot, op_spot, called_spot, spot_register, call_register, work_by, thread_size};
+ghost use Rattle.thread_runs.specs.Building.{target_spot, op_spot, called_spot, spot_register, call_register, work_by, thread_size, size_if};
 
 use code_bytes::code::Code;
 use insn_form::{Insn, Op, Spot, Target};
@@ -68,6 +68,28 @@ fn put_thread_event(code: &mut CodeWriter, private: u32, number: u32)
     code.put(&[0x48, 0x8B, 0x84, 0x24, 0x78, 0xFF, 0xFF, 0xFF]);
 }
 
+/// Writes the event of site `number`, where there is one.
+fn put_event_if(code: &mut CodeWriter, event: bool, private: u32, number: u32)
+    requires room { length code.old ≤ 28 }
+    requires number { number < most_sites }
+    requires private { private < 0x7FFF0000 }
+    ensures code { code.new ≡ code.old ++ event_if event private number }
+    ensures room { length code.new ≤ 60 }
+{
+    if event {
+        put_thread_event(code, private, number);
+    }
+}
+
+/// Where the relocated code begins: after the event, or at the place, where there is none.
+fn work_place(event: bool, place: u32) -> u32
+    requires place { place + 32 < 0x7FFF0080 }
+    ensures place { result ≡ place + event_len event }
+    ensures low { result ≤ place + 32 }
+{
+    if event { place + 32 } else { place }
+}
+
 /// Writes a call through a register: PUSH, a jump, and NOPs up to 39 bytes.
 fn put_call_register(code: &mut CodeWriter, register: u8, next: u32)
     requires room { length code.old ≤ 60 }
@@ -127,11 +149,41 @@ fn put_work(code: &mut CodeWriter, register: Option<u8>, work: &Code, to: u32, n
 }
 
 /// The trampoline at `place`, for a guest of several threads, of the instruction of these bytes at
-/// `from`: the event of site `number`, the relocated code, and a jump to the address after the
-/// instruction exactly where the relocated code falls through.
+/// `from`: the event of site `number` or, for a victim, none, the relocated code, and a jump to the
+/// address after the instruction exactly where the relocated code falls through.
 ///
 /// The private range begins at `private`. `NotRelocatable` comes exactly where `displaced_len` is
 /// `None` or the instruction is an indirect call through memory or through rsp.
+pub fn thread_trampoline(
+    event: bool,
+    insn: &Insn,
+    bytes: &[u8],
+    from: u32,
+    place: u32,
+    number: u32,
+    private: u32,
+) -> Result<Code, NotRelocatable>
+    requires spelled { Spells bytes.now insn.now }
+    requires from { from + length bytes.now ≤ 0x7FFF0000 }
+    requires place { place + 32 < 0x7FFF0080 }
+    requires private { private < 0x7FFF0000 }
+    requires number { number < most_sites }
+    ensures code { (f : Fields) → IsInstruction f → bytes.now ≡ spelling f
+        → IfOk result (λ c. c.bytes ≡ code_if event private number f (from + length bytes.now) place) }
+    ensures falls { IfOk result (λ c. c.falls ≡ false) }
+    ensures size { MatchResult result (λ c. size_if event insn.now (length bytes.now) from
+        ≡ Some (length c.bytes)) (λ _. thread_len insn.now (length bytes.now) from ≡ None) }
+{
+    let to = work_place(event, place);
+    let work = relocate(insn, bytes, from, to, private)?;
+    let register = register_of(insn)?;
+    let mut code = CodeWriter::new();
+    put_event_if(&mut code, event, private, number);
+    put_work(&mut code, register, &work, to, from + bytes.len() as u32);
+    Ok(code.code(false))
+}
+
+/// The trampoline of a site that counts: `thread_trampoline` with the event of site `number`.
 pub fn thread_build(
     insn: &Insn,
     bytes: &[u8],
@@ -151,11 +203,5 @@ pub fn thread_build(
     ensures size { MatchResult result (λ c. thread_size insn.now (length bytes.now) from
         ≡ Some (length c.bytes)) (λ _. thread_len insn.now (length bytes.now) from ≡ None) }
 {
-    let to = place + 32;
-    let work = relocate(insn, bytes, from, to, private)?;
-    let register = register_of(insn)?;
-    let mut code = CodeWriter::new();
-    put_thread_event(&mut code, private, number);
-    put_work(&mut code, register, &work, to, from + bytes.len() as u32);
-    Ok(code.code(false))
+    thread_trampoline(true, insn, bytes, from, place, number, private)
 }

@@ -10,4 +10,4 @@ mod scheduling;
 mod single_step;
 pub mod starting;
 
-pub use building::thread_build;
+pub use building::{thread_build, thread_trampoline};

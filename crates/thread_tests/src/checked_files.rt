@@ -1,5 +1,5 @@
 //! Files that are patched for guests of several threads, judged.
-use crate::rewritten_files::{CODE, reported};
+use crate::rewritten_files::{CODE, VICTIMS, reported};
 use elf_read::elf::{read_elf, read_written};
 use elf_read::writing::plain_file;
 use image_check::verdict::Verdict;
@@ -10,10 +10,11 @@ use std::alloc::{AllocError, Global};
 use std::test::Fail;
 use thread_check::verdict::check_threads;
 
-/// The verdict on a patched file, with one byte of it changed, of a text that begins with its only start.
+/// The verdict on a patched file, with one byte of it changed, of a text with these starts.
 fn verdict(
     alloc: Global,
     text: &[u8],
+    starts: &[u32],
     patched: &[u8],
     change: Option<(usize, u8)>,
     report: &Report,
@@ -33,13 +34,13 @@ fn verdict(
     let Ok(written) = read_written(alloc, &changed) else {
         return Ok(None);
     };
-    if !ascend(&[0x40_1000]) {
+    if !ascend(starts) {
         return Ok(None);
     }
-    let Ok(starts) = Starts::build(alloc, &orig, &[0x40_1000]) else {
+    let Ok(listed) = Starts::build(alloc, &orig, starts) else {
         return Ok(None);
     };
-    let found = check_threads(alloc, &orig, &written, &starts, report)?;
+    let found = check_threads(alloc, &orig, &written, &listed, report)?;
     Ok(Some(found))
 }
 
@@ -71,8 +72,32 @@ fn changed_bytes(rt: HostRuntime) -> Result<(), Fail> {
             },
         ),
     ] {
-        let found = verdict(rt.alloc(), &text, written, change, &report)?;
+        let found = verdict(rt.alloc(), &text, &[0x40_1000], written, change, &report)?;
         assert!(rt; found == Some(told));
+    }
+    Ok(())
+}
+
+/// A site by T2 and one by T3 pass; a changed byte of the victim's code doesn't.
+#[test]
+fn sites_with_victims_are_judged(rt: HostRuntime) -> Result<(), Fail> {
+    for (text, starts, _, _, (beside, victim)) in VICTIMS {
+        let mut desk = MemDesk::new(rt.alloc(), &[])?;
+        let found = reported(rt.alloc(), text, starts, &[0x40_1000], &mut desk);
+        let report = found.ok_or("reported")?;
+        let written = desk.get("O").ok_or("held")?;
+        let mut codes = written.windows(12);
+        let code = codes
+            .position(|bytes| bytes == victim.as_slice())
+            .ok_or("code")?;
+        let broken = Verdict::No {
+            addr: u64::from(beside),
+            rule: 4,
+        };
+        for (change, told) in [(None, Verdict::Yes), (Some((code, 0x49)), broken)] {
+            let found = verdict(rt.alloc(), text, starts, written, change, &report)?;
+            assert!(rt; found == Some(told));
+        }
     }
     Ok(())
 }

@@ -13,6 +13,7 @@ use pun_base::byte_list::ByteList;
 use pun_base::desk::Desk;
 use pun_base::memory_desk::MemDesk;
 use pun_base::outcome::Outcome;
+use pun_base::scheme::Scheme;
 use start_entries::starts::ascend;
 use std::alloc::Global;
 use std::test::Fail;
@@ -69,6 +70,27 @@ fn only_place(rows: &[ReportRow]) -> Option<(u32, u32)> {
     }
 }
 
+/// Whether the only row is of this scheme, and has two trampolines: the site's at the first place, with an event, and a victim's at the
+/// second, without one.
+fn has_victim(rows: &[ReportRow], scheme: Scheme, place: u32, beside: u32) -> bool {
+    match rows {
+        [row] => match &row.outcome {
+            Outcome::Patched(plan) => match plan.tramps.as_slice() {
+                [site, victim] => {
+                    plan.scheme == scheme
+                        && site.event
+                        && site.place == place
+                        && !victim.event
+                        && victim.place == beside
+                }
+                _ => false,
+            },
+            Outcome::NotRelocatable | Outcome::NoPlan | Outcome::Shared => false,
+        },
+        _ => false,
+    }
+}
+
 /// Whether the only row's site is left since it can't be displaced.
 fn is_left(rows: &[ReportRow]) -> bool {
     match rows {
@@ -114,6 +136,80 @@ fn report_of_jump_to_itself(rt: HostRuntime) -> Result<(), Fail> {
     };
     assert!(rt; report.origin() == Some(original));
     assert!(rt; desk.get("O").is_some());
+    Ok(())
+}
+
+/// A text whose only site is at 0x401000, its starts, and the scheme of the site; the place and the code of the site's trampoline, and of the
+/// victim's.
+type WithVictim = (
+    &'static [u8],
+    &'static [u32],
+    Scheme,
+    (u32, [u8; 40]),
+    (u32, [u8; 12]),
+);
+
+pub(crate) const VICTIMS: [WithVictim; 2] = [
+    // `mov rax, rbx`; `add rbx, -112`, whose bytes are those of two jumps; `nop`
+    (
+        &[
+            0x48, 0x89, 0xD8, 0x48, 0x81, 0xC3, 0x90, 0xFF, 0xFF, 0xFF, 0x90,
+        ],
+        &[0x40_1000, 0x40_1003, 0x40_100A],
+        Scheme::T2,
+        (
+            0x129_1005,
+            [
+                0x48, 0x89, 0x84, 0x24, 0x78, 0xFF, 0xFF, 0xFF, 0x9F, 0x0F, 0x90, 0xC0, 0xF0, 0x48,
+                0xFF, 0x04, 0x25, 0x40, 0x00, 0x02, 0x00, 0x04, 0x7F, 0x9E, 0x48, 0x8B, 0x84, 0x24,
+                0x78, 0xFF, 0xFF, 0xFF, 0x48, 0x89, 0xD8, 0xE9, 0xD6, 0xFF, 0x16, 0xFF,
+            ],
+        ),
+        (
+            0x2_1008,
+            [
+                0x48, 0x81, 0xC3, 0x90, 0xFF, 0xFF, 0xFF, 0xE9, 0xF6, 0xFF, 0x3D, 0x00,
+            ],
+        ),
+    ),
+    // `mov rax, rbx`; `mov rbx, rax`; four times `nop`; `add rbx, 0x44332211`, in whose bytes the second jump stands; `ret`
+    (
+        &[
+            0x48, 0x89, 0xD8, 0x48, 0x89, 0xC3, 0x90, 0x90, 0x90, 0x90, 0x48, 0x81, 0xC3, 0x11,
+            0x22, 0x33, 0x44, 0xC3,
+        ],
+        &[
+            0x40_1000, 0x40_1003, 0x40_1006, 0x40_1007, 0x40_1008, 0x40_1009, 0x40_100A, 0x40_1011,
+        ],
+        Scheme::T3,
+        (
+            0x2_1011,
+            [
+                0x48, 0x89, 0x84, 0x24, 0x78, 0xFF, 0xFF, 0xFF, 0x9F, 0x0F, 0x90, 0xC0, 0xF0, 0x48,
+                0xFF, 0x04, 0x25, 0x40, 0x00, 0x02, 0x00, 0x04, 0x7F, 0x9E, 0x48, 0x8B, 0x84, 0x24,
+                0x78, 0xFF, 0xFF, 0xFF, 0x48, 0x89, 0xD8, 0xE9, 0xCA, 0xFF, 0x3D, 0x00,
+            ],
+        ),
+        (
+            0x40_F90F,
+            [
+                0x48, 0x81, 0xC3, 0x11, 0x22, 0x33, 0x44, 0xE9, 0xF6, 0x16, 0xFF, 0xFF,
+            ],
+        ),
+    ),
+];
+
+#[test]
+fn sites_with_victims(rt: HostRuntime) -> Result<(), Fail> {
+    for (text, starts, scheme, (place, code), (beside, victim)) in VICTIMS {
+        let mut desk = MemDesk::new(rt.alloc(), &[])?;
+        let found = rewritten(rt.alloc(), text, starts, &[0x40_1000], &mut desk).ok_or("read")?;
+        let report = found.ok().ok_or("rewritten")?;
+        assert!(rt; has_victim(report.rows.as_slice(), scheme, place, beside));
+        let written = desk.get("O").ok_or("held")?;
+        assert!(rt; written.windows(40).any(|bytes| bytes == code.as_slice()));
+        assert!(rt; written.windows(12).any(|bytes| bytes == victim.as_slice()));
+    }
     Ok(())
 }
 

@@ -15,7 +15,7 @@ mod shared_victims;
 mod short_turns;
 
 use answers::{marks, planned, spelled};
-use given::read_turn;
+use given::{Given, read_turn};
 use std::alloc::Global;
 use std::process::Abort;
 use std::test::Fail;
@@ -23,16 +23,15 @@ use std::test::Fail;
 /// How many words of a line tell the turn; the answers of the five schemes follow.
 const GIVEN: usize = 7;
 
-/// The schemes answer at the turn of a line's first words what the words here say.
+/// The schemes answer at a line's turn what the words here say.
 fn compare_plans(
     rt: &impl Abort,
     alloc: Global,
     line: &str,
-    first: &[&str],
+    given: &Given,
     answers: &[&str],
 ) -> Result<(), Fail> {
-    let given = read_turn(alloc, first)?;
-    for (plan, wanted) in planned(alloc, &given)?.iter().zip(answers) {
+    for (plan, wanted) in planned(alloc, given)?.iter().zip(answers) {
         let told = spelled(alloc, plan)?;
         assert_eq!(rt; told.as_str(), *wanted, "{line}");
     }
@@ -43,21 +42,32 @@ fn compare_plans(
 fn compare_line(rt: &impl Abort, alloc: Global, line: &str) -> Result<(), Fail> {
     let words: Vec<&str> = line.split(' ').collect(alloc)?;
     assert_eq!(rt; words.len(), GIVEN + 5, "{line}");
-    compare_plans(rt, alloc, line, &words[..GIVEN], &words[GIVEN..])
+    let given = read_turn(alloc, &words[..GIVEN])?;
+    compare_plans(rt, alloc, line, &given, &words[GIVEN..])
+}
+
+/// The same where threads share the guest's memory.
+fn compare_in_threads(rt: &impl Abort, alloc: Global, line: &str) -> Result<(), Fail> {
+    let words: Vec<&str> = line.split(' ').collect(alloc)?;
+    assert_eq!(rt; words.len(), GIVEN + 5, "{line}");
+    let mut given = read_turn(alloc, &words[..GIVEN])?;
+    given.threads = true;
+    compare_plans(rt, alloc, line, &given, &words[GIVEN..])
 }
 
 /// The same of a line whose eighth word tells which starts share bytes. The last five are missing where the site does.
 fn compare_sharing(rt: &impl Abort, alloc: Global, line: &str) -> Result<(), Fail> {
     let words: Vec<&str> = line.split(' ').collect(alloc)?;
     assert!(rt; words.len() > GIVEN, "{line}");
-    let told = marks(alloc, &read_turn(alloc, &words[..GIVEN])?)?;
+    let given = read_turn(alloc, &words[..GIVEN])?;
+    let told = marks(alloc, &given)?;
     assert_eq!(rt; told.as_str(), words[GIVEN], "{line}");
     let answers = &words[GIVEN + 1..];
     if answers.is_empty() {
         return Ok(());
     }
     assert_eq!(rt; answers.len(), 5, "{line}");
-    compare_plans(rt, alloc, line, &words[..GIVEN], answers)
+    compare_plans(rt, alloc, line, &given, answers)
 }
 
 fn compare(rt: &impl Abort, alloc: Global, lines: &[&str]) -> Result<(), Fail> {
@@ -77,6 +87,14 @@ fn compare_all_sharing(rt: &impl Abort, alloc: Global, lines: &[&str]) -> Result
 #[test]
 fn turns_worked_out_by_hand(rt: HostRuntime) -> Result<(), Fail> {
     compare(&rt, rt.alloc(), &by_hand::TURNS)
+}
+
+#[test]
+fn victims_where_threads_share_memory(rt: HostRuntime) -> Result<(), Fail> {
+    for line in &by_hand::TURNS_IN_THREADS {
+        compare_in_threads(&rt, rt.alloc(), line)?;
+    }
+    Ok(())
 }
 
 #[test]

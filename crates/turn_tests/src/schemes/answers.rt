@@ -66,6 +66,7 @@ pub fn planned(alloc: Global, given: &Given) -> Result<[Option<Plan>; 5], Fail> 
         locks: &given.locks,
         space: &given.space,
         event_size: given.event_size,
+        threads: given.threads,
     };
     let entries = starts.entries();
     if given.place < entries.len()

@@ -38,3 +38,16 @@ pub const TURNS: [&str; 18] = [
     // nothing is free
     "4889d84889c3909090904881c311223344c3 401000 0003060708090a11 0 8 - - - - - - -",
 ];
+
+/// Turns of a guest whose memory threads share: as those of one thread where the victim may be displaced there, and without a plan where it
+/// may not.
+pub const TURNS_IN_THREADS: [&str; 4] = [
+    // mov rax, rbx; add rbx, -112; nop
+    "4889d84881c390ffffff90 401000 00030a 0 8 21000-401000,402000-7fff0000 - - - - T2:01291005:00021008/00401003:00401000:4889d84881c390ff:e90000e90000c2ff T3:0002100a:0040f908/00401003:00401000:4889:eb03:00401003:4881c390ffffff:e900e90000c2ff",
+    // cwde; call rax
+    "fd98ffd0ffd0b07f16905c7f 7ffe0000 0001020406 1 8 30ceff4e-30ceff9d,50fd1c65-50fd1d39,50fd59ef-50fd59fd,50fdaee7-50fdaf16,6e46f000-6e470000 09 - - - T2:50fd59ef:30ceff60/7ffe0002:7ffe0001:98ffd0:e9e959:7ffe0004:ffd0b0 -",
+    // mov rax, [rbp - 48]; call [rbx - 67]
+    "488b45d0ff53bdb87744347fe98440 7ffe0000 000407 0 24 10b6ba34-10b6ba5c,38014ff0-38015029,3a29e9dd-3a29ea2b 08=90,0b=01,0e=fe - - - - -",
+    // syscall; a call; a nop; a call; call [rbx + 111]
+    "0f05e8000000900f1f40ebe84f010000ff536f447a440d 22000 0002070b10 0 50 d469a3f-d469ad5,7a4709f2-7a470a1a - - - - - -",
+];

@@ -20,6 +20,7 @@ pub struct Given {
     pub starts: Vec<u32>,
     pub place: usize,
     pub event_size: u32,
+    pub threads: bool,
     pub space: Space,
     pub locks: Locks,
 }
@@ -112,7 +113,7 @@ fn locks_of(alloc: Global, addr: u32, words: &str) -> Result<Locks, Fail> {
     Ok(locks)
 }
 
-/// What these words tell; an error where they tell no turn.
+/// What these words tell, for a guest of one thread; an error where they tell no turn.
 pub fn read_turn(alloc: Global, words: &[&str]) -> Result<Given, Fail> {
     if let [text, addr, offsets, place, event, ranges, locks] = words {
         let addr = number(addr)?;
@@ -121,6 +122,7 @@ pub fn read_turn(alloc: Global, words: &[&str]) -> Result<Given, Fail> {
             starts: starts_of(alloc, addr, offsets)?,
             place: number(place)? as usize,
             event_size: number(event)?,
+            threads: false,
             space: space_of(alloc, ranges)?,
             locks: locks_of(alloc, addr, locks)?,
         })

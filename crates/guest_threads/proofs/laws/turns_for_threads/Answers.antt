@@ -1,4 +1,4 @@
-use Rattle.guest_threads.proofs.JumpsAfterTurns.{turns_for_threads, counters_have_room}
+use Rattle.guest_threads.proofs.LinesAfterTurns.{turns_for_threads, counters_have_room}
 use Rattle.guest_threads.proofs.laws.turns_for_threads.Goals as goal
 
 pub returns-clause-jumps : goal.returns-clause-jumps

@@ -1,5 +1,6 @@
-use Rattle.std.proofs.Common.{arith}
+use Rattle.std.proofs.Common.{is_some, ap, ◌∙◌, arith}
 use Rattle.start_list.specs.Turning.{view_of}
+use Rattle.start_list.proofs.DisplacedWork.{displaced_has_work}
 use Rattle.scheme_search.proofs.NeighbourEntries.{is_entry, entry_spelled}
 use Rattle.scheme_search.proofs.FirstChoice.{first_at, none_next}
 use Rattle.scheme_near.specs.Choices.{IsGoodOf, offset_of, last_order}
@@ -32,3 +33,8 @@ work_size-requires-clause-spelled c = entry_spelled c.args.here.now c.args.victi
 
 pub work_size-requires-clause-some : goal.work_size-requires-clause-some
 work_size-requires-clause-some c = (is_entry c.args.here.now c.args.victim.now c.requires.beside.victim.listed).some
+
+pub unwrap-work-requires : goal.unwrap-work-requires
+unwrap-work-requires c =
+    ap is_some c.work_size.ensures.value
+    ∙ displaced_has_work c.args.here.now.turn.threads c.args.victim.now c.requires.beside.victim.movable

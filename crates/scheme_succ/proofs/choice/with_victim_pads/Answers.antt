@@ -1,5 +1,6 @@
-use Rattle.std.proofs.Common.{ℕ, refl, sym, ◌∙◌, subst, true≢false}
+use Rattle.std.proofs.Common.{ℕ, is_some, refl, sym, ap, ◌∙◌, subst, true≢false}
 use Rattle.start_list.specs.Turning.{view_of}
+use Rattle.start_list.proofs.DisplacedWork.{displaced_has_work}
 use Rattle.scheme_search.specs.Order.{IsFirstBy}
 use Rattle.scheme_search.proofs.NeighbourEntries.{entry_spelled}
 use Rattle.scheme_search.proofs.FirstChoice.{first_at, none_next}
@@ -44,3 +45,8 @@ loop-pad-preserved c =
         ends = record { back = m.ends.back; back_own = m.ends.back_own; fixed = m.ends.fixed; long = m.ends.long; small = m.ends.small };
       };
     }
+
+pub unwrap-work-requires : goal.unwrap-work-requires
+unwrap-work-requires c =
+    ap is_some c.work_size.ensures.value
+    ∙ displaced_has_work c.args.here.now.turn.threads c.args.victim.now c.requires.beside.victim.movable

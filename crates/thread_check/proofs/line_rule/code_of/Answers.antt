@@ -20,11 +20,11 @@ taken c = record {
 pub slice_bounds-bytes-end : goal.slice_bounds-bytes-end
 slice_bounds-bytes-end c = within _ _ _ _ _ _ _ (taken (goal.at.slice_bounds-bytes-end c).After-from)
 
-pub thread_build-requires-clause-spelled : goal.thread_build-requires-clause-spelled
-thread_build-requires-clause-spelled c = spells _ _ _ _ _ _ _ (taken (goal.at.thread_build-requires-clause-spelled c).After-from)
+pub thread_trampoline-requires-clause-spelled : goal.thread_trampoline-requires-clause-spelled
+thread_trampoline-requires-clause-spelled c = spells _ _ _ _ _ _ _ (taken (goal.at.thread_trampoline-requires-clause-spelled c).After-from)
 
-pub thread_build-requires-clause-from : goal.thread_build-requires-clause-from
-thread_build-requires-clause-from c = low _ _ _ _ _ _ _ (taken (goal.at.thread_build-requires-clause-from c).After-from)
+pub thread_trampoline-requires-clause-from : goal.thread_trampoline-requires-clause-from
+thread_trampoline-requires-clause-from c = low _ _ _ _ _ _ _ (taken (goal.at.thread_trampoline-requires-clause-from c).After-from)
 
 pub returns-in-Ok : goal.returns-in-Ok
 returns-in-Ok c = λ p.

@@ -16,7 +16,7 @@ returns-clause-verdict c =
     let low = c.from-low.ensures ∙ ap (λ x. x.0) c.private.ensures in
     subst (λ (z : Verdict). IsThreadVerdict k z)
     (sym (c.whole.ensures ∙ ap (λ b. whole b c.from-low.result v w) (c.counts.ensures ∙ ap counts c.action.ensures)))
-    (whole_verdict k c.from-low.result v w low c.keeps.ensures.told (subst (λ (z : Case). IsImageVerdict z v) c.in_ok-checked.ensures c.in_ok-image.ensures)
+    (whole_verdict k c.from-low.result v w low (subst (λ (z : Case). IsImageVerdict z v) c.in_ok-checked.ensures c.in_ok-image.ensures)
     c.in_ok-lines.ensures)
 
 pub returns-clause-followed : goal.returns-clause-followed

@@ -9,5 +9,5 @@ pub returns : goal.returns
 returns c =
     let k = case_in c.args.checked.now in
     subst (λ (z : Verdict). IsImageVerdict k z) (sym c.first_failure.ensures)
-    (image_verdict k c.in_ok-byte.byte c.in_ok-write.write c.in_ok-range.range c.in_ok-site.site c.in_ok-byte.ensures c.in_ok-write.ensures
-    c.in_ok-range.ensures c.in_ok-site.ensures)
+    (image_verdict k c.in_ok-byte.byte c.in_ok-write.write c.in_ok-range.range c.in_ok-site.site c.in_ok-entry.entry c.in_ok-byte.ensures c.in_ok-write.ensures
+    c.in_ok-range.ensures c.in_ok-site.ensures c.in_ok-entry.ensures)

@@ -25,19 +25,19 @@ taken c = record {
 pub slice_bounds-bytes-end : goal.slice_bounds-bytes-end
 slice_bounds-bytes-end c = within _ _ _ _ _ _ _ (taken (goal.at.slice_bounds-bytes-end c).After-from)
 
-pub thread_build-requires-clause-spelled : goal.thread_build-requires-clause-spelled
-thread_build-requires-clause-spelled c = spells _ _ _ _ _ _ _ (taken (goal.at.thread_build-requires-clause-spelled c).After-from)
+pub thread_trampoline-requires-clause-spelled : goal.thread_trampoline-requires-clause-spelled
+thread_trampoline-requires-clause-spelled c = spells _ _ _ _ _ _ _ (taken (goal.at.thread_trampoline-requires-clause-spelled c).After-from)
 
-pub thread_build-requires-clause-from : goal.thread_build-requires-clause-from
-thread_build-requires-clause-from c = low _ _ _ _ _ _ _ (taken (goal.at.thread_build-requires-clause-from c).After-from)
+pub thread_trampoline-requires-clause-from : goal.thread_trampoline-requires-clause-from
+thread_trampoline-requires-clause-from c = low _ _ _ _ _ _ _ (taken (goal.at.thread_trampoline-requires-clause-from c).After-from)
 
 pub unwrap-requires : goal.unwrap-requires
 unwrap-requires c =
     let t = taken (goal.at.unwrap-requires c).After-from in
-    built_ok c.unwrap-entry.result.now c.unwrap-insn.result.now _ c.thread_build.result (c.requires.can c.unwrap-entry.result.now t.at) t.form
-    (sym (within _ _ _ _ _ _ _ t) ∙ t.len) c.thread_build.ensures.size
+    built_ok c.args.tramp.now.event c.unwrap-entry.result.now c.unwrap-insn.result.now _ c.thread_trampoline.result (c.requires.can c.unwrap-entry.result.now t.at) t.form
+    (sym (within _ _ _ _ _ _ _ t) ∙ t.len) c.thread_trampoline.ensures.size
 
 pub returns-clause-code : goal.returns-clause-code
 returns-clause-code c =
-    has_code _ _ _ _ _ _ (line_at c.args.number c.args.tramp.now) c.args.self.now.private.lo c.unwrap.result c.thread_build.result
-    (taken (goal.at.returns-clause-code c).After-from) c.unwrap.ensures c.thread_build.ensures.code
+    has_code _ _ _ _ _ _ (line_at c.args.number c.args.tramp.now) c.args.self.now.private.lo c.unwrap.result c.thread_trampoline.result
+    (taken (goal.at.returns-clause-code c).After-from) c.unwrap.ensures c.thread_trampoline.ensures.code

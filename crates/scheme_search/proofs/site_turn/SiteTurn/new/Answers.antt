@@ -1,6 +1,7 @@
-use Rattle.std.proofs.Common.{◌≡◌, Option, Some, None, refl, sym, ◌∙◌}
+use Rattle.std.proofs.Common.{◌≡◌, Option, Some, None, is_some, refl, sym, ap, ◌∙◌}
 use Rattle.std.specs.Prelude.{IsSome}
 use Rattle.elf_read.specs.declared.segment.Segment.{Segment}
+use Rattle.start_list.proofs.DisplacedWork.{displaced_has_work}
 use Rattle.scheme_search.proofs.ListedEntries.{found_there}
 use Rattle.scheme_search.proofs.SiteSegments.{site_listed, site_low, site_found}
 use Rattle.scheme_search.proofs.site_turn.SiteTurn.new.Goals as goal
@@ -18,6 +19,9 @@ work_size-requires-clause-spelled c = (site_listed c.args.turn.now c.args.site.n
 
 pub work_size-requires-clause-some : goal.work_size-requires-clause-some
 work_size-requires-clause-some c = (site_listed c.args.turn.now c.args.site.now c.code_segment.ensures.accepted c.requires).executed.some
+
+pub unwrap-work-requires : goal.unwrap-work-requires
+unwrap-work-requires c = ap is_some c.work_size.ensures.value ∙ displaced_has_work c.args.turn.now.threads c.args.site.now c.requires.movable
 
 pub invariant_of-result : goal.invariant_of-result
 invariant_of-result c =

@@ -8,6 +8,7 @@ use Rattle.std.proofs.lemmas.Bool.Decides.{nat_tests}
 use Rattle.std.proofs.lemmas.Grind.{pow_more}
 use Rattle.std.proofs.lemmas.Option.{option_and_then_some}
 use Rattle.list_text.specs.Digits.{below, digit_in, number_behind, number_in, hex_number}
+use Rattle.list_text.specs.PlainLines.{hex_value}
 
 -- A digit's value is std's.
 pub digit_is : (base c code : ℕ) (found : Option ℕ) → code ≡ c → base ≤ 16 → SomeIff found (digit_value code < base) (digit_value code) → found ≡ digit_in base c
@@ -101,3 +102,7 @@ same_cond false o h = refl
 pub hex_none : (digits : List ℕ) → length digits ≤ 8 → None ≡ below 4294967296 (number_in 16 digits) → hex_number digits ≡ None
 hex_none digits few h =
     same_cond (nat_le 1 (length digits) && nat_le (length digits) 8) (number_in 16 digits) (none_below 4294967296 (number_in 16 digits) (λ m is. short digits m few is) h)
+
+-- A number with one more digit after its own that is past 32 bits isn't below their bound.
+pub past_hex : (n c m : ℕ) → m ≡ 16 * n + hex_value c → 4294967295 < m → below 4294967296 (option_map (λ value. 16 * n + value) (digit_in 16 c)) ≡ None
+past_hex n c m e h = grind (arith, nat_tests)

@@ -96,7 +96,13 @@ pub(crate) fn read_hex(digits: &[u8]) -> Option<u32>
     if digits.is_empty() || digits.len() > HEX_DIGITS {
         return None;
     }
-    let number = read_number(digits, 16, HEX_MAX)?;
+    let mut number = 0;
+    for digit in digits {
+        number = with_hex_digit(number, *digit);
+        if number > HEX_MAX {
+            return None;
+        }
+    }
     Some(number as u32)
 }
 

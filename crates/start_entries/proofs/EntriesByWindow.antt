@@ -1,5 +1,6 @@
 -- The entry of a start, by how its window begins.
-use Rattle.std.proofs.Common.{◌≡◌, ◌↔◌, ◌⊎◌, inl, inr, ℕ, ◌≤◌, List, length, false, Option, Some, None, Ok, Err, sym, ap, ◌∙◌, subst}
+use Rattle.std.proofs.Common.{◌≡◌, ◌↔◌, ◌⊎◌, inl, inr, ℕ, ◌≤◌, List, [], ◌∷◌, ◌++◌, length, false, Option, Some, None, Ok, Err, sym, ap, ◌∙◌, subst}
+use Rattle.std.specs.Prelude.{Result, IfOk, OnOk}
 use Rattle.elf_read.specs.Code.{window}
 use Rattle.length_decode.specs.declared.instruction_parts.Parts.{Parts}
 use Rattle.length_decode.specs.declared.instruction_parts.Shape.{Shape}
@@ -8,6 +9,8 @@ use Rattle.length_decode.specs.Parse.{parse}
 use Rattle.length_decode.specs.Spelling.{Fields, BeginsWith, BeginsWithNone, IsShort}
 use Rattle.insn_form.specs.declared.form.Insn.{Insn}
 use Rattle.insn_form.specs.Instruction.{insn_of}
+use Rattle.start_entries.specs.declared.entry.StartEntry.{StartEntry}
+use Rattle.start_entries.specs.Marking.{reached_with, with_mark}
 use Rattle.start_entries.specs.Entries.{before_next, entry_by, start_entry, reading_at}
 use Rattle.insn_form.proofs.SpelledFronts.{front_read, unread}
 use Rattle.start_entries.proofs.WindowLengths.{window_short, length-window}
@@ -36,3 +39,17 @@ unknown_entry file a next w n e b h =
 pub told_none : (w : List ℕ) (s : Shape) → ((s ≡ Unknown) ↔ (BeginsWithNone w × (IsShort w → ⊥))) → ((s ≡ Short) ↔ IsShort w) → (s ≡ Unknown) ⊎ (s ≡ Short) → BeginsWithNone w
 told_none w s u t (inl e) = (u.0 e).0
 told_none w s u t (inr e) = (t.0 e).none
+
+-- where an entry was appended, that of the window's start was
+pub entry_pushed : {E : Type 0} (r : Result ℕ E) (old new : List StartEntry) (w : List ℕ) (a reached : ℕ) (next : Option ℕ) (e : StartEntry)
+    → ((file : List ℕ) → w ≡ window file a → e ≡ start_entry file a next) → OnOk r (new ≡ old ++ with_mark reached next e ∷ [])
+    → OnOk r ((file : List ℕ) → w ≡ window file a → new ≡ old ++ with_mark reached next (start_entry file a next) ∷ [])
+entry_pushed (Ok x) old new w a reached next e is p = λ file at. p ∙ ap (λ (z : StartEntry). old ++ with_mark reached next z ∷ []) (is file at)
+entry_pushed (Err x) old new w a reached next e is p = p
+
+-- and what the entries reach with it is what they reach with that of the window's start
+pub entry_reached : {E : Type 0} (r : Result ℕ E) (w : List ℕ) (a reached : ℕ) (next : Option ℕ) (e : StartEntry)
+    → ((file : List ℕ) → w ≡ window file a → e ≡ start_entry file a next) → IfOk r (λ n. n ≡ reached_with reached e)
+    → IfOk r (λ n. (file : List ℕ) → w ≡ window file a → n ≡ reached_with reached (start_entry file a next))
+entry_reached (Ok x) w a reached next e is p = λ file at. p ∙ ap (reached_with reached) (is file at)
+entry_reached (Err x) w a reached next e is p = p

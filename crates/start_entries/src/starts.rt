@@ -6,7 +6,7 @@ ghost use Rattle.start_entries.specs.Refusals.{first_refusal, Refused};
 ghost use Rattle.start_entries.specs.Laws.{IsBuilt};
 ghost use Rattle.start_entries.specs.Finding.{addresses, entry_at, entry_after, IsLeastAbove};
 
-use crate::building::{entry_by_window, entry_of_start, mark, reached_by, window_of_start};
+use crate::building::{push_by_window, window_of_start};
 use crate::entry::StartEntry;
 use crate::refusal::StartError;
 use elf_read::elf::Elf;
@@ -54,11 +54,10 @@ impl Starts {
         while let Some((addr, after)) = left.split_first() {
             let window = window_of_start(elf, *addr)?;
             let next = after.first().copied();
-            let entry = entry_by_window(window, *addr, next);
-            if items.push(mark(&entry, reached, next)).is_err() {
+            let Ok(new) = push_by_window(&mut items, window, *addr, reached, next) else {
                 return Err(StartError::Memory);
-            }
-            reached = reached_by(&entry, reached);
+            };
+            reached = new;
             left = after;
         }
         Ok(Starts { items })
@@ -74,9 +73,7 @@ impl Starts {
         let mut reached = 0;
         while let Some((addr, after)) = left.split_first() {
             let next = after.first().copied();
-            let entry = entry_of_start(elf, *addr, next);
-            items.push(mark(&entry, reached, next))?;
-            reached = reached_by(&entry, reached);
+            reached = push_by_window(&mut items, elf.window(*addr), *addr, reached, next)?;
             left = after;
         }
         Ok(Starts { items })

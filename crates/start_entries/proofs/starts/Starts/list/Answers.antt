@@ -1,8 +1,8 @@
-use Rattle.std.proofs.Common.{◌≡◌, ◌∙◌, ◌+◌, ◌++◌, ℕ, [], ◌∷◌, Option, rules, ap}
+use Rattle.std.proofs.Common.{◌≡◌, ◌∙◌, ◌++◌, ℕ, [], ◌∷◌, Option, ap}
 use Rattle.std.specs.Prelude.{slice_get}
-use Rattle.start_entries.specs.declared.entry.StartEntry.{StartEntry}
 use Rattle.start_entries.specs.Entries.{start_entry}
-use Rattle.start_entries.specs.Marking.{with_mark, further}
+use Rattle.start_entries.specs.Marking.{reached_with, with_mark}
+use Rattle.start_entries.proofs.WindowLengths.{window_short}
 use Rattle.start_entries.proofs.StartsSoFar.{listed_on, listed_all, listed_rise}
 use Rattle.start_entries.proofs.starts.Starts.list.Goals as goal
 
@@ -16,15 +16,17 @@ returns c =
     listed_all c.args.elf.now.bytes c.args.starts.now c.loop-addr.items.items c.loop-addr.reached c.loop-addr.left.now
     c.requires c.in_default.ensures.cases c.loop-addr.invariant
 
+pub push_by_window-requires : goal.push_by_window-requires
+push_by_window-requires c = rw c.window.ensures (window_short c.args.elf.now.bytes c.in-Some.addr.now)
+
 pub loop-addr-preserved : goal.loop-addr-preserved
 loop-addr-preserved c =
     let bytes = c.args.elf.now.bytes in
     let a = c.in-Some.addr.now in
     let next : c.copied-next.result ≡ slice_get c.in-Some.after.now 0 = c.copied-next.ensures ∙ c.first.ensures.value in
-    let entry : c.entry_of_start-entry.result ≡ start_entry bytes a (slice_get c.in-Some.after.now 0) =
-    c.entry_of_start-entry.ensures ∙ ap (λ (n : Option ℕ). start_entry bytes a n) next in
-    let more : c.push.new.self.items ≡ c.loop-addr.items.items ++ c.mark.result ∷ [] = search rules in
-    listed_on bytes c.args.starts.now c.loop-addr.items.items c.push.new.self.items c.loop-addr.reached c.reached_by-reached.result c.loop-addr.left.now a
+    let reached = c.in_ok-reached.ensures.reached bytes c.window.ensures in
+    let pushed = c.in_ok-reached.ensures.pushed bytes c.window.ensures in
+    listed_on bytes c.args.starts.now c.loop-addr.items.items c.push_by_window.new.items.items c.loop-addr.reached c.in_ok-reached.reached c.loop-addr.left.now a
     c.in-Some.after.now c.in-Some.ensures.cases.0
-    (more ∙ ap (λ (e : StartEntry). c.loop-addr.items.items ++ e ∷ []) (c.mark.ensures ∙ (λ i. with_mark c.loop-addr.reached (next i) (entry i))))
-    (c.reached_by-reached.ensures ∙ ap (λ (e : StartEntry). further c.loop-addr.reached (e.addr + e.len)) entry) c.loop-addr.invariant
+    (pushed ∙ ap (λ (n : Option ℕ). c.loop-addr.items.items ++ with_mark c.loop-addr.reached n (start_entry bytes a n) ∷ []) next)
+    (reached ∙ ap (λ (n : Option ℕ). reached_with c.loop-addr.reached (start_entry bytes a n)) next) c.loop-addr.invariant

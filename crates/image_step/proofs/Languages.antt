@@ -8,6 +8,7 @@ use Rattle.std.proofs.Math.Seq.{take-append_seam}
 use Rattle.list_text.specs.Laws.{ended}
 use Rattle.list_text.specs.Lines.{is_line_feed}
 use Rattle.image_step.specs.Answers.{Agrees, whole_lines}
+use Rattle.image_step.specs.Drafts.{goes_on, read_one}
 use Rattle.image_step.proofs.DraftLines.{all_push}
 use Rattle.image_step.proofs.Lines.{first_cut, whole_cut, whole_first, whole_none}
 use Rattle.image_step.proofs.Words.{Above}
@@ -57,13 +58,17 @@ first_taken {L = L} {D = D} taken d e x xs h = by_first (taken d x) refl h
     by_first None is h = absurd cc
     by_first (Some z) is h = (z, is, h)
 
+-- Lines of which the first is taken are taken as the others from the draft that it makes.
+pub one_taken : {L D : Type 0} (taken : D → L → Option D) (d e : D) (x : L) (xs : List L) → taken d x ≡ Some e → after taken d (x ∷ xs) ≡ after taken e xs
+one_taken taken d e x xs h = ap (λ o. option_and_then (λ z. after taken z xs) o) h
+
 -- Lines behind lines that are taken are taken as from the draft that these make.
 pub after_append : {L D : Type 0} (taken : D → L → Option D) (d e : D) (xs ys : List L) → after taken d xs ≡ Some e
     → after taken d (xs ++ ys) ≡ after taken e ys
 after_append {D = D} taken d e [] ys h = let same : d ≡ e = cc in ap (λ (z : D). after taken z ys) same
-after_append {D = D} taken d e (x ∷ xs) ys h =
+after_append taken d e (x ∷ xs) ys h =
     let f = first_taken taken d e x xs h in
-    ap (λ (o : Option D). option_and_then (λ z. after taken z (xs ++ ys)) o) f.1 ∙ after_append taken f.0 e xs ys f.2
+    one_taken taken d f.0 x (xs ++ ys) f.1 ∙ after_append taken f.0 e xs ys f.2
 
 -- ---- lines by their texts
 
@@ -124,17 +129,6 @@ whole_behind G (x ∷ xs) rest h =
 
 -- ---- one line
 
--- A draft with a line, where there is one and it goes on with it.
-abbrev pub goes_on : {L D : Type 0} → (D → L → Option D) → D → Option L → Option D
-goes_on taken d None = None
-goes_on taken d (Some x) = taken d x
-
--- A draft with the first line of a text, where that ends with LF and goes on with it, and what stands behind it.
-abbrev pub read_one : {L D : Type 0} → (D → L → Option D) → (List ℕ → Option L) → D → List ℕ → Option (D × List ℕ)
-read_one taken line_of d text =
-    cond (eqb (length (before_first is_line_feed text)) (length text)) None
-    (option_map (λ e. (e, after_first is_line_feed text)) (goes_on taken d (line_of (before_first is_line_feed text))))
-
 -- A text has these lines so far, which make a draft; the place is that of the next one.
 pub record Passed {L D V : Type 0} (G : Language L D V) (text : List ℕ) (place : ℕ) (d : D) (rest : List ℕ) : Type 0 where
   pub lines : List L
@@ -167,7 +161,7 @@ rest_from {D = D} behind later (Some z) e h =
     (ap (λ (p : D × List ℕ). Some p.0) pair, ap (λ (p : D × List ℕ). p.1) pair)
 
 one_by : {L D V : Type 0} (G : Language L D V) (b : Bool) (d : D) (rest : List ℕ) (e : D) (later : List ℕ) → eqb (length (before_first is_line_feed rest)) (length rest) ≡ b
-    → cond {A = Option (D × List ℕ)} b None (option_map (λ z. (z, after_first is_line_feed rest)) (goes_on G.taken d (G.line_of (before_first is_line_feed rest)))) ≡ Some (e, later)
+    → option_and_then {T = List ℕ × List ℕ} {U = D × List ℕ} (λ p. option_map (λ z. (z, p.1)) (goes_on G.taken d (G.line_of p.0))) (cond b None (Some (before_first is_line_feed rest, after_first is_line_feed rest))) ≡ Some (e, later)
     → One G d rest e later
 one_by G true d rest e later is h = absurd cc
 one_by {L = L} G false d rest e later is h =

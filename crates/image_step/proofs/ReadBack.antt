@@ -23,10 +23,12 @@ use Rattle.image_step.proofs.Words.{Above, word_before, word_behind}
 
 -- ---- words
 
-front_word : (w rest : List ℕ) → Above 32 w → word (w ++ 32 ∷ rest) ≡ w
+-- The first word of a text is what stands before its first blank.
+pub front_word : (w rest : List ℕ) → Above 32 w → word (w ++ 32 ∷ rest) ≡ w
 front_word w rest a = word_before 32 w rest a
 
-behind_word : (w rest : List ℕ) → Above 32 w → later_words (w ++ 32 ∷ rest) ≡ rest
+-- The later words of a text are what stands after its first blank.
+pub behind_word : (w rest : List ℕ) → Above 32 w → later_words (w ++ 32 ∷ rest) ≡ rest
 behind_word w rest a = word_behind 32 w rest a
 
 abbrev IsNameRead : ℕ → Type 0

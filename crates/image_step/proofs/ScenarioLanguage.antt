@@ -1,10 +1,9 @@
 -- Scripts with deliveries as values that are read line by line.
-use Rattle.std.proofs.Common.{◌≡◌, ℕ, zero, suc, ◌+◌, ◌-◌, ◌==◌, ◌≤◌, eqb, Bool, true, false, ◌&&◌, cond, List, [], ◌∷◌, ◌++◌, length, map, Option, Some, None, refl, ap, sym, subst, ◌∙◌, arith, append-nil, append_assoc, length-append}
+use Rattle.std.proofs.Common.{◌≡◌, ℕ, ◌+◌, ◌-◌, eqb, true, List, [], ◌∷◌, ◌++◌, length, map, Option, Some, None, refl, ap, sym, subst, ◌∙◌, arith, append-nil, append_assoc, length-append}
 use Rattle.std.specs.Prelude.{nat_le, option_and_then, option_map, replicate}
 use Rattle.std.specs.List.{AllByRecursion, flat_map}
 use Rattle.std.proofs.lemmas.Bool.{and_parts}
 use Rattle.std.proofs.lemmas.Bool.Decides.{nat_tests}
-use Rattle.std.proofs.lemmas.Grind.{flat_map-append}
 use Rattle.std.proofs.lemmas.List.{length-replicate, map-append}
 use Rattle.list_text.proofs.WordParts.{all_appended}
 use Rattle.cpu_state.specs.declared.world.MemWrite.{MemWrite}
@@ -16,20 +15,17 @@ use Rattle.image_step.specs.Grammar.{IsScript, LineHolds}
 use Rattle.image_step.specs.ScenarioReading.{ScenarioDraft, came, due_at, front, inner, opened, scenario_line_of, scenario_taken, valued}
 use Rattle.image_step.specs.ScenarioText.{DueValue, HasValues, IsScenario, ScenarioLineHolds, ScenarioValue, ascend_from, due_lines, front_lines, plain, scenario_line_text, scenario_lines}
 use Rattle.image_step.specs.Spelling.{entry_lines, script_lines, value_lines}
-use Rattle.image_step.specs.Taking.{Draft, after as plain_after, blank, done, heads, taken}
+use Rattle.image_step.specs.Taking.{Draft, blank, done, heads, taken}
 use Rattle.image_step.specs.Values.{ScriptValue}
-use Rattle.image_step.proofs.DraftLines.{all_front, all_push, told}
-use Rattle.image_step.proofs.Languages.{Language, after, first_taken}
+use Rattle.image_step.proofs.DraftLines.{all_push, told}
+use Rattle.image_step.proofs.Languages.{Language, after, first_taken, one_taken}
 use Rattle.image_step.proofs.ScenarioDrafts.{ScenarioKeeps, ascend_last, dues_lines, front_some, scenario_grown, scenario_told}
 use Rattle.image_step.proofs.ScenarioLines.{scenario_line_above, scenario_line_read, scenario_line_spelled}
-use Rattle.image_step.proofs.TakenLines.{completed, completed_lines, completed_script, left, script_taken, values_append, zero_lines}
+use Rattle.image_step.proofs.TakenLines.{after as plain_after, completed, completed_lines, completed_script, left, script_taken, values_append, zero_lines}
 
 -- Lines that are taken from a draft on.
 abbrev afterwards : ScenarioDraft → List ScenarioLine → Option ScenarioDraft
 afterwards d xs = after scenario_taken d xs
-
-one_taken : (d e : ScenarioDraft) (x : ScenarioLine) (xs : List ScenarioLine) → scenario_taken d x ≡ Some e → afterwards d (x ∷ xs) ≡ afterwards e xs
-one_taken d e x xs h = ap (λ (o : Option ScenarioDraft). option_and_then (λ z. afterwards z xs) o) h
 
 -- The lines that were taken are those that the draft tells.
 pub told_after : (d e : ScenarioDraft) (xs : List ScenarioLine) → AllByRecursion ScenarioLineHolds xs → ScenarioKeeps d → afterwards d xs ≡ Some e
@@ -52,7 +48,7 @@ values_taken ds step vs k (w ∷ ws) rest e =
     let len : length (vs ++ w ∷ []) ≡ k + 1 = length-append vs (w ∷ []) ∙ ap (λ (j : ℕ). j + 1) e in
     let same : eqb k (length vs) ≡ true = grind (arith, nat_tests) in
     let t : scenario_taken (valued ds step vs) (Plain (line.Value k w)) ≡ Some (valued ds step (vs ++ w ∷ [])) = rw same refl in
-    one_taken (valued ds step vs) (valued ds step (vs ++ w ∷ [])) (Plain (line.Value k w)) (plain (value_lines (k + 1) ws) ++ rest) t
+    one_taken scenario_taken (valued ds step vs) (valued ds step (vs ++ w ∷ [])) (Plain (line.Value k w)) (plain (value_lines (k + 1) ws) ++ rest) t
     ∙ (values_taken ds step (vs ++ w ∷ []) (k + 1) ws rest len
     ∙ ap (λ (l : List ℕ). afterwards (valued ds step l) rest) (append_assoc vs (w ∷ []) ws))
 
@@ -73,7 +69,7 @@ due_taken ds d rest h =
     let t : scenario_taken (valued ds d.step d.values) (Rip d.rip) ≡ Some (came ds (written d [])) = rw full refl in
     ap (afterwards (valued ds d.step [])) (append_assoc (plain (value_lines 0 d.values)) (Rip d.rip ∷ plain (map line.Mem d.writes)) rest)
     ∙ (values_taken ds d.step [] 0 d.values (Rip d.rip ∷ (plain (map line.Mem d.writes) ++ rest)) refl
-    ∙ (one_taken (valued ds d.step d.values) (came ds (written d [])) (Rip d.rip) (plain (map line.Mem d.writes) ++ rest) t
+    ∙ (one_taken scenario_taken (valued ds d.step d.values) (came ds (written d [])) (Rip d.rip) (plain (map line.Mem d.writes) ++ rest) t
     ∙ writes_taken ds d [] d.writes rest))
 
 dues_taken : (ds : List DueValue) (d : DueValue) (es : List DueValue) (rest : List ScenarioLine) → AllByRecursion HasValues es → ascend_from d.step es ≡ true
@@ -84,7 +80,7 @@ dues_taken ds d (e ∷ es) rest h a =
     let later : List ScenarioLine = dues_lines es ++ (Plain line.Version ∷ rest) in
     let t : scenario_taken (came ds d) (DueLine e.step) ≡ Some (valued (ds ++ d ∷ []) e.step []) = rw p.0 refl in
     ap (afterwards (came ds d)) (append_assoc (due_lines e) (dues_lines es) (Plain line.Version ∷ rest))
-    ∙ (one_taken (came ds d) (valued (ds ++ d ∷ []) e.step []) (DueLine e.step) ((plain (value_lines 0 e.values) ++ Rip e.rip ∷ plain (map line.Mem e.writes)) ++ later) t
+    ∙ (one_taken scenario_taken (came ds d) (valued (ds ++ d ∷ []) e.step []) (DueLine e.step) ((plain (value_lines 0 e.values) ++ Rip e.rip ∷ plain (map line.Mem e.writes)) ++ later) t
     ∙ (due_taken (ds ++ d ∷ []) e later h.0
     ∙ (dues_taken (ds ++ d ∷ []) e es rest h.1 p.1
     ∙ ap (λ (l : List DueValue). afterwards (inner l (heads [])) rest) (append_assoc ds (d ∷ []) (e ∷ es)))))

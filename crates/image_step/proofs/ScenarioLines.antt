@@ -1,5 +1,5 @@
 -- A line of a script with deliveries: it is read from its text, a text that is read is its text, and no LF is in it.
-use Rattle.std.proofs.Common.{◌≡◌, ℕ, ◌+◌, ◌^◌, ◌<◌, Bool, true, false, cond, List, [], ◌∷◌, ◌++◌, Option, Some, None, refl, ap, sym, ◌∙◌, subst, arith}
+use Rattle.std.proofs.Common.{◌≡◌, ℕ, ◌+◌, ◌^◌, ◌<◌, Bool, true, false, cond, List, ◌∷◌, ◌++◌, Option, Some, None, refl, ap, sym, ◌∙◌, subst, arith}
 use Rattle.std.specs.Prelude.{codes, option_map}
 use Rattle.std.specs.Str.{bytes_eq}
 use Rattle.std.proofs.lemmas.Slice.Eq.{bytes_eq-Decides}
@@ -14,8 +14,8 @@ use Rattle.image_step.specs.Spelling.{hex16, name}
 use Rattle.image_step.proofs.LineSpellings.{kept, line_spelled}
 use Rattle.image_step.proofs.Lines.{line_above}
 use Rattle.image_step.proofs.Numbers.{number_above, number_read, number_small}
-use Rattle.image_step.proofs.ReadBack.{line_read}
-use Rattle.image_step.proofs.Words.{Above, above_append, above_less, word_before, word_behind}
+use Rattle.image_step.proofs.ReadBack.{behind_word, front_word, line_read}
+use Rattle.image_step.proofs.Words.{Above, above_less}
 
 -- ---- a word and a number
 
@@ -42,12 +42,6 @@ numbered_spelled text kind later n e =
     (number_small later n s.0, s.1)
 
 -- ---- read
-
-front_word : (w rest : List ℕ) → Above 32 w → word (w ++ 32 ∷ rest) ≡ w
-front_word w rest a = word_before 32 w rest a
-
-behind_word : (w rest : List ℕ) → Above 32 w → later_words (w ++ 32 ∷ rest) ≡ rest
-behind_word w rest a = word_behind 32 w rest a
 
 plain_due : Above 32 (codes "due")
 plain_due = (omega arith, (omega arith, (omega arith, tt)))

@@ -1,29 +1,16 @@
 -- How far the text of a script with deliveries has been read, and what the reader tells.
-use Rattle.std.proofs.Common.{◌≡◌, ℕ, ◌+◌, cond, eqb, List, [], ◌∷◌, length, map, Option, Some, None, refl, ap, sym, subst, ◌∙◌, arith}
+use Rattle.std.proofs.Common.{◌≡◌, ℕ, ◌+◌, List, [], ◌∷◌, length, map, Option, Some, None, refl, ap, sym, subst, ◌∙◌}
 use Rattle.std.specs.Prelude.{nat_le, option_map, ◌&&◌}
-use Rattle.std.specs.List.{before_first, after_first}
-use Rattle.list_text.specs.Lines.{is_line_feed}
 use Rattle.image_step.specs.declared.delivery.Due.{Due}
-use Rattle.image_step.specs.declared.scenario_line.ScenarioLine.{ScenarioLine}
 use Rattle.image_step.specs.Scheduled.{rise}
 use Rattle.image_step.specs.ScenarioAnswers.{IsScenarioRefused, IsTextOfScenario}
-use Rattle.image_step.specs.ScenarioReading.{ScenarioDraft, came, front, goes_on, inner, opened, read_scenario_line, scenario_in, scenario_line_of, scenario_taken, valued}
+use Rattle.image_step.specs.ScenarioReading.{ScenarioDraft, came, front, inner, opened, read_scenario_line, scenario_in, valued}
 use Rattle.image_step.specs.ScenarioText.{ScenarioValue, ascend_from, due_value}
-use Rattle.image_step.specs.Taking.{Draft, script_in}
+use Rattle.image_step.specs.Taking.{script_in}
 use Rattle.image_step.specs.Values.{ScriptValue}
-use Rattle.image_step.proofs.Languages.{Passed, Unended, finishes, goes_on as goes, passed_more, passed_none, read_one, refused, some_left, stops}
+use Rattle.image_step.proofs.Languages.{Passed, finishes, passed_more, passed_none, refused, some_left, stops}
 use Rattle.image_step.proofs.ScenarioLanguage.{scenario_whole, scenarios}
 use Rattle.image_step.proofs.TextSoFar.{done_is}
-
-goes_same : (d : ScenarioDraft) (o : Option ScenarioLine) → goes_on d o ≡ goes scenario_taken d o
-goes_same d None = refl
-goes_same d (Some x) = refl
-
-read_same : (d : ScenarioDraft) (text : List ℕ) → read_scenario_line d text ≡ read_one scenario_taken scenario_line_of d text
-unfolding read_scenario_line
-read_same d text =
-    ap (λ (o : Option ScenarioDraft). cond (eqb (length (before_first is_line_feed text)) (length text)) None (option_map (λ e. (e, after_first is_line_feed text)) o))
-    (goes_same d (scenario_line_of (before_first is_line_feed text)))
 
 -- A text has been read so far, and this is left.
 abbrev pub ReadSoFar : List ℕ → ℕ → ScenarioDraft → List ℕ → Type 0
@@ -36,15 +23,15 @@ text_begins text = passed_none scenarios text
 
 pub line_passed : (text : List ℕ) (place : ℕ) (d e : ScenarioDraft) (rest later : List ℕ) → ReadSoFar text place d rest
     → read_scenario_line d rest ≡ Some (e, later) → ReadSoFar text (place + 1) e later
-unfolding scenarios
-line_passed text place d e rest later p h = passed_more scenarios text place d e rest later p (sym (read_same d rest) ∙ h)
+unfolding scenarios read_scenario_line
+line_passed text place d e rest later p h = passed_more scenarios text place d e rest later p h
 
 -- The next line is refused.
 pub line_refused : (text : List ℕ) (place : ℕ) (d : ScenarioDraft) (rest : List ℕ) → ReadSoFar text place d rest → read_scenario_line d rest ≡ None
     → (length rest ≡ 0 → ⊥) → IsScenarioRefused text place
-unfolding scenarios
+unfolding scenarios read_scenario_line
 line_refused text place d rest p h some =
-    let r = refused scenarios text place d rest p (sym (read_same d rest) ∙ h) (some_left scenarios d rest some) in
+    let r = refused scenarios text place d rest p h (some_left scenarios d rest some) in
     record { place = r.place; front = r.front; none = r.none; other = r.other }
 
 none_whole : (d : ScenarioDraft) → scenario_in d ≡ None → (v : ScenarioValue) → d ≡ scenario_whole v → ⊥

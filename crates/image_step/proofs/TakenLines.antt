@@ -1,6 +1,6 @@
 -- The lines of a script are taken one after the other; lines that are taken begin a script.
 use Rattle.std.proofs.Common.{◌≡◌, ℕ, zero, suc, ◌+◌, ◌-◌, ◌<◌, ◌≤◌, eqb, true, false, ◌&&◌, List, [], ◌∷◌, ◌++◌, length, map, drop, Option, Some, None, refl, ap, sym, subst, ◌∙◌, arith, append_assoc, append-nil, length-append}
-use Rattle.std.specs.Prelude.{replicate, slice_set, is_none, option_and_then, nat_le}
+use Rattle.std.specs.Prelude.{replicate, slice_set, is_none, nat_le}
 use Rattle.std.specs.List.{AllByRecursion, flat_map, list_all}
 use Rattle.std.proofs.lemmas.Bool.{and_parts}
 use Rattle.std.proofs.lemmas.Bool.Decides.{nat_tests}
@@ -16,28 +16,13 @@ use Rattle.image_step.specs.declared.line.Line.TheVariants as line
 use Rattle.image_step.specs.Values.{EntryValue, ScriptValue}
 use Rattle.image_step.specs.Spelling.{entry_lines, script_lines, set_lines, value_lines}
 use Rattle.image_step.specs.Grammar.{HasNames, IsScript, LineHolds}
-use Rattle.image_step.specs.Taking.{Draft, after, asked, blank, body, done, fresh, heads, taken, with_values}
+use Rattle.image_step.specs.Taking.{Draft, asked, blank, body, done, fresh, heads, taken, with_values}
 use Rattle.image_step.proofs.DraftLines.{Keeps, grown, told, behind_two}
+use Rattle.image_step.proofs.Languages.{after as all_after, first_taken, one_taken}
 
--- ---- lines after lines
-
--- Of lines that are taken each is taken.
-pub first_taken : (d e : Draft) (x : Line) (xs : List Line) → after d (x ∷ xs) ≡ Some e → (f : Draft) × (taken d x ≡ Some f) × (after f xs ≡ Some e)
-first_taken d e x xs h = by_first (taken d x) refl h
-  where
-    by_first : (o : Option Draft) → taken d x ≡ o → option_and_then (λ z. after z xs) o ≡ Some e → (f : Draft) × (taken d x ≡ Some f) × (after f xs ≡ Some e)
-    by_first None is h = absurd cc
-    by_first (Some z) is h = (z, is, h)
-
-one_taken : (d e : Draft) (x : Line) (xs : List Line) → taken d x ≡ Some e → after d (x ∷ xs) ≡ after e xs
-one_taken d e x xs h = ap (λ o. option_and_then (λ z. after z xs) o) h
-
--- Lines behind lines that are taken are taken as from the draft that these make.
-pub after_append : (d e : Draft) (xs ys : List Line) → after d xs ≡ Some e → after d (xs ++ ys) ≡ after e ys
-after_append d e [] ys h = let same : d ≡ e = cc in ap (λ (z : Draft). after z ys) same
-after_append d e (x ∷ xs) ys h =
-    let f = first_taken d e x xs h in
-    one_taken d f.0 x (xs ++ ys) f.1 ∙ after_append f.0 e xs ys f.2
+-- Lines that are taken from a draft on.
+abbrev pub after : Draft → List Line → Option Draft
+after d xs = all_after taken d xs
 
 -- The lines that were taken are those that the draft tells.
 pub told_after : (d e : Draft) (xs : List Line) → AllByRecursion LineHolds xs → Keeps d → after d xs ≡ Some e → (told e ≡ told d ++ xs) × Keeps e
@@ -45,7 +30,7 @@ told_after d e [] h k a =
     let same : d ≡ e = cc in
     (ap told (sym same) ∙ sym (append-nil (told d)), subst Keeps same k)
 told_after d e (x ∷ xs) h k a =
-    let f = first_taken d e x xs a in
+    let f = first_taken taken d e x xs a in
     let g = grown d x f.0 h.0.fits k f.1 in
     let ih = told_after f.0 e xs h.1 g.keeps f.2 in
     (ih.0 ∙ (ap (λ (l : List Line). l ++ xs) g.told_is ∙ append_assoc (told d) (x ∷ []) xs), ih.1)
@@ -70,13 +55,13 @@ values_taken vs k w [] rest e h =
     let all : length (vs ++ w ∷ []) ≡ 19 = length-append vs (w ∷ []) ∙ h in
     let t : taken (heads vs) (line.Value k w) ≡ Some (body (vs ++ w ∷ []) []) =
     subst (λ (j : ℕ). taken (heads vs) (line.Value j w) ≡ Some (body (vs ++ w ∷ []) [])) e (value_taken vs w ∙ ap (λ (z : Draft). Some z) (full (vs ++ w ∷ []) all)) in
-    one_taken (heads vs) (body (vs ++ w ∷ []) []) (line.Value k w) rest t
+    one_taken taken (heads vs) (body (vs ++ w ∷ []) []) (line.Value k w) rest t
 values_taken vs k w (u ∷ ws) rest e h =
     let len : length (vs ++ w ∷ []) ≡ k + 1 = length-append vs (w ∷ []) ∙ ap (λ (j : ℕ). j + 1) e in
     let less : length (vs ++ w ∷ []) < 19 = omega arith in
     let t : taken (heads vs) (line.Value k w) ≡ Some (heads (vs ++ w ∷ [])) =
     subst (λ (j : ℕ). taken (heads vs) (line.Value j w) ≡ Some (heads (vs ++ w ∷ []))) e (value_taken vs w ∙ ap (λ (z : Draft). Some z) (not_full (vs ++ w ∷ []) less)) in
-    one_taken (heads vs) (heads (vs ++ w ∷ [])) (line.Value k w) (value_lines (k + 1) (u ∷ ws) ++ rest) t
+    one_taken taken (heads vs) (heads (vs ++ w ∷ [])) (line.Value k w) (value_lines (k + 1) (u ∷ ws) ++ rest) t
     ∙ (values_taken (vs ++ w ∷ []) (k + 1) u ws rest len (omega arith)
     ∙ ap (λ (l : List ℕ). after (body l []) rest) (push_nil vs w (u ∷ ws)))
 
@@ -105,7 +90,7 @@ regions_taken vs rs (q ∷ qs) rest h =
     let e : (rs ++ q ∷ []) ++ qs ≡ rs ++ q ∷ qs = append_assoc rs (q ∷ []) qs in
     let all : are_regions ((rs ++ q ∷ []) ++ qs) ≡ true = ap are_regions e ∙ h in
     let t : taken (body vs rs) (line.Region q) ≡ Some (body vs (rs ++ q ∷ [])) = rw (regions_front (rs ++ q ∷ []) qs all) refl in
-    one_taken (body vs rs) (body vs (rs ++ q ∷ [])) (line.Region q) (map line.Region qs ++ rest) t
+    one_taken taken (body vs rs) (body vs (rs ++ q ∷ [])) (line.Region q) (map line.Region qs ++ rest) t
     ∙ (regions_taken vs (rs ++ q ∷ []) qs rest all ∙ ap (λ (l : List Region). after (body vs l) rest) e)
 
 -- ---- entries
@@ -151,7 +136,7 @@ sets_taken vs rs es q front (Some v ∷ os) k rest e =
     ≡ Some (asked vs rs es (given_only q (front ++ Some v ∷ replicate (length os) None))) =
     subst (λ (j : ℕ). taken (asked vs rs es (given_only q (front ++ replicate (suc (length os)) None))) (line.Set j v)
     ≡ Some (asked vs rs es (given_only q (front ++ Some v ∷ replicate (length os) None)))) e (set_taken vs rs es q front (length os) v) in
-    one_taken (asked vs rs es (given_only q (front ++ replicate (suc (length os)) None))) (asked vs rs es (given_only q (front ++ Some v ∷ replicate (length os) None))) (line.Set k v) (set_lines (k + 1) os ++ rest) t
+    one_taken taken (asked vs rs es (given_only q (front ++ replicate (suc (length os)) None))) (asked vs rs es (given_only q (front ++ Some v ∷ replicate (length os) None))) (line.Set k v) (set_lines (k + 1) os ++ rest) t
     ∙ (ap (λ (l : List (Option ℕ)). after (asked vs rs es (given_only q l)) (set_lines (k + 1) os ++ rest)) (shape (replicate (length os) None))
     ∙ (sets_taken vs rs es q (front ++ Some v ∷ []) os (k + 1) rest len
     ∙ ap (λ (l : List (Option ℕ)). after (asked vs rs es (given_only q l)) rest) (sym (shape os))))

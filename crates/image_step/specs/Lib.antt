@@ -2,6 +2,7 @@ pub mod Values
 pub mod Spelling
 pub mod Grammar
 pub mod Answers
+pub mod Drafts
 pub mod Reading
 pub mod Taking
 pub mod Views

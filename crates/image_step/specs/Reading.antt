@@ -1,6 +1,5 @@
 -- The line that a text is the text of. Theorems cite it.
-use Rattle.std.specs.Prelude.{ℕ, zero, suc, ◌+◌, ◌-◌, ◌==◌, ◌&&◌, nat_lt, if◌then◌else◌, List, length, codes, Option, Some, None, option_map, option_and_then}
-use Rattle.std.specs.List.{before_first, after_first}
+use Rattle.std.specs.Prelude.{ℕ, zero, suc, ◌+◌, ◌-◌, ◌&&◌, nat_lt, if◌then◌else◌, List, length, codes, Option, Some, None, option_map, option_and_then}
 use Rattle.std.specs.Result.{result_ok}
 use Rattle.std.specs.Str.{bytes_eq}
 use Rattle.std.specs.Int.{w64, from_be_bytes}
@@ -11,7 +10,7 @@ use Rattle.image_step.specs.declared.line.Line.TheVariants as line
 use Rattle.image_step.specs.Spelling.{line_text, name}
 use Rattle.image_step.specs.Grammar.{is_within, line_fits}
 use Rattle.list_text.specs.Blanks.{word, later_words}
-use Rattle.list_text.specs.Lines.{is_line_feed}
+use Rattle.image_step.specs.Drafts.{read_one}
 use Rattle.image_step.specs.Taking.{Draft, taken}
 
 -- The number of 64 bits that sixteen hexadecimal digits tell, the highest first.
@@ -103,18 +102,6 @@ line_of text = checked text (line_behind (word text) (later_words text))
 
 -- ---- lines one after the other
 
--- A draft with a line, where there is one and it goes on with it.
-abbrev pub goes_on : Draft → Option Line → Option Draft
-goes_on d None = None
-goes_on d (Some x) = taken d x
-
--- A draft, where there is one, with the text that is left.
-abbrev pub with_rest : List ℕ → Option Draft → Option (Draft × List ℕ)
-with_rest rest None = None
-with_rest rest (Some d) = Some (d, rest)
-
--- A draft with the first line of a text, where that ends with LF and goes on with it, and what stands behind it.
-unfoldable pub read_one : Draft → List ℕ → Option (Draft × List ℕ)
-read_one d text =
-    if length (before_first is_line_feed text) == length text then None
-    else with_rest (after_first is_line_feed text) (goes_on d (line_of (before_first is_line_feed text)))
+-- A draft with the first line of a text, where that is a script's and goes on with it, and what stands behind it.
+unfoldable pub read_script_line : Draft → List ℕ → Option (Draft × List ℕ)
+read_script_line d text = read_one taken line_of d text

@@ -1,14 +1,13 @@
 -- The lines of a script with deliveries, read one after the other. Contracts of private functions alone cite it.
-use Rattle.std.specs.Prelude.{ℕ, ◌==◌, Bool, true, nat_le, if◌then◌else◌, List, [], ◌∷◌, ◌++◌, length, codes, Option, Some, None, option_map, option_and_then}
-use Rattle.std.specs.List.{before_first, after_first}
+use Rattle.std.specs.Prelude.{ℕ, ◌==◌, Bool, true, nat_le, if◌then◌else◌, List, [], ◌∷◌, ◌++◌, length, codes, Option, Some, None, option_map}
 use Rattle.std.specs.Str.{bytes_eq}
 use Rattle.list_text.specs.Blanks.{word, later_words}
-use Rattle.list_text.specs.Lines.{is_line_feed}
 use Rattle.cpu_state.specs.declared.world.MemWrite.{MemWrite}
 use Rattle.image_step.specs.declared.line.Line.{Line}
 use Rattle.image_step.specs.declared.line.Line.TheVariants as line
 use Rattle.image_step.specs.declared.scenario_line.ScenarioLine.{ScenarioLine}
 use Rattle.image_step.specs.declared.scenario_line.ScenarioLine.TheVariants.{Second, Due as DueLine, Rip, Plain}
+use Rattle.image_step.specs.Drafts.{read_one}
 use Rattle.image_step.specs.Grammar.{line_fits}
 use Rattle.image_step.specs.Reading.{line_of, number_in}
 use Rattle.image_step.specs.ScenarioText.{DueValue, ScenarioValue}
@@ -103,13 +102,6 @@ abbrev pub scenario_in : ScenarioDraft → Option ScenarioValue
 scenario_in (inner ds d) = option_map (λ v. record { dues = ds; script = v }) (script_in d)
 scenario_in _ = None
 
--- A draft with a line, where there is one and it goes on with it.
-abbrev pub goes_on : ScenarioDraft → Option ScenarioLine → Option ScenarioDraft
-goes_on d None = None
-goes_on d (Some x) = scenario_taken d x
-
--- A draft with the first line of a text, where that ends with LF and goes on with it, and what stands behind it.
+-- A draft with the first line of a text, where that goes on with it, and what stands behind it.
 unfoldable pub read_scenario_line : ScenarioDraft → List ℕ → Option (ScenarioDraft × List ℕ)
-read_scenario_line d text =
-    if length (before_first is_line_feed text) == length text then None
-    else option_map (λ e. (e, after_first is_line_feed text)) (goes_on d (scenario_line_of (before_first is_line_feed text)))
+read_scenario_line d text = read_one scenario_taken scenario_line_of d text

@@ -1,5 +1,5 @@
 -- What has been read of a script, and what may come next. Contracts of private functions alone cite it.
-use Rattle.std.specs.Prelude.{ℕ, ◌==◌, Bool, ◌&&◌, if◌then◌else◌, List, [], ◌∷◌, ◌++◌, length, drop, replicate, slice_set, Option, Some, None, is_none, option_and_then}
+use Rattle.std.specs.Prelude.{ℕ, ◌==◌, Bool, ◌&&◌, if◌then◌else◌, List, [], ◌∷◌, ◌++◌, length, drop, replicate, slice_set, Option, Some, None, is_none}
 use Rattle.std.specs.List.{list_all}
 use Rattle.cpu_state.specs.declared.script_regions.Region.{Region}
 use Rattle.cpu_state.specs.declared.world.Question.{Question}
@@ -73,11 +73,6 @@ taken (heads vs) x = taken_value vs x
 taken (body vs rs) x = taken_region vs rs x
 taken (asked vs rs es e) x = taken_entry vs rs es e x
 taken (done vs rs es) x = None
-
--- A draft with these lines, where each goes on with what is before it.
-abbrev pub after : Draft → List Line → Option Draft
-after d [] = Some d
-after d (x ∷ xs) = option_and_then (λ e. after e xs) (taken d x)
 
 -- The script, where the last line is there.
 abbrev pub script_in : Draft → Option ScriptValue

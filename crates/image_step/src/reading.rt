@@ -2,7 +2,8 @@
 ghost use Rattle.std.specs.Prelude.{◌≡◌, ◌-◌, ◌^◌, ◌<◌, true, IfOk, IfSome, length, option_map};
 ghost use Rattle.cpu_state.specs.Script.{are_regions};
 ghost use Rattle.image_step.specs.Answers.{ReadsScript, ReadsAs};
-ghost use Rattle.image_step.specs.Reading.{read_one};
+ghost use Rattle.image_step.specs.Drafts.{first_line};
+ghost use Rattle.image_step.specs.Reading.{read_script_line};
 ghost use Rattle.image_step.specs.Taking.{script_in};
 ghost use Rattle.image_step.specs.Values.{script_value};
 ghost use Rattle.image_step.specs.Views.{draft_value, parts_value};
@@ -25,21 +26,32 @@ pub(crate) struct Parts {
     pub entries: Vec<Entry>,
 }
 
+/// The first line of a text, where that ends with LF, and what stands after it.
+pub(crate) fn first_line(text: &[u8]) -> Option<(&[u8], &[u8])>
+    ensures value { option_map (λ x. (x.0.now, x.1.now)) result ≡ first_line text.now }
+    ensures less { IfSome result (λ x. length x.1.now < length text.now) }
+{
+    let (line, later) = split_at_first(text, b'\n');
+    if line.len() == text.len() {
+        return None;
+    }
+    Some((line, later))
+}
+
 /// A draft with the first line of a text, where that goes on with it, and what stands behind it.
-#[tactic(auto, unfolding(crate::specs::Reading::read_one))]
+#[tactic(auto, unfolding(crate::specs::Reading::read_script_line))]
 fn read_one<'a>(
     alloc: Global,
     draft: Draft,
     text: &'a [u8],
 ) -> Result<Option<(Draft, &'a [u8])>, AllocError>
     ensures value { IfOk result (λ found. option_map (λ x. (draft_value x.0, x.1.now)) found
-        ≡ read_one (draft_value draft) text.now) }
+        ≡ read_script_line (draft_value draft) text.now) }
     ensures less { IfOk result (λ found. IfSome found (λ x. length x.1.now < length text.now)) }
 {
-    let (line, later) = split_at_first(text, b'\n');
-    if line.len() == text.len() {
+    let Some((line, later)) = first_line(text) else {
         return Ok(None);
-    }
+    };
     let Some(line) = read_line(alloc, line)? else {
         return Ok(None);
     };

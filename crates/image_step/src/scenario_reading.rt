@@ -6,11 +6,10 @@ ghost use Rattle.image_step.specs.ScenarioViews.{scenario_draft_value, scenario_
 
 use crate::delivery::Due;
 use crate::error::ScriptError;
-use crate::reading::{Parts, parts_of, script_of};
+use crate::reading::{Parts, first_line, parts_of, script_of};
 use crate::scenario::Scenario;
 use crate::scenario_draft::{ScenarioDraft, take_line};
 use crate::scenario_line::read_scenario_line;
-use list_text::parts::split_at_first;
 use std::alloc::{AllocError, Global};
 
 /// What a script with deliveries is made of.
@@ -31,10 +30,9 @@ fn read_one<'a>(
         ≡ read_scenario_line (scenario_draft_value draft) text.now) }
     ensures less { IfOk result (λ found. IfSome found (λ x. length x.1.now < length text.now)) }
 {
-    let (line, later) = split_at_first(text, b'\n');
-    if line.len() == text.len() {
+    let Some((line, later)) = first_line(text) else {
         return Ok(None);
-    }
+    };
     let Some(line) = read_scenario_line(alloc, line)? else {
         return Ok(None);
     };

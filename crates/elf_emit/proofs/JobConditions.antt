@@ -25,7 +25,7 @@ use Rattle.elf_emit.specs.Laws.{is_occupied, is_on, PiecesApart, PagesApart, IsP
 use Rattle.elf_emit.specs.Laws.{PairsByRecursion}
 use Rattle.elf_emit.specs.Views.{piece_of, pieces_of, job_of, tailed}
 use Rattle.elf_emit.specs.Windows.{IsCodePage}
-use Rattle.elf_emit.specs.Emits.{range_of, page_of_home, pages_of, emit_job, IsPrivate, IsFree, AreGroupsOf, AreBacked, HoldNothing, EmitsFrame}
+use Rattle.elf_emit.specs.Emits.{range_of, page_of_home, pages_of, emit_job, AreBytes, IsPrivate, IsFree, AreGroupsOf, AreBacked, HoldNothing, EmitsFrame}
 use Rattle.page_group.proofs.Groupings.{groups_are_apart, groups_are_few}
 use Rattle.elf_emit.proofs.StayingSegments.{all_map}
 use Rattle.elf_emit.proofs.OriginalFacts.{field_bound}
@@ -300,8 +300,8 @@ at_mapped f (x ∷ xs) zero d e l = refl
 at_mapped f (x ∷ xs) (suc i) d e l = at_mapped f xs i d e (omega arith)
 
 -- the job of the values that the code has
-job_path : (file f : List ℕ) (writes : List Write) (built : List Built) (groups : GroupsState) (ps : List Page) (n lo hi : ℕ) → f ≡ file → ps ≡ pages_of groups.homes → n ≡ group_count groups.homes → job_of f writes built ps n lo hi ≡ emit_job file writes built groups lo hi
-job_path file f writes built groups ps n lo hi a b c = λ i. job_of (a i) writes built (b i) (c i) lo hi
+job_path : (file : List ℕ) (writes : List Write) (built : List Built) (groups : GroupsState) (ps : List Page) (n lo hi : ℕ) → ps ≡ pages_of groups.homes → n ≡ group_count groups.homes → job_of file writes built ps n lo hi ≡ emit_job file writes built groups lo hi
+job_path file writes built groups ps n lo hi b c = λ i. job_of file writes built (b i) (c i) lo hi
 
 -- a job's file is its own with no further pages, with its runs as parts and with the original's start
 pub plain_frame : (j : Job) (parts : List Part) → parts ≡ map part_of (runs_of j.pages) → tailed j [] parts None ≡ frame_of j
@@ -319,17 +319,17 @@ plain_frame j parts e =
     }
 
 -- the file of a call's job, by values equal to its own and with its runs as parts
-pub plain_path : (file f : List ℕ) (writes : List Write) (built : List Built) (groups : GroupsState) (ps : List Page) (n lo hi : ℕ) (parts : List Part) → f ≡ file → ps ≡ pages_of groups.homes
-    → n ≡ group_count groups.homes → parts ≡ map part_of (runs_of ps) → tailed (job_of f writes built ps n lo hi) [] parts None ≡ frame_of (emit_job file writes built groups lo hi)
-plain_path file f writes built groups ps n lo hi parts a b c e =
-    plain_frame (job_of f writes built ps n lo hi) parts e ∙ ap frame_of (job_path file f writes built groups ps n lo hi a b c)
+pub plain_path : (file : List ℕ) (writes : List Write) (built : List Built) (groups : GroupsState) (ps : List Page) (n lo hi : ℕ) (parts : List Part) → ps ≡ pages_of groups.homes
+    → n ≡ group_count groups.homes → parts ≡ map part_of (runs_of ps) → tailed (job_of file writes built ps n lo hi) [] parts None ≡ frame_of (emit_job file writes built groups lo hi)
+plain_path file writes built groups ps n lo hi parts b c e =
+    plain_frame (job_of file writes built ps n lo hi) parts e ∙ ap frame_of (job_path file writes built groups ps n lo hi b c)
 
 -- a file with further pages is the same, by values equal to a call's
-pub tailed_path : (file f : List ℕ) (writes : List Write) (built : List Built) (groups : GroupsState) (ps : List Page) (n lo hi : ℕ) (bytes : List ℕ) (parts : List Part) (start : Option ℕ) → f ≡ file
+pub tailed_path : (file : List ℕ) (writes : List Write) (built : List Built) (groups : GroupsState) (ps : List Page) (n lo hi : ℕ) (bytes : List ℕ) (parts : List Part) (start : Option ℕ)
     → ps ≡ pages_of groups.homes → n ≡ group_count groups.homes
-    → tailed (job_of f writes built ps n lo hi) bytes parts start ≡ tailed (emit_job file writes built groups lo hi) bytes parts start
-tailed_path file f writes built groups ps n lo hi bytes parts start a b c =
-    ap (λ (j : Job). tailed j bytes parts start) (job_path file f writes built groups ps n lo hi a b c)
+    → tailed (job_of file writes built ps n lo hi) bytes parts start ≡ tailed (emit_job file writes built groups lo hi) bytes parts start
+tailed_path file writes built groups ps n lo hi bytes parts start b c =
+    ap (λ (j : Job). tailed j bytes parts start) (job_path file writes built groups ps n lo hi b c)
 
 -- the pages of a grouping, as pages for code, are whole
 pub whole_pages_of : (pieces homes : List (ℕ × ℕ)) → IsGrouping pieces homes → AllByRecursion IsCodePage (pages_of homes)
@@ -339,16 +339,12 @@ whole_pages_of pieces homes g = whole homes (all_unmapped (λ p. p % 4096 ≡ 0)
     whole [] h = tt
     whole (x ∷ xs) h = (h.0, whole xs h.1)
 
--- what equals a list of bytes is one
-pub bytes_of : (file f : List ℕ) → f ≡ file → ((k : ℕ) → slice_index f k < 256) → (k : ℕ) → slice_index file k < 256
-bytes_of file f e h k = subst (λ (z : List ℕ). slice_index z k < 256) e (h k)
-
--- what a call is asked, with the file as it reads it, makes its job one
-pub called_job : (file f : List ℕ) (writes : List Write) (built : List Built) (groups : GroupsState) (lo hi : ℕ) → f ≡ file → ((k : ℕ) → slice_index f k < 256)
+-- what a call is asked makes its job one
+pub called_job : (file : List ℕ) (writes : List Write) (built : List Built) (groups : GroupsState) (lo hi : ℕ) → AreBytes file
     → length file < 2 ^ 63 → refusal 0x20000 file ≡ None → AreBacked file writes → AreGroupsOf built groups → IsGrouping groups.pieces groups.homes → IsPrivate lo hi
     → AllByRecursion (IsFree lo hi) (pages groups.homes) → HoldNothing (emit_job file writes built groups lo hi) → IsJob (emit_job file writes built groups lo hi)
-called_job file f writes built groups lo hi v b n o w g h p e k = job_is file writes built groups lo hi
-    (record { bytes = bytes_of file f v b; size = n; original = o; backed = w; groups_of = g; grouping = h; private = p; free = e; nothing_there = k })
+called_job file writes built groups lo hi b n o w g h p e k = job_is file writes built groups lo hi
+    (record { bytes = b; size = n; original = o; backed = w; groups_of = g; grouping = h; private = p; free = e; nothing_there = k })
 
 -- what fills a name with bytes fills it with equal ones, with an equal result
 pub filled_with : (name bytes part : List ℕ) (s t : DeskState) (r q : PutResult) → Fills name bytes s t r → bytes ≡ part → r ≡ q → Fills name part s t q

@@ -9,7 +9,8 @@ use Rattle.elf_read.specs.Accepted.{IsPlaced}
 use Rattle.elf_read.proofs.AcceptedFiles.{is_accepted}
 use Rattle.elf_emit.specs.declared.runs.Page.{Page}
 use Rattle.elf_emit.specs.Job.{Job}
-use Rattle.elf_emit.specs.Layout.{olds, count, private_len, written_at, frame_of, layout}
+use Rattle.elf_emit.specs.Frames.{olds, private_len}
+use Rattle.elf_emit.specs.Layout.{count, written_at, frame_of, layout}
 use Rattle.elf_emit.specs.Laws.{IsJob, IsPage, is_on, is_claimed, private_image, page_chunk, pages_image, with_writes, IsPlacedIn, IsZeroElsewhere, HasOriginals, HasPrivate, Loads, Shows}
 use Rattle.elf_emit.proofs.StayingSegments.{all_map, or_false, none_any}
 use Rattle.elf_emit.proofs.WrittenTable.{all_mapped}
@@ -46,8 +47,8 @@ outside_range lo hi a e = grind (arith, nat_tests)
 from_range : (lo n a : ℕ) → (nat_le lo a && nat_lt (a - lo) n) ≡ true → (lo ≤ a) × (a - lo < n)
 from_range lo n a e = let k = and_parts (nat_le lo a) (nat_lt (a - lo) n) e in (leb-true lo a k.0, ltb-true (a - lo) n k.1)
 
-no_private : (j : Job) (a : ℕ) → (nat_le j.private_lo a && nat_lt (a - j.private_lo) (private_len j)) ≡ false → private_image j a ≡ None
-no_private j a e = cond-false (nat_le j.private_lo a && nat_lt (a - j.private_lo) (private_len j)) _ None e
+no_private : (j : Job) (a : ℕ) → (nat_le j.private_lo a && nat_lt (a - j.private_lo) (private_len (frame_of j))) ≡ false → private_image j a ≡ None
+no_private j a e = cond-false (nat_le j.private_lo a && nat_lt (a - j.private_lo) (private_len (frame_of j))) _ None e
 
 -- the pages for code are apart from the table and the private range
 abbrev Clear : Job → ℕ → Type 0
@@ -58,8 +59,8 @@ page_clear j p a h t =
     let k = from_range p.addr 4096 a t in let k0 = k.0 in let k1 = k.1 in let l = h.low in
     (omega arith, no_private j a (side h.apart k0 k1))
   where
-    side : (p.addr + 4096 ≤ j.private_lo) ⊎ (j.private_hi ≤ p.addr) → p.addr ≤ a → a - p.addr < 4096 → (nat_le j.private_lo a && nat_lt (a - j.private_lo) (private_len j)) ≡ false
-    side (inl q) m n = below_range j.private_lo (private_len j) a (omega arith)
+    side : (p.addr + 4096 ≤ j.private_lo) ⊎ (j.private_hi ≤ p.addr) → p.addr ≤ a → a - p.addr < 4096 → (nat_le j.private_lo a && nat_lt (a - j.private_lo) (private_len (frame_of j))) ≡ false
+    side (inl q) m n = below_range j.private_lo (private_len (frame_of j)) a (omega arith)
     side (inr q) m n = past j.private_lo j.private_hi a (omega arith)
 
 on_page : (j : Job) → IsJob j → (a : ℕ) (c : Cell) → pages_image j a ≡ Some c → Clear j a
@@ -69,11 +70,11 @@ on_page j h a c e =
     (all_map (IsPage j.private_lo j.private_hi j.groups) (λ p. is_on p a ≡ true → Clear j a) j.pages (λ p k t. page_clear j p a k t) h.pages))
 
 -- an original byte is above the table, and at no new address
-pub old_low : (j : Job) → AllByRecursion (IsPlaced 0x20000 (length j.orig)) (olds j) → (a : ℕ) (c : Cell) → image_of j.orig a ≡ Some c → 0x20000 ≤ a
+pub old_low : (j : Job) → AllByRecursion (IsPlaced 0x20000 (length j.orig)) (olds (frame_of j)) → (a : ℕ) (c : Cell) → image_of j.orig a ≡ Some c → 0x20000 ≤ a
 old_low j placed a c e =
-    held_by {Q = 0x20000 ≤ a} (map (chunk_of j.orig) (olds j)) a c e
-    (all_mapped (λ k. holds k a ≡ true → 0x20000 ≤ a) (chunk_of j.orig) (olds j)
-    (all_map (IsPlaced 0x20000 (length j.orig)) (λ s. holds (chunk_of j.orig s) a ≡ true → 0x20000 ≤ a) (olds j)
+    held_by {Q = 0x20000 ≤ a} (map (chunk_of j.orig) (olds (frame_of j))) a c e
+    (all_mapped (λ k. holds k a ≡ true → 0x20000 ≤ a) (chunk_of j.orig) (olds (frame_of j))
+    (all_map (IsPlaced 0x20000 (length j.orig)) (λ s. holds (chunk_of j.orig s) a ≡ true → 0x20000 ≤ a) (olds (frame_of j))
     (λ s k t. let l = k.low in let q = (from_range s.vaddr s.memsz a t).0 in omega arith) placed))
 
 none_some : (o : Option Cell) (c : Cell) → o ≡ None → o ≡ Some c → ⊥
@@ -119,7 +120,7 @@ module _ (j : Job) (m : Bytes) (h : IsJob j) (s : Shows j m) where
   private_stands a l n =
       let low = h.private_low in
       let t = no_table a (omega arith) in
-      let p = cond-true (nat_le j.private_lo a && nat_lt (a - j.private_lo) (private_len j)) (Some (record { byte = 0; perms = 6 })) None (inside j.private_lo j.private_hi a l n) in
+      let p = cond-true (nat_le j.private_lo a && nat_lt (a - j.private_lo) (private_len (frame_of j))) (Some (record { byte = 0; perms = 6 })) None (inside j.private_lo j.private_hi a l n) in
       s.image a ∙ (λ i. or_else (t i) (or_else (p i) (or_else (pages_image j a) (with_writes j.writes (image_of j.orig) a))))
 
   -- each original byte stands at its address with its permissions, or what was written there in its place

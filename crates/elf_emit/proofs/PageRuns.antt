@@ -9,7 +9,8 @@ use Rattle.elf_read.specs.Image.{Chunk, image, image_of}
 use Rattle.elf_emit.specs.declared.runs.Page.{Page}
 use Rattle.elf_emit.specs.declared.runs.Run.{Run}
 use Rattle.elf_emit.specs.Job.{BytesAt, Job}
-use Rattle.elf_emit.specs.Layout.{others, olds, part_of, frame_of, runs_of, join_page, group_pages, count}
+use Rattle.elf_emit.specs.Frames.{others, olds}
+use Rattle.elf_emit.specs.Layout.{part_of, frame_of, runs_of, join_page, group_pages, count}
 use Rattle.elf_emit.specs.FrameLaws.{PairsByRecursion, IsPart, PartsApart, IsNew, IsFrame, part_chunk}
 use Rattle.elf_emit.specs.Laws.{IsPage, IsJob, PagesApart, is_on, pages_image}
 use Rattle.elf_emit.proofs.StayingSegments.{all_map, all_both}
@@ -127,8 +128,8 @@ job_frame j h = record {
 }
 
 -- the table of a job's file has an entry for each run, for each old segment, for each that isn't PT_LOAD, and two more
-pub count_of : (j : Job) → count j ≡ length (others j) + (2 + (length (runs_of j.pages) + length (olds j)))
-count_of j = ap (λ (n : ℕ). length (others j) + (2 + (n + length (olds j)))) (length-map (runs_of j.pages) part_of)
+pub count_of : (j : Job) → count j ≡ length (others (frame_of j)) + (2 + (length (runs_of j.pages) + length (olds (frame_of j))))
+count_of j = ap (λ (n : ℕ). length (others (frame_of j)) + (2 + (n + length (olds (frame_of j))))) (length-map (runs_of j.pages) part_of)
 
 -- the parts of a job's file show its pages for code
 pub parts_shown : (j : Job) → IsJob j → (a : ℕ) → image (map (part_chunk (group_pages j.pieces j.pages 0 j.groups)) (map part_of (runs_of j.pages))) a ≡ pages_image j a

@@ -1,5 +1,5 @@
 -- The places and counts that the code computes are the file's and fit their integers, and what it makes of them is a plan.
-use Rattle.std.proofs.Common.{◌≡◌, ℕ, ◌+◌, ◌-◌, ◌*◌, ◌^◌, ◌<◌, ◌≤◌, List, ◌∷◌, ◌++◌, length, map, sym, ap, ◌∙◌, subst, arith}
+use Rattle.std.proofs.Common.{◌≡◌, ℕ, ◌+◌, ◌-◌, ◌*◌, ◌^◌, ◌<◌, ◌≤◌, List, ◌∷◌, ◌++◌, length, map, Err, sym, ap, ◌∙◌, subst, arith}
 use Rattle.std.specs.List.{AllByRecursion}
 use Rattle.elf_read.specs.declared.segment.Segment.{Segment}
 use Rattle.elf_read.specs.Entries.{table}
@@ -7,6 +7,8 @@ use Rattle.elf_read.specs.Writing.{load_entry}
 use Rattle.elf_emit.specs.declared.table.Sources.{Sources}
 use Rattle.elf_emit.specs.declared.patched_file.Places.{Places}
 use Rattle.elf_emit.specs.declared.patched_file.Plan.{Plan}
+use Rattle.elf_emit.specs.declared.emit.EmitError.{EmitError}
+use Rattle.elf_emit.specs.declared.emit.EmitError.TheVariants as emit
 use Rattle.elf_emit.specs.Job.{Part, Frame}
 use Rattle.elf_emit.specs.Frames.{padded, up, others, olds, renewed, count, moved_part, moved_at, table_at, private_at, private_len, pages_at, with_table, part_load, in_order}
 use Rattle.elf_emit.specs.FrameLaws.{IsPart, IsFrame}
@@ -15,6 +17,7 @@ use Rattle.elf_emit.specs.FramePages.{moved_len}
 use Rattle.elf_emit.specs.Index.{Finds, meets_page, shows}
 use Rattle.elf_emit.specs.Windows.{IsCodePage}
 use Rattle.elf_emit.specs.Plans.{planned, IsPlan}
+use Rattle.elf_emit.specs.Emits.{Counts, Makes, Places as Placed}
 use Rattle.elf_emit.proofs.StayingSegments.{all_map}
 use Rattle.elf_emit.proofs.OriginalFacts.{facts_of, table_bound}
 use Rattle.elf_emit.proofs.WrittenTable.{pages_low}
@@ -42,8 +45,20 @@ parts_fit f ps at h few e a =
     (all_map (IsPart f.private_lo f.private_hi f.files) (PartFits at) f.parts (λ p k. part_fits f.private_lo f.private_hi f.files at p (omega arith) h.few_files k) h.parts)
 
 -- the other entries, the parts, the old segments and two more are as many as the table has
-pub count_is : (f : Frame) (n : ℕ) (os ls : List Segment) (ps : List Part) → n ≡ length os + (2 + (length ps + length ls)) → os ≡ others f → ls ≡ olds f → ps ≡ f.parts → n ≡ count f
-count_is f n os ls ps e o l r = e ∙ (λ i. length (o i) + (2 + (length (r i) + length (l i))))
+pub count_is : (f : Frame) (n : ℕ) (s : Sources) → n ≡ length s.others.items + (2 + (length s.parts.now + length s.loads.now)) → HasSources s f → n ≡ count f
+count_is f n s e h = e ∙ (λ i. length (h.others i) + (2 + (length (h.parts i) + length (h.loads i))))
+
+-- what a table with too many entries answers
+pub too_many : (f : Frame) (error : EmitError) → Counts f (Err error) → Makes f (Err error)
+too_many f (emit.TooManySegments n) h = h
+too_many f emit.WriteFault h = h
+too_many f emit.Memory h = tt
+
+-- where the pages begin in a file whose table has too many entries
+pub nowhere_placed : (f : Frame) (error : EmitError) → Counts f (Err error) → Placed f (Err error)
+nowhere_placed f (emit.TooManySegments n) h = h
+nowhere_placed f emit.WriteFault h = h
+nowhere_placed f emit.Memory h = tt
 
 -- behind the table, filled to whole pages, and the private range begin the pages behind it
 pub pages_place_is : (f : Frame) (t n p : ℕ) → t ≡ table_at f → n ≡ count f → p ≡ t + up (56 * n) + private_len f → p ≡ pages_at f
@@ -59,14 +74,11 @@ places_at at n lo hi = record {
 }
 
 -- where the pages behind the private range begin, as the code finds it
-pub place_is : (f : Frame) (n at end : ℕ) (os ls : List Segment) (ps : List Part) (q : Places) (lo hi : ℕ) → IsFrame f → n ≤ 1024
-    → n ≡ length os + (2 + (length ps + length ls)) → os ≡ others f → ls ≡ olds f → ps ≡ f.parts → at ≡ moved_at f → end ≡ at + moved_len ls ls
-    → f.private_lo ≡ lo → f.private_hi ≡ hi → q ≡ places_at end n lo hi → (count f ≤ 1024) × (q.pages_at ≡ pages_at f)
-place_is f n at end os ls ps q lo hi h l c o s p a t x y e =
-    let k = count_is f n os ls ps c o s p in
-    let few : count f ≤ 1024 = omega (arith, k, l) in
+pub place_is : (f : Frame) (n at end : ℕ) (ls : List Segment) (q : Places) (lo hi : ℕ) → IsFrame f → n ≡ count f → count f ≤ 1024 → ls ≡ olds f
+    → at ≡ moved_at f → end ≡ at + moved_len ls ls → f.private_lo ≡ lo → f.private_hi ≡ hi → q ≡ places_at end n lo hi → q.pages_at ≡ pages_at f
+place_is f n at end ls q lo hi h k few s a t x y e =
     let z = table_place_is f ls at end h few s a t in
-    (few, ap (λ (r : Places). r.pages_at) e ∙ (λ i. z i + up (56 * k i) + (sym y i - sym x i)))
+    ap (λ (r : Places). r.pages_at) e ∙ (λ i. z i + up (56 * k i) + (sym y i - sym x i))
 
 -- what was made is a plan
 pub plan_is : (p : Plan) (s : Sources) (at end : ℕ) → IsFrame (planned p) → AllByRecursion IsCodePage p.changes.pages.items → count (planned p) ≤ 1024
@@ -84,7 +96,7 @@ plan_is p s at end frame whole few src a ld nw t pl cn tb w c sh =
     let f : Frame = planned p in
     let e : end ≡ table_at f = table_place_is f s.loads.now at end frame few src.loads a t in
     let tt2 : p.places.table_at ≡ table_at f = ap (λ (q : Places). q.table_at) pl ∙ e in
-    let k : p.count ≡ count f = count_is f p.count s.others.items s.loads.now s.parts.now cn src.others src.loads src.parts in
+    let k : p.count ≡ count f = count_is f p.count s cn src in
     let len : p.places.table_len ≡ 56 * count f = ap (λ (q : Places). q.table_len) pl ∙ ap (λ (n : ℕ). 56 * n) k in
     let pr : p.places.private_at ≡ private_at f = ap (λ (q : Places). q.private_at) pl ∙ (λ i. e i + up (56 * k i)) in
     let pg : p.places.pages_at ≡ pages_at f = ap (λ (q : Places). q.pages_at) pl ∙ (λ i. e i + up (56 * k i) + private_len f) in

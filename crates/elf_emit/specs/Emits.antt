@@ -1,5 +1,5 @@
 -- What `emit` and `emit_tailed` ask, and what they do to the desk. Theorems cite it.
-use Rattle.std.specs.Prelude.{◌≡◌, ℕ, ◌+◌, ◌%◌, ◌<◌, ◌≤◌, ◌⊎◌, true, List, map, length, Option, Some, None, Result, Ok, Err}
+use Rattle.std.specs.Prelude.{◌≡◌, ℕ, ◌+◌, ◌%◌, ◌^◌, ◌<◌, ◌≤◌, ◌⊎◌, true, List, map, length, slice_index, Option, Some, None, Result, Ok, Err}
 use Rattle.std.specs.List.{AllByRecursion}
 use Rattle.pun_base.specs.Shown.{DeskState}
 use Rattle.pun_base.specs.Desk.{Fills}
@@ -36,6 +36,10 @@ pages_of homes = map page_of_home homes
 abbrev pub emit_job : List ℕ → List Write → List Built → GroupsState → ℕ → ℕ → Job
 emit_job file writes built groups lo hi = job_of file writes built (pages_of groups.homes) (group_count groups.homes) lo hi
 
+-- The elements of a list are bytes.
+abbrev pub AreBytes : List ℕ → Type 0
+AreBytes file = (k : ℕ) → slice_index file k < 256
+
 -- A range of whole pages among a program's addresses.
 pub record IsPrivate (lo hi : ℕ) : Type 0 where
   pub whole : (lo % 4096 ≡ 0) × (hi % 4096 ≡ 0)
@@ -61,6 +65,18 @@ AreBacked file writes = AllByRecursion (IsBacked (loads (segments file))) (patch
 -- The private range and the pages for code hold no byte of the original.
 abbrev pub HoldNothing : Job → Type 0
 HoldNothing j = (a : ℕ) → is_claimed j a ≡ true → image_of j.orig a ≡ None
+
+-- A written file whose table loads fewer than 2^31 parts.
+pub record IsSmallFrame (f : Frame) : Type 0 where
+  pub frame : IsFrame f
+  pub few : length f.parts < 2 ^ 31
+
+-- How many entries a written file's table has, or that they are too many.
+abbrev pub Counts : Frame → Result ℕ EmitError → Type 0
+Counts f (Ok n) = (n ≡ count f) × (count f ≤ 1024)
+Counts f (Err (emit.TooManySegments n)) = (n ≡ count f) × (1024 < count f)
+Counts f (Err emit.WriteFault) = ⊥
+Counts f (Err emit.Memory) = ⊥
 
 -- `TooManySegments` comes exactly where the table needs more than 1,024 entries, tells how many, and changes nothing;
 -- want of memory alone may come in its place, and changes nothing then. On `Ok` the name holds the written file, and

@@ -8,7 +8,8 @@ use Rattle.elf_read.specs.Image.{Chunk, image, image_of}
 use Rattle.elf_read.specs.Refusals.{refusal}
 use Rattle.elf_emit.specs.declared.runs.Page.{Page}
 use Rattle.elf_emit.specs.Job.{BytesAt, Job}
-use Rattle.elf_emit.specs.Layout.{in_patch, written_at, olds, count, frame_of, group_page, layout}
+use Rattle.elf_emit.specs.Frames.{olds}
+use Rattle.elf_emit.specs.Layout.{in_patch, written_at, count, frame_of, group_page, layout}
 pub use Rattle.elf_emit.specs.FrameLaws.{PairsByRecursion, IsBacked, with_writes}
 use Rattle.elf_emit.specs.FrameLaws as frames
 
@@ -46,7 +47,7 @@ pub record IsJob (j : Job) : Type 0 where
   pub bytes : (k : ℕ) → slice_index j.orig k < 256
   pub size : length j.orig < 2 ^ 63
   pub accepted : refusal 0x20000 j.orig ≡ None
-  pub backed : AllByRecursion (IsBacked (olds j)) j.writes
+  pub backed : AllByRecursion (IsBacked (olds (frame_of j))) j.writes
   -- the private range is whole pages among a program's addresses
   pub private_whole : (j.private_lo % 4096 ≡ 0) × (j.private_hi % 4096 ≡ 0)
   pub private_some : j.private_lo < j.private_hi

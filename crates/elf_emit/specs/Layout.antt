@@ -1,6 +1,5 @@
 -- The patched file, part by part: a function of what is to be written. Theorems cite it.
 use Rattle.std.specs.Prelude.{ℕ, zero, suc, ◌+◌, ◌==◌, ◌&&◌, if◌then◌else◌, List, [], ◌∷◌, ◌++◌, map, replicate, None}
-use Rattle.elf_read.specs.declared.segment.Segment.{Segment}
 use Rattle.elf_emit.specs.declared.runs.Page.{Page}
 use Rattle.elf_emit.specs.declared.runs.Run.{Run}
 use Rattle.elf_emit.specs.Job.{BytesAt, Part, Frame, Job}
@@ -52,37 +51,9 @@ frame_of j = record {
   entry = None;
 }
 
--- The parts, counts and places of a job's file are those of its frame. First the nonempty PT_LOADs of the original.
-abbrev pub olds : Job → List Segment
-olds j = frames.olds (frame_of j)
-
--- The original's entries that aren't PT_LOAD.
-abbrev pub others : Job → List Segment
-others j = frames.others (frame_of j)
-
 -- How many entries the new table has.
 abbrev pub count : Job → ℕ
 count j = frames.count (frame_of j)
-
--- Where the table begins in the file.
-abbrev pub table_at : Job → ℕ
-table_at j = frames.table_at (frame_of j)
-
--- Where the private range begins in the file.
-abbrev pub private_at : Job → ℕ
-private_at j = frames.private_at (frame_of j)
-
--- How many bytes the private range has.
-abbrev pub private_len : Job → ℕ
-private_len j = frames.private_len (frame_of j)
-
--- Where the group pages begin in the file.
-abbrev pub pages_at : Job → ℕ
-pages_at j = frames.pages_at (frame_of j)
-
--- The new table: the other entries in their order, then the PT_LOADs.
-abbrev pub entries : Job → List Segment
-entries j = frames.entries (frame_of j)
 
 -- The file: the original, the moved segments, the table, the private range of zeros, the group pages.
 abbrev pub layout : Job → List ℕ

@@ -11,7 +11,7 @@ ghost use Rattle.elf_emit.specs.FrameLaws.{IsFrame};
 ghost use Rattle.elf_emit.specs.Frames.{layout};
 ghost use Rattle.elf_emit.specs.Windows.{IsCodePage};
 ghost use Rattle.elf_emit.specs.Plans.{planned, IsPlan};
-ghost use Rattle.elf_emit.specs.Emits.{emit_job, pages_of, IsPrivate, IsFree, AreGroupsOf, AreBacked, HoldNothing, EmitsFrame, Emits, Makes, Places, IsFrameOf, number_of};
+ghost use Rattle.elf_emit.specs.Emits.{emit_job, pages_of, AreBytes, IsPrivate, IsFree, AreGroupsOf, AreBacked, HoldNothing, IsSmallFrame, Counts, EmitsFrame, Emits, Makes, Places, IsFrameOf, number_of};
 
 use crate::built::Built;
 use crate::changes::Changes;
@@ -61,6 +61,7 @@ impl EmitError {
 /// The pages for code, each with the group page that it shows.
 pub fn shown_pages(alloc: Global, groups: &Groups) -> Result<Vec<Page>, AllocError>
     ensures shown { IfOk result (λ v. v.items ≡ pages_of groups.now.homes) }
+    ensures whole { IfOk result (λ v. AllByRecursion IsCodePage v.items) }
     ensures grouping { IsGrouping groups.now.pieces groups.now.homes }
 {
     let homes = groups.homes(alloc)?;
@@ -74,6 +75,19 @@ pub fn shown_pages(alloc: Global, groups: &Groups) -> Result<Vec<Page>, AllocErr
     Ok(shown)
 }
 
+/// How many entries the new table has, or that these are too many.
+fn table_count(sources: &Sources<'_>) -> Result<u16, EmitError>
+    requires { (f : Frame) × HasSources sources.now f × IsSmallFrame f }
+    ensures { (f : Frame) → HasSources sources.now f → Counts f result }
+{
+    let count = sources.count();
+    if count > MOST_ENTRIES {
+        let count = count as u32;
+        return Err(EmitError::TooManySegments { count });
+    }
+    Ok(count as u16)
+}
+
 /// What the patched file is made of, or that its table needs too many entries.
 fn counted_plan<'a>(
     alloc: Global,
@@ -81,18 +95,16 @@ fn counted_plan<'a>(
     sources: &Sources<'a>,
     changes: Changes<'a>,
 ) -> Result<Plan<'a>, EmitError>
-    requires frame { IsFrame (frame_in file.now changes) }
+    requires frame { IsSmallFrame (frame_in file.now changes) }
     requires pages { AllByRecursion IsCodePage changes.pages.items }
-    requires few { length changes.tail.parts.now < 2 ^ 31 }
     requires sources { HasSources sources.now (frame_in file.now changes) }
     ensures plan { IfOk result (λ p. IsPlan p) }
     ensures makes { Makes (frame_in file.now changes.entry)
         (as_list (λ p. layout (planned p)) result) }
 {
-    let count = sources.count();
-    if count > MOST_ENTRIES {
-        let count = count as u32;
-        return Err(EmitError::TooManySegments { count });
+    match table_count(sources) {
+        Ok(_) => {}
+        Err(error) => return Err(error),
     }
     match plan_of(alloc, file, sources, changes) {
         Ok(plan) => Ok(plan),
@@ -109,11 +121,11 @@ fn changes_of<'a>(
     private: Range,
     tail: Tail<'a>,
 ) -> Changes<'a>
+    requires pages { AllByRecursion IsCodePage pages.items }
     ensures frame { (file : List ℕ) → frame_in file result ≡ tailed (job_of file writes.now built.now
         pages.items groups private.lo private.hi) tail.entry.bytes.now
         tail.entry.parts.now tail.entry.start }
-    ensures pages { result.pages.items ≡ pages.items }
-    ensures parts { result.tail.parts.now ≡ tail.entry.parts.now }
+    ensures pages { AllByRecursion IsCodePage result.pages.items }
 {
     Changes {
         writes,
@@ -195,9 +207,8 @@ fn emit_changes<D: Desk>(
     desk: &mut D,
 ) -> Result<(), EmitError>
     requires nothing { (D.seen desk.old).writing ≡ None }
-    requires frame { IsFrame (frame_in file.now changes) }
+    requires frame { IsSmallFrame (frame_in file.now changes) }
     requires pages { AllByRecursion IsCodePage changes.pages.items }
-    requires few { length changes.tail.parts.now < 2 ^ 31 }
     requires sources { HasSources sources.now (frame_in file.now changes) }
     ensures emits { EmitsFrame (frame_in file.now changes.entry) name.now (D.seen desk.old)
         (D.seen desk.new) result }
@@ -215,6 +226,29 @@ fn emit_changes<D: Desk>(
         Err(PutError::Failed) => Err(EmitError::WriteFault),
         Err(PutError::Memory) => Err(EmitError::Memory),
     }
+}
+
+/// Writes the file of an original and its changes under a name.
+fn emit_over<D: Desk>(
+    alloc: Global,
+    elf: &Elf<'_>,
+    changes: Changes<'_>,
+    name: &str,
+    desk: &mut D,
+) -> Result<(), EmitError>
+    requires nothing { (D.seen desk.old).writing ≡ None }
+    requires frame { AreBytes elf.now.bytes → length elf.now.bytes < 2 ^ 63
+        → IsSmallFrame (frame_in elf.now.bytes changes) }
+    requires pages { AllByRecursion IsCodePage changes.pages.items }
+    ensures emits { EmitsFrame (frame_in elf.now.bytes changes.entry) name.now (D.seen desk.old)
+        (D.seen desk.new) result }
+    ensures frame { IsFrame (frame_in elf.now.bytes changes.entry) }
+{
+    let file = elf.file();
+    let Ok(sources) = sources_of(alloc, elf, changes.tail.parts) else {
+        return Err(EmitError::Memory);
+    };
+    emit_changes(alloc, file, &sources, changes, name, desk)
 }
 
 /// Writes the patched file under a name, in pieces of 4,096 bytes, each made when it is put.
@@ -245,24 +279,19 @@ pub fn emit<D: Desk>(
     ensures loads { OnOk result (Loads (emit_job elf.now.bytes writes.now built.now groups.now
         private.lo private.hi)) }
 {
-    let file = elf.file();
     let Ok(pages) = shown_pages(alloc, groups) else {
         return Err(EmitError::Memory);
     };
     let Ok(parts) = parts_of(alloc, &pages) else {
         return Err(EmitError::Memory);
     };
-    let loaded = parts.as_slice();
-    let Ok(sources) = sources_of(alloc, elf.segments(), elf.loads(), loaded) else {
-        return Err(EmitError::Memory);
-    };
     let tail = Tail {
         bytes: &[],
-        parts: loaded,
+        parts: parts.as_slice(),
         start: None,
     };
     let changes = changes_of(writes, built, pages, groups.count(), private, tail);
-    emit_changes(alloc, file, &sources, changes, name, desk)
+    emit_over(alloc, elf, changes, name, desk)
 }
 
 /// Writes a file with further pages behind its group pages under a name, as `emit` does.
@@ -287,15 +316,11 @@ pub fn emit_tailed<D: Desk>(
         private.lo private.hi) tail.entry.bytes.now tail.entry.parts.now tail.entry.start)
         name.now (D.seen desk.old) (D.seen desk.new) result }
 {
-    let file = elf.file();
     let Ok(pages) = shown_pages(alloc, groups) else {
         return Err(EmitError::Memory);
     };
-    let Ok(sources) = sources_of(alloc, elf.segments(), elf.loads(), tail.parts) else {
-        return Err(EmitError::Memory);
-    };
     let changes = changes_of(writes, built, pages, groups.count(), private, tail);
-    emit_changes(alloc, file, &sources, changes, name, desk)
+    emit_over(alloc, elf, changes, name, desk)
 }
 
 /// Where the pages behind the private range begin in a file whose table loads these parts of them.
@@ -311,16 +336,15 @@ pub fn pages_place(
         → Places f result }
 {
     let file = elf.file();
-    let Ok(sources) = sources_of(alloc, elf.segments(), elf.loads(), parts) else {
+    let Ok(sources) = sources_of(alloc, elf, parts) else {
         return Err(EmitError::Memory);
     };
-    let count = sources.count();
-    if count > MOST_ENTRIES {
-        let count = count as u32;
-        return Err(EmitError::TooManySegments { count });
-    }
+    let count = match table_count(&sources) {
+        Ok(count) => count,
+        Err(error) => return Err(error),
+    };
     match renewed(alloc, sources.loads, up(file.len() as u64)) {
-        Ok((_, table_at)) => Ok(places_of(table_at, count as u16, private).pages_at),
+        Ok((_, table_at)) => Ok(places_of(table_at, count, private).pages_at),
         Err(_) => Err(EmitError::Memory),
     }
 }

@@ -4,9 +4,11 @@ ghost use Rattle.std.specs.List.{AllByRecursion};
 ghost use Rattle.elf_read.specs.Entries.{table};
 ghost use Rattle.elf_read.specs.Writing.{load_entry};
 ghost use Rattle.elf_emit.specs.Layout.{is_other, part_load, with_table, in_order};
-ghost use Rattle.elf_emit.specs.Views.{PartFits};
+ghost use Rattle.elf_emit.specs.Job.{Frame};
+ghost use Rattle.elf_emit.specs.Views.{HasSources, PartFits};
 
 use crate::runs::Part;
+use elf_read::elf::Elf;
 use elf_read::segment::{PF_R, PF_W, PT_LOAD, PT_PHDR, Segment};
 use elf_read::writing::{load_entry, push_entry, push_table};
 use pun_base::limits::{PAGE_LEN, TABLE_LOW};
@@ -21,21 +23,19 @@ pub(crate) struct Sources<'a> {
     pub(crate) parts: &'a [Part],
 }
 
-/// The sources, of the original's entries, those of them that are loaded, and the parts of the pages behind the private range.
+/// The sources of a new table of a file, which loads these parts of the pages behind the private range.
 pub(crate) fn sources_of<'a>(
     alloc: Global,
-    segments: &[Segment],
-    loads: &'a [Segment],
+    elf: &'a Elf<'_>,
     parts: &'a [Part],
 ) -> Result<Sources<'a>, AllocError>
-    ensures others { IfOk result (λ s. s.others.items ≡ filter is_other segments.now) }
-    ensures loads { IfOk result (λ s. s.loads.now ≡ loads.now) }
-    ensures parts { IfOk result (λ s. s.parts.now ≡ parts.now) }
+    ensures { IfOk result (λ s. (f : Frame) → f.orig ≡ elf.now.bytes → f.parts ≡ parts.now
+        → HasSources s f) }
 {
-    let others = others_of(alloc, segments)?;
+    let others = others_of(alloc, elf.segments())?;
     Ok(Sources {
         others,
-        loads,
+        loads: elf.loads(),
         parts,
     })
 }

@@ -21,7 +21,8 @@ use Rattle.address_space.specs.Free.{Misses, whole_pages}
 use Rattle.elf_emit.specs.declared.built.Built.{Built}
 use Rattle.elf_emit.specs.declared.emit.EmitError.TheVariants as emit
 use Rattle.elf_emit.specs.Emits.{range_of, page_of_home}
-use Rattle.elf_emit.specs.Layout.{is_other, frame_of, count, entries, layout}
+use Rattle.elf_emit.specs.Frames.{entries}
+use Rattle.elf_emit.specs.Layout.{is_other, frame_of, count, layout}
 use Rattle.elf_emit.proofs.JobImageParts.{layout_loads}
 use Rattle.elf_emit.proofs.PageRuns.{job_frame}
 use Rattle.elf_emit.proofs.OriginalFacts.{facts_of}
@@ -215,6 +216,6 @@ guest_entries seed n some most j h =
     let is_job = planned_is_job q b.turns b.planned b.groups asked b.is_planned b.are_groups (guest_size seed n most) in
     let few : count made ≤ 1024 = subst (λ (z : Job). count z.emit ≤ 1024) b.is h.1.few in
     let framed = job_frame made is_job in
-    let back : segments (layout made) ≡ entries made = reads_back (frame_of made) (facts_of (frame_of made) framed few) framed in
+    let back : segments (layout made) ≡ entries (frame_of made) = reads_back (frame_of made) (facts_of (frame_of made) framed few) framed in
     subst (λ (z : Job). length (segments (file_of z)) ≡ count z.emit) (sym b.is)
     (ap (λ (ss : List Segment). length ss) back ∙ length_entries (frame_of made))

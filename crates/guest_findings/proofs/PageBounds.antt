@@ -8,7 +8,8 @@ use Rattle.page_group.specs.Pages.{holds, is_covered, page_of, IsPageList}
 use Rattle.elf_emit.specs.declared.runs.Page.{Page}
 use Rattle.elf_emit.specs.declared.runs.Run.{Run}
 use Rattle.elf_emit.specs.Job.{Job}
-use Rattle.elf_emit.specs.Layout.{join_page, runs_of, others, olds, count}
+use Rattle.elf_emit.specs.Frames.{others, olds}
+use Rattle.elf_emit.specs.Layout.{frame_of, join_page, runs_of, count}
 use Rattle.elf_emit.proofs.JobConditions.{rising_tail}
 use Rattle.elf_emit.proofs.PageRuns.{count_of}
 use Rattle.patch_report.proofs.ListPlaces.{all_from, contains_at}
@@ -158,5 +159,5 @@ runs_few [] = omega arith
 runs_few (p ∷ ps) = let k = join_few p (runs_of ps) in let r = runs_few ps in omega arith
 
 -- the entries of a job's table, where the original has two
-pub count_few : (j : Job) (n : ℕ) → length (others j) ≡ 0 → length (olds j) ≡ 2 → length j.pages ≤ n → count j ≤ n + 4
+pub count_few : (j : Job) (n : ℕ) → length (others (frame_of j)) ≡ 0 → length (olds (frame_of j)) ≡ 2 → length j.pages ≤ n → count j ≤ n + 4
 count_few j n o l p = let k = runs_few j.pages in subst (λ (x : ℕ). x ≤ n + 4) (sym (count_of j)) (omega (arith, k, o, l, p))

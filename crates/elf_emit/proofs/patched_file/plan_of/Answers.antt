@@ -28,7 +28,7 @@ table_part-requires c =
     let j : Frame = frame_in c.args.file.now c.args.changes in
     let s = c.requires.sources in
     let t = table_place_is j c.args.sources.now.loads.now c.up.result c.in_ok-news.table_at c.requires.frame c.requires.few s.loads c.up.ensures c.in_ok-news.ensures.end in
-    let k = count_is j c.count-count.result _ _ _ c.count-count.ensures s.others s.loads s.parts in
+    let k = count_is j c.count-count.result c.args.sources.now c.count-count.ensures s in
     record {
       fits = parts_fit j _ c.places_of-places.result.pages_at c.requires.frame c.requires.few s.parts
           (pages_place_is j _ _ _ t k (ap (λ (p : Places). p.pages_at) c.places_of-places.ensures));

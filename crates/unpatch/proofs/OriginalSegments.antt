@@ -40,6 +40,14 @@ chunks_parts c d cs ds e = (cc, cc)
 abbrev Renews : Frame → Segment → Type 0
 Renews f s = (t : Segment) × Renewed f s t
 
+-- what is known of a segment whose bytes stand at a place of the file, its own where it isn't moved
+renews_at : (f : Frame) (s : Segment) (at : ℕ) → Loads f (record s { offset = at }) → chunk_of (layout f) (record s { offset = at }) ≡ chunk_after f.writes (chunk_of f.orig s)
+    → (is_moved (olds f) s ≡ false → at ≡ s.offset) → (is_moved (olds f) s ≡ true → moved_at f ≤ at) → Renews f s
+renews_at f s at l c stays moves = (
+  record s { offset = at },
+  record { vaddr = refl; filesz = refl; memsz = refl; found = l; bytes = ap (λ (d : Chunk). d.bytes) c; stays = stays; moves = moves },
+)
+
 renews : (f : Frame) (at : ℕ) (ss : List Segment) → moved_at f ≤ at → AllByRecursion (Loads f) (renewed (olds f) at ss)
     → map (chunk_of (layout f)) (renewed (olds f) at ss) ≡ map (chunk_after f.writes) (map (chunk_of f.orig) ss) → AllByRecursion (Renews f) ss
 renews f at [] l h e = tt
@@ -50,36 +58,14 @@ renews f at (s ∷ ss) l h e = elim (cases_Bool (is_moved (olds f) s)) [
       let q : renewed (olds f) at (s ∷ ss) ≡ t ∷ renewed (olds f) to ss = cond-true (is_moved (olds f) s) _ _ b in
       let h2 : AllByRecursion (Loads f) (t ∷ renewed (olds f) to ss) = subst (λ z. AllByRecursion (Loads f) z) q h in
       let e2 = chunks_parts _ _ _ _ (ap (λ (z : List Segment). map (chunk_of (layout f)) z) (sym q) ∙ e) in (
-        (
-          t,
-          record {
-            vaddr = refl;
-            filesz = refl;
-            memsz = refl;
-            found = h2.0;
-            bytes = ap (λ (c : Chunk). c.bytes) e2.0;
-            stays = λ z. absurd (true≢false (sym b ∙ z));
-            moves = λ z. omega arith;
-          },
-        ),
+        renews_at f s (at + s.vaddr % 4096) h2.0 e2.0 (λ z. absurd (true≢false (sym b ∙ z))) (λ z. omega arith),
         renews f to ss (omega arith) h2.1 e2.1,
       )
   | inr b ↦
       let q : renewed (olds f) at (s ∷ ss) ≡ s ∷ renewed (olds f) at ss = cond-false (is_moved (olds f) s) _ _ b in
       let h2 : AllByRecursion (Loads f) (s ∷ renewed (olds f) at ss) = subst (λ z. AllByRecursion (Loads f) z) q h in
       let e2 = chunks_parts _ _ _ _ (ap (λ (z : List Segment). map (chunk_of (layout f)) z) (sym q) ∙ e) in (
-        (
-          s,
-          record {
-            vaddr = refl;
-            filesz = refl;
-            memsz = refl;
-            found = h2.0;
-            bytes = ap (λ (c : Chunk). c.bytes) e2.0;
-            stays = λ z. refl;
-            moves = λ z. absurd (true≢false (sym z ∙ b));
-          },
-        ),
+        renews_at f s s.offset h2.0 e2.0 (λ z. refl) (λ z. absurd (true≢false (sym z ∙ b))),
         renews f at ss l h2.1 e2.1,
       )
 ]

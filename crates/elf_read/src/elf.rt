@@ -1,5 +1,5 @@
 //! Whole files: read and judged, and what they load.
-ghost use Rattle.std.specs.Prelude.{◌≡◌, ◌≤◌, IfErr, IfOk, option_map};
+ghost use Rattle.std.specs.Prelude.{◌≡◌, ◌≤◌, IfErr, IfOk, length, option_map};
 ghost use Rattle.elf_read.specs.Accepted.{Ascends};
 ghost use Rattle.elf_read.specs.Code.{is_exec, window};
 ghost use Rattle.elf_read.specs.Entries.{segments, loads, entry_of, table_count, table_place};
@@ -107,12 +107,20 @@ impl<'a> Elf<'a> {
         self.file
     }
 
+    /// The file's bytes, of which the header is the first 64.
+    fn header(&self) -> &[u8]
+        ensures value { result.now ≡ self.now.bytes }
+        ensures whole { 64 ≤ length result.now }
+    {
+        self.file
+    }
+
     /// Where the program starts: `e_entry`, any number.
     #[tactic(auto, unfolding(crate::specs::Entries::entry_of))]
     pub fn entry(&self) -> u64
         ensures { result ≡ entry_of self.now.bytes }
     {
-        get_u64(self.file, E_ENTRY)
+        get_u64(self.header(), E_ENTRY)
     }
 
     /// Where the table stands: `e_phoff`.
@@ -120,7 +128,7 @@ impl<'a> Elf<'a> {
     pub fn table_place(&self) -> u64
         ensures { result ≡ table_place self.now.bytes }
     {
-        get_u64(self.file, E_PHOFF)
+        get_u64(self.header(), E_PHOFF)
     }
 
     /// How many entries the table has: `e_phnum`.
@@ -128,7 +136,7 @@ impl<'a> Elf<'a> {
     pub fn table_count(&self) -> u16
         ensures { result ≡ table_count self.now.bytes }
     {
-        get_u16(self.file, E_PHNUM)
+        get_u16(self.header(), E_PHNUM)
     }
 
     /// All entries, in the table's order.

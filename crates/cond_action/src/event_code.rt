@@ -32,8 +32,8 @@ fn put_recording(code: &mut CodeWriter, base: Base, number: u32, private: u32)
     }
 }
 
-/// Writes the code of an event under a condition.
-fn put_event(code: &mut CodeWriter, base: Base, list: Comparisons, number: u32, private: u32)
+/// Writes the code of an event of the site of a number, which its base records where all comparisons hold of the registers.
+pub fn put_when(code: &mut CodeWriter, base: Base, list: Comparisons, number: u32, private: u32)
     requires room { length code.old ≤ 48 }
     requires list { AreComparisons (listed list) }
     requires number { number < most_sites }
@@ -58,7 +58,7 @@ pub fn cond_code(base: Base, list: Comparisons, number: u32, private: u32) -> Ar
     ensures { result.items ≡ codes.cond_code base (listed list) private number }
 {
     let mut writer = CodeWriter::new();
-    put_event(&mut writer, base, list, number, private);
+    put_when(&mut writer, base, list, number, private);
     let code = writer.code(false);
     let mut bytes = ArrayVec::new();
     bytes.try_extend_from_slice(code.bytes.as_slice()).unwrap();

@@ -10,4 +10,4 @@ pub mod laws;
 pub mod saved_flags;
 
 pub use condition::holds;
-pub use event_code::cond_code;
+pub use event_code::{cond_code, put_when};

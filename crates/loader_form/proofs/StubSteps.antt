@@ -4,7 +4,6 @@ use Rattle.std.specs.Prelude.{unwrap_or}
 use Rattle.std.specs.Int.{cast_signed, w32}
 use Rattle.cpu_alu.specs.declared.operation.Width.TheVariants.{W32, W64}
 use Rattle.cpu_alu.specs.Widths.{cut}
-use Rattle.cpu_state.specs.declared.state.Core.{Core}
 use Rattle.cpu_state.specs.Bytes.{advanced, lacking, number_at, put_list, bytes_of}
 use Rattle.cpu_state.specs.Fixed.{IsFixed}
 use Rattle.length_decode.specs.declared.escape_bytes.Escape.TheVariants.{OneByte, TwoByte}
@@ -35,7 +34,7 @@ use Rattle.insn_form.proofs.TouchedMemory.{leaves_nowhere}
 use Rattle.insn_form.proofs.TaskCopies.{low_word, four_signed}
 use Rattle.insn_form.proofs.ExactSteps.{exact_acts}
 use Rattle.relocate_insn.specs.Pieces.{four, jump_through}
-use Rattle.relocate_insn.proofs.PieceSteps.{is_at, next_is, absolute_word, at_fixed, fixed_place, gone_to, through_fields, through_is, through_insn, ecx_word}
+use Rattle.relocate_insn.proofs.PieceSteps.{is_at, next_is, absolute_word, at_fixed, fixed_place, gone_to, through_fields, through_is, through_insn, ecx_word, moved_on}
 use Rattle.loader_form.specs.Stub.{Used, Rax, code_of, rex_byte, modrm_byte, set_front, set_opcode, store, load, put_in, call_kernel, spread_sign, sign_to_ecx, if_zero, go_back, number_to_r8, number_to_rdi, to_the_end, read_place, read_size, read_offset, next_record}
 use Rattle.loader_form.specs.Kernel.{is_syscall, IsAtCall}
 
@@ -77,10 +76,6 @@ own_step v at f plain op i l r c e w h u =
 -- a step to a state leads to each equal one
 lands : {s t u : Machine} → t ≡ u → Own s t → Own s u
 lands {s} e st = subst (λ (z : Machine). Own s z) e st
-
--- the state with another core, after an instruction
-abbrev pub with_core : Machine → Core → ℕ → Machine
-with_core v c rip = record { core = c; rip = rip; mem = v.mem; world = v.world }
 
 -- MOV [a], r
 abbrev store_fields : Used → ℕ → Fields
@@ -143,7 +138,7 @@ load_insn r a = refl
 
 -- the state after a load of a register
 abbrev pub loaded : Machine → Used → ℕ → ℕ → Machine
-loaded v r a rip = with_core v (with_reg v.core (code_of r) (number_at v.mem a 8 % 2 ^ 64 % 2 ^ 64)) rip
+loaded v r a rip = moved_on v (with_reg v.core (code_of r) (number_at v.mem a 8 % 2 ^ 64 % 2 ^ 64)) rip
 
 -- MOV r, [a] loads the eight bytes at the address
 pub load_step : (v : Machine) (r : Used) (at a : ℕ) → at + 8 < 2 ^ 31 → a < 2 ^ 31 → v.rip ≡ at → lacking 4 v.mem a 8 ≡ None
@@ -189,7 +184,7 @@ set_length r n = omega arith
 
 -- the state after a number put into a register
 abbrev pub set_to : Machine → Used → ℕ → ℕ → Machine
-set_to v r n rip = with_core v (with_reg v.core (code_of r) n) rip
+set_to v r n rip = moved_on v (with_reg v.core (code_of r) n) rip
 
 -- MOV r, imm32 puts the number into the register
 pub set_step : (v : Machine) (r : Used) (at n : ℕ) → at + 6 < 2 ^ 31 → n < 2 ^ 31 → v.rip ≡ at → IsFixed v.mem at (put_in r n)
@@ -222,7 +217,7 @@ unfolding template filled
 spread_insn = refl
 
 -- CQO puts the sign of rax into all bits of rdx
-pub spread_step : (v : Machine) (at : ℕ) → at + 2 < 2 ^ 31 → v.rip ≡ at → IsFixed v.mem at spread_sign → Own v (with_core v (with_reg v.core 2 (cut W64 (sign_filled W64 (reg v.core 0)))) (at + 2))
+pub spread_step : (v : Machine) (at : ℕ) → at + 2 < 2 ^ 31 → v.rip ≡ at → IsFixed v.mem at spread_sign → Own v (moved_on v (with_reg v.core 2 (cut W64 (sign_filled W64 (reg v.core 0)))) (at + 2))
 unfolding effect
 spread_step v at l h c =
     own_step v at spread_fields (Widen W64 true) (Widen W64 true) spread_is (omega arith) h c spread_insn refl (record { read = refl; write = refl }) refl
@@ -244,7 +239,7 @@ unfolding template filled
 sign_insn = refl
 
 -- MOV ecx, edx puts the low half of rdx into rcx
-pub sign_step : (v : Machine) (at : ℕ) → at + 2 < 2 ^ 31 → v.rip ≡ at → IsFixed v.mem at sign_to_ecx → Own v (with_core v (with_reg v.core 1 (cut W32 (cut W32 (reg v.core 2)))) (at + 2))
+pub sign_step : (v : Machine) (at : ℕ) → at + 2 < 2 ^ 31 → v.rip ≡ at → IsFixed v.mem at sign_to_ecx → Own v (moved_on v (with_reg v.core 1 (cut W32 (cut W32 (reg v.core 2)))) (at + 2))
 unfolding effect
 sign_step v at l h c =
     own_step v at sign_fields (Mov W32 (Reg 1) (value.Spot (Reg 2))) (Mov W32 (Reg 1) (value.Spot (Reg 2))) sign_is (omega arith) h c sign_insn refl (record { read = refl; write = refl }) refl
@@ -266,7 +261,7 @@ unfolding template filled
 to_r8_insn = refl
 
 -- MOV r8, rax
-pub to_r8_step : (v : Machine) (at : ℕ) → at + 3 < 2 ^ 31 → v.rip ≡ at → IsFixed v.mem at number_to_r8 → Own v (with_core v (with_reg v.core 8 (cut W64 (cut W64 (reg v.core 0)))) (at + 3))
+pub to_r8_step : (v : Machine) (at : ℕ) → at + 3 < 2 ^ 31 → v.rip ≡ at → IsFixed v.mem at number_to_r8 → Own v (moved_on v (with_reg v.core 8 (cut W64 (cut W64 (reg v.core 0)))) (at + 3))
 unfolding effect
 to_r8_step v at l h c =
     own_step v at to_r8_fields (Mov W64 (Reg 8) (value.Spot (Reg 0))) (Mov W64 (Reg 8) (value.Spot (Reg 0))) to_r8_is (omega arith) h c to_r8_insn refl (record { read = refl; write = refl }) refl
@@ -288,7 +283,7 @@ unfolding template filled
 to_rdi_insn = refl
 
 -- MOV rdi, r8
-pub to_rdi_step : (v : Machine) (at : ℕ) → at + 3 < 2 ^ 31 → v.rip ≡ at → IsFixed v.mem at number_to_rdi → Own v (with_core v (with_reg v.core 7 (cut W64 (cut W64 (reg v.core 8)))) (at + 3))
+pub to_rdi_step : (v : Machine) (at : ℕ) → at + 3 < 2 ^ 31 → v.rip ≡ at → IsFixed v.mem at number_to_rdi → Own v (moved_on v (with_reg v.core 7 (cut W64 (cut W64 (reg v.core 8)))) (at + 3))
 unfolding effect
 to_rdi_step v at l h c =
     own_step v at to_rdi_fields (Mov W64 (Reg 7) (value.Spot (Reg 8))) (Mov W64 (Reg 7) (value.Spot (Reg 8))) to_rdi_is (omega arith) h c to_rdi_insn refl (record { read = refl; write = refl }) refl
@@ -315,14 +310,14 @@ place_insn = refl
 
 -- MOV edi, [rbx] reads a record's place
 pub place_step : (v : Machine) (at a x : ℕ) → at + 2 < 2 ^ 31 → a + 0 < 2 ^ 64 → v.rip ≡ at → reg v.core 3 ≡ a → lacking 4 v.mem (a) 4 ≡ None → number_at v.mem (a) 4 ≡ x → x < 2 ^ 32
-    → IsFixed v.mem at read_place → Own v (with_core v (with_reg v.core 7 x) (at + 2))
+    → IsFixed v.mem at read_place → Own v (moved_on v (with_reg v.core 7 x) (at + 2))
 unfolding effect
 place_step v at a x l k h b w e y c =
     let o = Mov W32 (Reg 7) (value.Spot (Mem (at_rbx ([]) 1))) in
     let p : place v.core (at_rbx ([]) 1) ≡ a = ap (λ z. ((z + 0 * 1 + 0) % 2 ^ 64 + 0) % 2 ^ 64) b ∙ (let q : ((a + 0 * 1 + 0) % 2 ^ 64 + 0) % 2 ^ 64 ≡ a = omega arith in q) in
     let st = own_step v at place_fields o o place_is (omega arith) h c place_insn refl (record { read = ap (λ z. lacking 4 v.mem z 4) p ∙ w; write = refl }) refl in
     let q : cut W32 (cut W32 (number_at v.mem (place v.core (at_rbx ([]) 1)) 4)) ≡ x = ap (λ z. cut W32 (cut W32 (number_at v.mem z 4))) p ∙ ap (λ z. cut W32 (cut W32 z)) e ∙ (let g : x % 2 ^ 32 % 2 ^ 32 ≡ x = omega arith in g) in
-    lands (λ j. with_core v (with_reg v.core 7 (q j)) (at + 2)) st
+    lands (λ j. moved_on v (with_reg v.core 7 (q j)) (at + 2)) st
 
 -- MOV esi, [rbx + 4]
 abbrev size_fields : Fields
@@ -342,14 +337,14 @@ size_insn = refl
 
 -- MOV esi, [rbx + 4] reads a record's size
 pub size_step : (v : Machine) (at a x : ℕ) → at + 3 < 2 ^ 31 → a + 4 < 2 ^ 64 → v.rip ≡ at → reg v.core 3 ≡ a → lacking 4 v.mem (a + 4) 4 ≡ None → number_at v.mem (a + 4) 4 ≡ x → x < 2 ^ 32
-    → IsFixed v.mem at read_size → Own v (with_core v (with_reg v.core 6 x) (at + 3))
+    → IsFixed v.mem at read_size → Own v (moved_on v (with_reg v.core 6 x) (at + 3))
 unfolding effect
 size_step v at a x l k h b w e y c =
     let o = Mov W32 (Reg 6) (value.Spot (Mem (at_rbx (0x04 ∷ []) 2))) in
     let p : place v.core (at_rbx (0x04 ∷ []) 2) ≡ a + 4 = ap (λ z. ((z + 0 * 1 + 4) % 2 ^ 64 + 0) % 2 ^ 64) b ∙ (let q : ((a + 0 * 1 + 4) % 2 ^ 64 + 0) % 2 ^ 64 ≡ a + 4 = omega arith in q) in
     let st = own_step v at size_fields o o size_is (omega arith) h c size_insn refl (record { read = ap (λ z. lacking 4 v.mem z 4) p ∙ w; write = refl }) refl in
     let q : cut W32 (cut W32 (number_at v.mem (place v.core (at_rbx (0x04 ∷ []) 2)) 4)) ≡ x = ap (λ z. cut W32 (cut W32 (number_at v.mem z 4))) p ∙ ap (λ z. cut W32 (cut W32 z)) e ∙ (let g : x % 2 ^ 32 % 2 ^ 32 ≡ x = omega arith in g) in
-    lands (λ j. with_core v (with_reg v.core 6 (q j)) (at + 3)) st
+    lands (λ j. moved_on v (with_reg v.core 6 (q j)) (at + 3)) st
 
 -- MOV r9, [rbx + 8]
 abbrev offset_fields : Fields
@@ -369,14 +364,14 @@ offset_insn = refl
 
 -- MOV r9, [rbx + 8] reads a record's offset
 pub offset_step : (v : Machine) (at a x : ℕ) → at + 4 < 2 ^ 31 → a + 8 < 2 ^ 64 → v.rip ≡ at → reg v.core 3 ≡ a → lacking 4 v.mem (a + 8) 8 ≡ None → number_at v.mem (a + 8) 8 ≡ x → x < 2 ^ 64
-    → IsFixed v.mem at read_offset → Own v (with_core v (with_reg v.core 9 x) (at + 4))
+    → IsFixed v.mem at read_offset → Own v (moved_on v (with_reg v.core 9 x) (at + 4))
 unfolding effect
 offset_step v at a x l k h b w e y c =
     let o = Mov W64 (Reg 9) (value.Spot (Mem (at_rbx (0x08 ∷ []) 2))) in
     let p : place v.core (at_rbx (0x08 ∷ []) 2) ≡ a + 8 = ap (λ z. ((z + 0 * 1 + 8) % 2 ^ 64 + 0) % 2 ^ 64) b ∙ (let q : ((a + 0 * 1 + 8) % 2 ^ 64 + 0) % 2 ^ 64 ≡ a + 8 = omega arith in q) in
     let st = own_step v at offset_fields o o offset_is (omega arith) h c offset_insn refl (record { read = ap (λ z. lacking 4 v.mem z 8) p ∙ w; write = refl }) refl in
     let q : cut W64 (cut W64 (number_at v.mem (place v.core (at_rbx (0x08 ∷ []) 2)) 8)) ≡ x = ap (λ z. cut W64 (cut W64 (number_at v.mem z 8))) p ∙ ap (λ z. cut W64 (cut W64 z)) e ∙ (let g : x % 2 ^ 64 % 2 ^ 64 ≡ x = omega arith in g) in
-    lands (λ j. with_core v (with_reg v.core 9 (q j)) (at + 4)) st
+    lands (λ j. moved_on v (with_reg v.core 9 (q j)) (at + 4)) st
 
 -- LEA rbx, [rbx + 16]
 abbrev next_fields : Fields
@@ -396,13 +391,13 @@ next_insn = refl
 
 -- LEA rbx, [rbx + 16] goes on to the next record
 pub next_step : (v : Machine) (at a : ℕ) → at + 4 < 2 ^ 31 → a + 16 < 2 ^ 64 → v.rip ≡ at → reg v.core 3 ≡ a → IsFixed v.mem at next_record
-    → Own v (with_core v (with_reg v.core 3 (a + 16)) (at + 4))
+    → Own v (moved_on v (with_reg v.core 3 (a + 16)) (at + 4))
 unfolding effect
 next_step v at a l k h b c =
     let o = Lea W64 3 (at_rbx (0x10 ∷ []) 2) in
     let st = own_step v at next_fields o o next_fits (omega arith) h c next_insn refl (record { read = refl; write = refl }) refl in
     let q : (reg v.core 3 + 0 * 1 + 16) % 2 ^ 64 % 2 ^ 64 ≡ a + 16 = ap (λ z. (z + 0 * 1 + 16) % 2 ^ 64 % 2 ^ 64) b ∙ (let g : (a + 0 * 1 + 16) % 2 ^ 64 % 2 ^ 64 ≡ a + 16 = omega arith in g) in
-    lands (λ j. with_core v (with_reg v.core 3 (q j)) (at + 4)) st
+    lands (λ j. moved_on v (with_reg v.core 3 (q j)) (at + 4)) st
 
 -- LEA ecx, [rbx - end]
 abbrev end_fields : ℕ → Fields
@@ -431,7 +426,7 @@ high_word a k h = ap word_of (four_signed a h) ∙ high (low_word a h)
 
 -- LEA ecx, [rbx - end] puts the distance from the records' end into rcx, modulo 2^32
 pub end_step : (v : Machine) (at a end x : ℕ) → at + 6 < 2 ^ 31 → a ≤ end → 0 < end → end ≤ 2 ^ 31 → (a + 2 ^ 32 - end) % 2 ^ 32 ≡ x → v.rip ≡ at → reg v.core 3 ≡ a
-    → IsFixed v.mem at (to_the_end end) → Own v (with_core v (with_reg v.core 1 x) (at + 6))
+    → IsFixed v.mem at (to_the_end end) → Own v (moved_on v (with_reg v.core 1 x) (at + 6))
 unfolding effect
 end_step v at a end x l k p r e h b c =
     let n = 2 ^ 32 - end in
@@ -440,7 +435,7 @@ end_step v at a end x l k p r e h b c =
     let w : word_of (integer_of (four n)) ≡ n + (2 ^ 64 - 2 ^ 32) = high_word n (omega arith) (omega arith) in
     let q : (reg v.core 3 + 0 * 1 + word_of (integer_of (four n))) % 2 ^ 64 % 2 ^ 32 ≡ x = ap (λ z. (z + 0 * 1 + word_of (integer_of (four n))) % 2 ^ 64 % 2 ^ 32) b
     ∙ ap (λ z. (a + 0 * 1 + z) % 2 ^ 64 % 2 ^ 32) w ∙ (let g : (a + 0 * 1 + (n + (2 ^ 64 - 2 ^ 32))) % 2 ^ 64 % 2 ^ 32 ≡ x = omega (arith, e) in g) in
-    lands (λ j. with_core v (with_reg v.core 1 (q j)) (at + 6)) st
+    lands (λ j. moved_on v (with_reg v.core 1 (q j)) (at + 6)) st
 
 -- JRCXZ
 abbrev zero_fields : ℕ → Fields

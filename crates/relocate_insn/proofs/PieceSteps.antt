@@ -48,6 +48,10 @@ pub next_is : (v : Machine) (at : ℕ) (f : Fields) → at + length (spelling f)
     → next_after v.rip f ≡ at + length (spelling f)
 next_is v at f l r = ap (λ z. advanced z (length (spelling f))) r ∙ next_address at (length (spelling f)) l
 
+-- a state with another core at another address
+abbrev pub moved_on : Machine → Core → ℕ → Machine
+moved_on v c rip = record { core = c; rip = rip; mem = v.mem; world = v.world }
+
 -- a step to a state leads to each equal one
 pub lands : {s t u : Machine} → t ≡ u → Step nowhere s t → Step nowhere s u
 lands {s} e st = subst (λ (z : Machine). Step nowhere s z) e st

@@ -9,7 +9,6 @@ use Rattle.cpu_alu.specs.declared.flag_word.Flags.{Flags}
 use Rattle.cpu_alu.specs.Arithmetic.{arithmetic}
 use Rattle.cpu_alu.specs.Sums.{total}
 use Rattle.cpu_alu.specs.Sums.Way.{Plus}
-use Rattle.cpu_state.specs.declared.state.Core.{Core}
 use Rattle.cpu_state.specs.Bytes.{advanced, lacking, number_at, put_list, bytes_of}
 use Rattle.cpu_state.specs.Fixed.{IsFixed}
 use Rattle.length_decode.specs.Spelling.{spelling}
@@ -25,14 +24,10 @@ use Rattle.insn_form.specs.Machine.{Machine}
 use Rattle.insn_form.specs.Step.{Step}
 use Rattle.insn_form.specs.Runs.{nowhere}
 use Rattle.relocate_insn.specs.Pieces.{four}
-use Rattle.relocate_insn.proofs.PieceSteps.{lands, four_word, fixed_place, absolute_word, pushed_word}
+use Rattle.relocate_insn.proofs.PieceSteps.{lands, moved_on, four_word, fixed_place, absolute_word, pushed_word}
 use Rattle.trampoline.proofs.NamedStates.{Others, core_with, now}
 use Rattle.trampoline.proofs.FlagEventInstructions.{fields_of, by_rax, piece_step}
 use Rattle.trampoline.proofs.FlagEventInstructions.Piece.{StoreEax, LoadEax, IntoAh, IntoAl, FromAl, FromAh, PutSlot, NextEax, CompareEax, ClearEax, Compare, JumpIf, CountUp}
-
--- a state with another core at another address
-abbrev pub moved_on : Machine → Core → ℕ → Machine
-moved_on v c rip = record { core = c; rip = rip; mem = v.mem; world = v.world }
 
 -- MOV [a], eax: the low half of rax stands at the address
 pub store_eax_step : (o : Others) (x : ℕ) (f : Flags) (m : Bytes) (at a : ℕ) → at + 7 < 2 ^ 31 → a < 2 ^ 31 → lacking 2 m a 4 ≡ None

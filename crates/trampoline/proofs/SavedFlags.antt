@@ -18,13 +18,13 @@ use Rattle.relocate_insn.specs.Pieces.{store_rax, load_rax}
 use Rattle.relocate_insn.specs.Running.{IsPrivate}
 use Rattle.relocate_insn.proofs.FixedCode.{fixed_front, fixed_back, fixed_on}
 use Rattle.relocate_insn.proofs.PrivateRange.{private_free, put_away, number_keep}
-use Rattle.relocate_insn.proofs.PieceSteps.{store_step, load_step}
+use Rattle.relocate_insn.proofs.PieceSteps.{store_step, load_step, moved_on}
 use Rattle.cond_action.specs.Codes.{store_eax, load_eax, keep_flags, give_back}
 use Rattle.trampoline.specs.Events.{bytes_at}
 use Rattle.trampoline.proofs.DataParts.{bytes_keep}
 use Rattle.trampoline.proofs.NamedStates.{Others, core_with, now}
 use Rattle.trampoline.proofs.BoundedRuns.{Leads, one, onward, ends, Wrote, wrote_none, wrote_more}
-use Rattle.trampoline.proofs.EventSteps.{moved_on, store_eax_step, load_eax_step, into_ah_step, into_al_step, from_al_step, from_ah_step}
+use Rattle.trampoline.proofs.EventSteps.{store_eax_step, load_eax_step, into_ah_step, into_al_step, from_al_step, from_ah_step}
 
 -- rax with the flags in ax
 abbrev pub kept_rax : ℕ → Flags → ℕ

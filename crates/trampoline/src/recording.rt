@@ -1,16 +1,15 @@
 //! The code of events (Intel SDM, volume 2, CMP, Jcc, LEA and MOV).
 ghost use Rattle.std.specs.Prelude.{◌≡◌, ◌+◌, ◌≤◌, ◌<◌, ◌++◌, length};
 ghost use Rattle.pun_base.specs.declared.action.Action.TheVariants.{Cover, Count};
-ghost use Rattle.pun_base.specs.Actions.{AreComparisons, listed};
 ghost use Rattle.pun_base.specs.Limits.{most_sites};
 ghost use Rattle.cond_action.specs.Codes as codes;
 ghost use Rattle.trampoline.specs.Events.{put_slot, next_slot, ring_code, event_code};
 ghost use Rattle.trampoline.specs.Running.{IsEvent};
 
 use crate::event::Event;
-use cond_action::cond_code;
+use cond_action::put_when;
 use cond_action::saved_flags::{put_give_back, put_keep_flags, put_load_eax, put_store_eax};
-use pun_base::action::{Action, Base, Comparisons};
+use pun_base::action::Action;
 use pun_base::limits::{COUNTER_LEN, DATA_AT, SLOT_LEN};
 use relocate_insn::writer::CodeWriter;
 
@@ -74,17 +73,6 @@ fn put_ring(code: &mut CodeWriter, number: u32, private: u32, len: u32)
     put_next_slot(code, len);
     put_store_eax(code, private + DATA_AT);
     put_give_back(code, private);
-}
-
-/// Writes what records an event of a base where all comparisons hold of the registers.
-fn put_when(code: &mut CodeWriter, base: Base, list: Comparisons, number: u32, private: u32)
-    requires room { length code.old ≤ 48 }
-    requires list { AreComparisons (listed list) }
-    requires number { number < most_sites }
-    requires private { private < 0x7FFF0000 }
-    ensures { code.new ≡ code.old ++ codes.cond_code base (listed list) private number }
-{
-    code.put(cond_code(base, list, number, private).as_slice());
 }
 
 /// Writes the code of an event.

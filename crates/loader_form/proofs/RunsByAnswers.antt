@@ -126,6 +126,29 @@ module _ (file : List ℕ) (entry : ℕ) (answers : List MapAnswer) (s : Machine
       by_moves [] q b h = by_end g.end g.number h q g.whole
       by_moves (x ∷ xs) q b h = absurd (b.0 e)
 
+  -- behind its first move the run goes on
+  going_on : (left more : List MapAnswer) (m : Machine) (n : ℕ) (g : Going file entry answers s left m n) (k : Option ℕ) (t : Machine) (xs : List Move) → t.world ≡ [] → IsRunWith file k t xs
+      → last_state t xs ≡ g.last → more ≡ map answer_of (replies_in xs) ++ g.rest → AllZero (replies_in xs) → NeverAt entry t xs
+      → StandsAt file entry g.rest (last_number k xs) (n + suc (length xs)) g.last g.end → n + suc (length xs) < 2 ^ 63 → Going file entry answers s more t (n + 1)
+  going_on left more m n g k t xs w run q taken zs b h few =
+      let c : n + suc (length xs) ≡ n + 1 + length xs = omega arith in
+      record {
+        end = g.end;
+        last = g.last;
+        whole = g.whole;
+        alone = w;
+        number = k;
+        moves = xs;
+        run = run;
+        there = q;
+        rest = g.rest;
+        taken = taken;
+        zero = zs;
+        before = b;
+        ends = subst (λ (z : ℕ). StandsAt file entry g.rest (last_number k xs) z g.last g.end) c h;
+        few = omega (arith, few);
+      }
+
   -- elsewhere one step is made
   pub going_steps : (left : List MapAnswer) (m t : Machine) (n : ℕ) → Going file entry answers s left m n → m.rip ≢ entry → t.world ≡ [] → Step nowhere m t
       → Going file entry answers s left t (n + 1)
@@ -143,23 +166,8 @@ module _ (file : List ℕ) (entry : ℕ) (answers : List MapAnswer) (s : Machine
           → Going file entry answers s left t (n + 1)
       by_reply None k u xs p run q taken zs b h few =
           let e : u ≡ t = one_next task_of nowhere nowhere m u t (p.0, p.1) st in
-          let c : n + suc (length xs) ≡ n + 1 + length xs = omega arith in
-          record {
-            end = g.end;
-            last = g.last;
-            whole = g.whole;
-            alone = w;
-            number = k;
-            moves = xs;
-            run = subst (λ (z : Machine). IsRunWith file k z xs) e run;
-            there = subst (λ (z : Machine). last_state z xs ≡ g.last) e q;
-            rest = g.rest;
-            taken = taken;
-            zero = zs;
-            before = subst (λ (z : Machine). NeverAt entry z xs) e b;
-            ends = subst (λ (z : ℕ). StandsAt file entry g.rest (last_number k xs) z g.last g.end) c h;
-            few = omega (arith, few);
-          }
+          subst (λ (z : Machine). Going file entry answers s left z (n + 1)) e
+          (going_on left left m n g k u xs (ap (λ (z : Machine). z.world) e ∙ w) run q taken zs b h few)
       by_reply (Some r) k u xs p run q taken zs b h few = absurd (call_stops m t g.alone p.here st)
 
       by_moves : (xs : List Move) → IsRunWith file g.number m xs → last_state m xs ≡ g.last → left ≡ map answer_of (replies_in xs) ++ g.rest → AllZero (replies_in xs)
@@ -236,28 +244,12 @@ module _ (file : List ℕ) (entry : ℕ) (answers : List MapAnswer) (s : Machine
             → StandsAt file entry g.rest (last_number k xs) (n + suc (length xs)) g.last g.end → n + suc (length xs) < 2 ^ 63 → Replies a more
         by_reply None k u xs p run q taken zs b h few = absurd (none u (p.0, p.1))
         by_reply (Some r) k u xs p run q taken zs b h few =
-            let same : r ≡ by_zero a = λ i. record { answer = ap (λ (z : List MapAnswer). get_or z 0 a) (sym taken) i; r11 = zs.0 i } in
-            let c : n + suc (length xs) ≡ n + 1 + length xs = omega arith in (
+            let same : r ≡ by_zero a = λ i. record { answer = ap (λ (z : List MapAnswer). get_or z 0 a) (sym taken) i; r11 = zs.0 i } in (
               g.number,
               k,
               u,
               subst (λ (z : Reply). IsReplied file g.number m z k u) same p,
-              λ w. record {
-                end = g.end;
-                last = g.last;
-                whole = g.whole;
-                alone = w;
-                number = k;
-                moves = xs;
-                run = run;
-                there = q;
-                rest = g.rest;
-                taken = ap (λ (z : List MapAnswer). drop 1 z) taken;
-                zero = zs.1;
-                before = b;
-                ends = subst (λ (z : ℕ). StandsAt file entry g.rest (last_number k xs) z g.last g.end) c h;
-                few = omega (arith, few);
-              },
+              λ w. going_on (a ∷ more) more m n g k u xs w run q (ap (λ (z : List MapAnswer). drop 1 z) taken) zs.1 b h few,
             )
 
         by_moves : (xs : List Move) → IsRunWith file g.number m xs → last_state m xs ≡ g.last → a ∷ more ≡ map answer_of (replies_in xs) ++ g.rest → AllZero (replies_in xs)

@@ -51,30 +51,19 @@ replies_append (x ∷ xs) ys = ap (with_reply x.reply) (replies_append xs ys) �
 pub stay : {file : List ℕ} {lo hi : ℕ} (k : Option ℕ) (s : Machine) → Reach file lo hi k s 0 [] k s
 stay k s = record { moves = []; run = tt; state = refl; after = refl; replies = refl; count = refl; inside = tt }
 
+-- a move made inside a range is a path of one step
+one_move : {file : List ℕ} {lo hi : ℕ} (k : Option ℕ) (s : Machine) (x : Move) → IsRunWith file k s (x ∷ []) → lo ≤ s.rip → s.rip < hi
+    → Reach file lo hi k s 1 (with_reply x.reply []) x.number x.state
+one_move k s x run a b = record { moves = x ∷ []; run = run; state = refl; after = refl; replies = refl; count = refl; inside = (a, b, tt) }
+
 -- a step of the machine in the stub's code is a path of one step
 pub own : {file : List ℕ} {lo hi : ℕ} (k : Option ℕ) (s t : Machine) → Own s t → lo ≤ s.rip → s.rip < hi → Reach file lo hi k s 1 [] k t
-own k s t o a b = record {
-  moves = record { reply = None; number = k; state = t } ∷ [];
-  run = ((o.0, o.1, o.2, refl), tt);
-  state = refl;
-  after = refl;
-  replies = refl;
-  count = refl;
-  inside = (a, b, tt);
-}
+own k s t o a b = one_move k s (record { reply = None; number = k; state = t }) ((o.0, o.1, o.2, refl), tt) a b
 
 -- a call of the kernel in the stub's code is a path of one step, by its reply
 pub called : {file : List ℕ} {lo hi : ℕ} (k k' : Option ℕ) (s t : Machine) (r : Reply) → IsReplied file k s r k' t → lo ≤ s.rip → s.rip < hi
     → Reach file lo hi k s 1 (r ∷ []) k' t
-called k k' s t r o a b = record {
-  moves = record { reply = Some r; number = k'; state = t } ∷ [];
-  run = (o, tt);
-  state = refl;
-  after = refl;
-  replies = refl;
-  count = refl;
-  inside = (a, b, tt);
-}
+called k k' s t r o a b = one_move k s (record { reply = Some r; number = k'; state = t }) (o, tt) a b
 
 -- two paths one after the other are a path
 pub then : {file : List ℕ} {lo hi : ℕ} {k k1 k2 : Option ℕ} {s u t : Machine} {n m : ℕ} {rs qs : List Reply} → Reach file lo hi k s n rs k1 u

@@ -49,18 +49,6 @@ fn count_runs(alloc: Global, groups: &Groups) -> Result<u32, AllocError>
     Ok(runs.len() as u32)
 }
 
-/// The addresses of a trampoline's code.
-fn code_range(piece: &Built) -> Range
-    requires { EndsLow piece.now }
-    ensures { extent_of result ≡ code_extent piece.now }
-{
-    let len = piece.code.bytes.as_slice().len() as u32;
-    Range {
-        lo: piece.place,
-        hi: piece.place + len,
-    }
-}
-
 /// Appends the addresses of each trampoline's code.
 fn push_codes(taken: &mut Vec<Range>, built: &[Built]) -> Result<(), AllocError>
     requires { AllByRecursion EndsLow built.now }
@@ -68,7 +56,7 @@ fn push_codes(taken: &mut Vec<Range>, built: &[Built]) -> Result<(), AllocError>
         ≡ map extent_of taken.old.items ++ map code_extent built.now) }
 {
     for piece in built {
-        taken.push(code_range(piece))?;
+        taken.push(piece.range())?;
     }
     Ok(())
 }

@@ -59,22 +59,13 @@ emit_tailed-requires-clause-frame g c =
     (c.deref.ensures.value ∙ c.in-Ok-tail_bytes.ensures) c.count.ensures c.loader_parts-parts.ensures (c.from.ensures ∙ ap (λ (r : Range). r.lo) c.stub.ensures) in
     subst IsFrame (sym handed) (is_frame w size)
 
-pub returns-clause-emits : goal.returns-clause-emits
-returns-clause-emits g c =
+pub returns : goal.returns
+returns g c =
     let size : length c.args.elf.now.bytes < 2 ^ 63 = (let s = c.file-file.type_inv in let e = ap (λ (z : List ℕ). length z) c.file-file.ensures.value in omega arith) in
     let w = c.requires.loading.1 in
     let frame = loader_frame (load_job c.args.elf.now.bytes c.args.planned.now c.args.groups.now) (laid_of c.args.loader.now) in
     let handed = all_handed w size c.deref-2.result.now c.built.result.now c.private-private.result c.deref.result.now c.count.result c.loader_parts-parts.result
     c.from.result (c.deref-2.ensures.value ∙ c.in-Ok.ensures ∙ ap (λ z. writes_of z) c.rows.ensures) c.built.ensures c.private-private.ensures
     (c.deref.ensures.value ∙ c.in-Ok-tail_bytes.ensures) c.count.ensures c.loader_parts-parts.ensures (c.from.ensures ∙ ap (λ (r : Range). r.lo) c.stub.ensures) in
-    emitted _ frame c.args.name.now _ _ _ c.emit_tailed.ensures handed
-
-pub returns-clause-loads : goal.returns-clause-loads
-returns-clause-loads g c =
-    let size : length c.args.elf.now.bytes < 2 ^ 63 = (let s = c.file-file.type_inv in let e = ap (λ (z : List ℕ). length z) c.file-file.ensures.value in omega arith) in
-    let w = c.requires.loading.1 in
-    let frame = loader_frame (load_job c.args.elf.now.bytes c.args.planned.now c.args.groups.now) (laid_of c.args.loader.now) in
-    let handed = all_handed w size c.deref-2.result.now c.built.result.now c.private-private.result c.deref.result.now c.count.result c.loader_parts-parts.result
-    c.from.result (c.deref-2.ensures.value ∙ c.in-Ok.ensures ∙ ap (λ z. writes_of z) c.rows.ensures) c.built.ensures c.private-private.ensures
-    (c.deref.ensures.value ∙ c.in-Ok-tail_bytes.ensures) c.count.ensures c.loader_parts-parts.ensures (c.from.ensures ∙ ap (λ (r : Range). r.lo) c.stub.ensures) in
-    loads_when w size c.args.name.now _ _ c.emit_tailed.result (emitted _ frame c.args.name.now _ _ _ c.emit_tailed.ensures handed)
+    let emits = emitted _ frame c.args.name.now _ _ _ c.emit_tailed.ensures handed in
+    record { emits = emits; loads = loads_when w size c.args.name.now _ _ c.emit_tailed.result emits }

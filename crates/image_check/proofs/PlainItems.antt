@@ -3,45 +3,30 @@ use Rattle.std.proofs.Common.{◌≡◌, suc, Bool, true, false, cond, List, [],
 use Rattle.std.proofs.lemmas.Bool.{cond-true}
 use Rattle.insn_form.specs.Machine.{Machine}
 use Rattle.insn_form.specs.Step.{Step}
-use Rattle.insn_form.specs.Runs.{IsRun, last_of}
-use Rattle.start_entries.specs.declared.entry.StartEntry.{StartEntry}
+use Rattle.insn_form.specs.Runs.{last_of}
 use Rattle.image_step.specs.Listed.{is_start}
-use Rattle.image_step.specs.Quiet.{IsQuiet}
 use Rattle.image_check.specs.Rewriting.{Site, Rewriting}
 use Rattle.image_check.specs.Events.{due_events}
 use Rattle.image_check.specs.Headline.{Moment, due_moments, moments, made_at, Reaches, Before, Left, due_moment, due_with, moments_with, FollowsWith, BeforeWith, deliveries}
 use Rattle.image_check.specs.Soundness.{PlainIsACase, SameDeliveries}
 use Rattle.image_step.specs.declared.delivery.Delivery.{Delivery}
-use Rattle.image_step.specs.Deliveries.{delivered, Item, Stepped, Taken, end_of, IsRunWith, IsQuietWith, stepped_at}
+use Rattle.image_step.specs.Deliveries.{delivered, Item, Stepped, Taken, end_of, IsRunWith, stepped_at}
+use Rattle.image_step.proofs.MoreItems.{plain_quiet, plain_run}
+pub use Rattle.image_step.proofs.MoreItems.{plain_end as steps_end}
 
 -- a moment at which nothing is delivered
 abbrev pub plain : Moment → Left
 plain m = (m, None)
-
--- steps as items: the run is quiet
-quiet_items : (ls : List StartEntry) (s : Machine) (ts : List Machine) → IsQuiet Step ls s ts → IsQuietWith Step ls s (map Stepped ts)
-quiet_items ls s [] q = (tt, q)
-quiet_items ls s (t ∷ ts) q = let r = quiet_items ls t ts q.1 in ((q.0, r.0), r.1)
 
 -- the states of a run at which a step was made are those of the run as items
 pub steps_made : (s : Machine) (ts : List Machine) → stepped_at s (map Stepped ts) ≡ made_at s ts
 steps_made s [] = refl
 steps_made s (t ∷ ts) = ap (λ z. s ∷ z) (steps_made t ts)
 
--- a run of steps alone, taken as items, ends in its last state
-pub steps_end : (s : Machine) (ts : List Machine) → end_of s (map Stepped ts) ≡ last_of s ts
-steps_end s [] = refl
-steps_end s (t ∷ ts) = steps_end t ts
-
 -- a run of n steps has n states at which a step was made
 made_length : (s : Machine) (ts : List Machine) → length (made_at s ts) ≡ length ts
 made_length s [] = refl
 made_length s (t ∷ ts) = ap suc (made_length t ts)
-
--- a run of items that are all steps is a run
-steps_run : (ls : List StartEntry) (s : Machine) (ts : List Machine) → IsRunWith Step ls s (map Stepped ts) → IsRun Step s ts
-steps_run ls s [] h = tt
-steps_run ls s (t ∷ ts) h = (h.0, steps_run ls t ts h.1)
 
 -- the moments of the original's run are those of the run as items
 pub due_plain : (r : Rewriting) (before : List Machine) (s : Machine) (ts : List Machine)
@@ -104,7 +89,7 @@ none_taken r before u (Taken d ∷ us) ms h e =
 -- the plain headline is the case in which nothing is delivered
 pub headline_case : PlainIsACase
 headline_case r H a b p ts q =
-    let w = H a b p (map Stepped ts) (quiet_items r.listed a ts q) in
+    let w = H a b p (map Stepped ts) ((plain_quiet r.listed a ts).1 q) in
     let n = none_taken r [] b w.0 (due_moments r [] (a ∷ ts)) w.1.run (w.1.same ∙ due_plain r [] a ts) in
     let f : FollowsWith Step r a (map Stepped ts) b (map Stepped n.0)
     = subst (λ (z : List Item). FollowsWith Step r a (map Stepped ts) b z) n.1 w.1 in
@@ -112,7 +97,7 @@ headline_case r H a b p ts q =
     = subst (λ (z : Machine). BeforeWith Step r a (map Stepped ts) z) (ap (end_of b) n.1 ∙ steps_end b n.0) w.2 in (
       n.0,
       record {
-        run = steps_run r.listed b n.0 f.run;
+        run = (plain_run r.listed b n.0).0 f.run;
         bounded = omega (arith, f.bounded, ap length (steps_made b n.0), made_length b n.0, ap length (steps_made a ts), made_length a ts);
         ends_outside = ap (λ (z : Machine). is_start r.listed z.rip) (sym (steps_end b n.0)) ∙ f.ends_outside;
         same = sym (unplain (moments r [] (b ∷ n.0))) ∙ ap (map (λ (l : Left). l.0)) (sym (moments_plain r [] b n.0) ∙ f.same ∙ due_plain r [] a ts)

@@ -9,7 +9,7 @@ use Rattle.elf_read.specs.Image.{image, image_of, chunk_of, holds, cell_in}
 use Rattle.elf_read.specs.Refusals.{refusal}
 use Rattle.elf_read.proofs.AcceptedFiles.{is_accepted}
 use Rattle.image_check.specs.Parts.{in_span, in_spans, start_span, end_span, private_span, edge_spans}
-use Rattle.image_check.proofs.ZeroTails.{IsPast, image_on, neither_of, none_mapped, outside, within_low, within_inside, within_behind}
+use Rattle.image_check.proofs.ZeroTails.{IsPast, held_alike, image_on, neither_of, none_mapped, outside}
 
 -- the permissions of a cell, if there is one
 abbrev pub kind_of : Option Cell → Option ℕ
@@ -44,13 +44,7 @@ are_inner n (s ∷ ss) x p b e = (inner_of n s x p.0 b.0 e.0, are_inner n ss x p
 
 -- where an address is at no edge of a segment, the segment holds it and the one below, or neither
 held_in : (file : List ℕ) (s : Segment) (x : ℕ) → IsInner s x → holds (chunk_of file s) (suc x) ≡ holds (chunk_of file s) x
-held_in file s x p = elim p.start [
-  | inl k ↦ within_low s.vaddr s.memsz x k
-  | inr k ↦ elim p.end [
-    | inl m ↦ within_inside s.vaddr s.memsz x (omega (arith, k)) m
-    | inr m ↦ within_behind s.vaddr s.memsz x (omega (arith, k)) m
-  ]
-]
+held_in file s x p = held_alike file s x (elim p.start [ inl k ↦ inl k | inr k ↦ inr (omega (arith, k)) ]) p.end
 
 -- cells of equal permissions, chosen by equal tests, are of one kind
 kind_step : (b e : Bool) (c d : Cell) (o q : Option Cell) → b ≡ e → c.perms ≡ d.perms → kind_of o ≡ kind_of q

@@ -57,15 +57,15 @@ outside y s h = elim (cases_lt y s.first) [
 ]
 
 -- two neighbours that lie below a range are in it alike
-pub within_low : (v m x : ℕ) → suc x < v → is_within v m (suc x) ≡ is_within v m x
+within_low : (v m x : ℕ) → suc x < v → is_within v m (suc x) ≡ is_within v m x
 within_low v m x l = grind (arith, nat_tests)
 
 -- two neighbours that lie in a range are in it alike
-pub within_inside : (v m x : ℕ) → v ≤ x → suc x < v + m → is_within v m (suc x) ≡ is_within v m x
+within_inside : (v m x : ℕ) → v ≤ x → suc x < v + m → is_within v m (suc x) ≡ is_within v m x
 within_inside v m x l n = grind (arith, nat_tests)
 
 -- two neighbours of which the upper one lies past the end of a range are in it alike
-pub within_behind : (v m x : ℕ) → v ≤ x → v + m < suc x → is_within v m (suc x) ≡ is_within v m x
+within_behind : (v m x : ℕ) → v ≤ x → v + m < suc x → is_within v m (suc x) ≡ is_within v m x
 within_behind v m x l n = grind (arith, nat_tests)
 
 -- an address is none of the bytes that the file has of a segment, and not the one after the segment
@@ -81,15 +81,16 @@ past_of n s x p b e = record {
   end = elim (outside (suc x) (end_span s) e) [ inl k ↦ inl (omega (arith, k, p.high)) | inr k ↦ inr (omega (arith, k, p.high)) ];
 }
 
+-- two neighbours, both below a segment or neither, and both before its end or behind it, are held by it alike
+pub held_alike : (file : List ℕ) (s : Segment) (x : ℕ) → (suc x < s.vaddr) ⊎ (s.vaddr ≤ x) → (suc x < s.vaddr + s.memsz) ⊎ (s.vaddr + s.memsz < suc x)
+    → holds (chunk_of file s) (suc x) ≡ holds (chunk_of file s) x
+held_alike file s x (inl k) e = within_low s.vaddr s.memsz x k
+held_alike file s x (inr k) (inl m) = within_inside s.vaddr s.memsz x k m
+held_alike file s x (inr k) (inr m) = within_behind s.vaddr s.memsz x k m
+
 -- where an address is no byte of the file's and not the end of a segment, the segment holds it and the one below, or neither
 held_on : (file : List ℕ) (s : Segment) (x : ℕ) → IsPast s x → holds (chunk_of file s) (suc x) ≡ holds (chunk_of file s) x
-held_on file s x p = elim p.backed [
-  | inl k ↦ within_low s.vaddr s.memsz x k
-  | inr k ↦ elim p.end [
-    | inl m ↦ within_inside s.vaddr s.memsz x (omega (arith, k)) m
-    | inr m ↦ within_behind s.vaddr s.memsz x (omega (arith, k)) m
-  ]
-]
+held_on file s x p = held_alike file s x (elim p.backed [ inl k ↦ inl k | inr k ↦ inr (omega (arith, k)) ]) p.end
 
 -- a byte past the file's is zero
 zero_past : (file : List ℕ) (s : Segment) (y : ℕ) → s.vaddr + s.filesz ≤ y

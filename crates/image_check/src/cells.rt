@@ -14,7 +14,7 @@ pub struct LoadedByte {
 }
 
 /// What a file loads at an address.
-pub(crate) fn loaded_at(elf: &Elf<'_>, addr: u64) -> Option<LoadedByte>
+pub fn loaded_at(elf: &Elf<'_>, addr: u64) -> Option<LoadedByte>
     ensures { option_map cell_of result ≡ image_of elf.now.bytes addr }
 {
     let byte = elf.byte(addr)?;

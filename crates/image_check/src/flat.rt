@@ -71,7 +71,7 @@ fn push_lines(lines: &mut Vec<ReportLine>, row: &ReportRow) -> Result<(), AllocE
 }
 
 /// All trampolines of a report, in turn order.
-fn lines_of(alloc: Global, report: &Report) -> Result<Vec<ReportLine>, AllocError>
+pub fn lines_of(alloc: Global, report: &Report) -> Result<Vec<ReportLine>, AllocError>
     ensures { IfOk result (λ v. map line_of v.items ≡ reports.lines report.now.body) }
 {
     let mut lines = Vec::new(alloc);
@@ -195,6 +195,14 @@ impl<'a> FlatReport<'a> {
         near(&self.started, 1, addr)
     }
 
+    /// The pages of trampolines on which an address can be.
+    fn near_pages(&self, addr: u64) -> &[(u32, u32)]
+        ensures { IsNear (λ y. y) (λ p. p.0) 4096 addr result.now self.now.pages }
+    {
+        self.report.keeps();
+        near(self.report.pages(), PAGE_LEN as u64, addr)
+    }
+
     /// Whether an address is in a run.
     #[tactic(auto, using(crate::proofs::CountedElements::written_by_count))]
     pub(crate) fn is_written(&self, addr: u64) -> bool
@@ -252,16 +260,15 @@ impl<'a> FlatReport<'a> {
     pub(crate) fn on_page(&self, addr: u64) -> bool
         ensures { result ≡ reports.on_page self.now addr }
     {
-        self.report.keeps();
-        is_on(near(self.report.pages(), PAGE_LEN as u64, addr), addr)
+        is_on(self.near_pages(addr), addr)
     }
+
     /// Whether all addresses from `addr` to `addr + more` are on one page of trampolines.
     pub(crate) fn on_one_page(&self, addr: u64, more: u64) -> bool
         requires { addr + more < 2 ^ 64 }
         ensures { IsTrue result → (x : ℕ) → addr ≤ x → x ≤ addr + more
             → reports.on_page self.now x ≡ true }
     {
-        self.report.keeps();
-        are_on(near(self.report.pages(), PAGE_LEN as u64, addr), addr, more)
+        are_on(self.near_pages(addr), addr, more)
     }
 }

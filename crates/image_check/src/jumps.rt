@@ -10,7 +10,7 @@ ghost use Rattle.image_check.specs.Jumps as jumps;
 
 use crate::cells::loaded_at;
 use crate::near::near_entries;
-use crate::standing::rest_of;
+use crate::standing::rest_at;
 use arrayvec::ArrayVec;
 use elf_read::elf::Elf;
 use insn_form::{Insn, Op, Target, front_form};
@@ -62,9 +62,9 @@ fn fixed_front(rest: &[u8], perms: u32) -> Option<ArrayVec<u8, 16>>
 fn fixed_at_once(elf: &Elf<'_>, addr: u64) -> Option<ArrayVec<u8, 16>>
     ensures { IfSome result (λ v. v.items ≡ jumps.fixed_at (image_of elf.now.bytes) addr 15) }
 {
-    match elf.segment_at(addr) {
+    match rest_at(elf, addr) {
         None => None,
-        Some(segment) => fixed_front(rest_of(elf.file(), &segment, addr), segment.perms()),
+        Some((rest, perms)) => fixed_front(rest, perms),
     }
 }
 
@@ -148,7 +148,7 @@ pub fn jump_at(elf: &Elf<'_>, addr: u64) -> Option<u64>
 }
 
 /// Whether the jump at an address leads to a place.
-fn jumps_to(elf: &Elf<'_>, addr: u64, place: u64) -> bool
+pub fn jumps_to(elf: &Elf<'_>, addr: u64, place: u64) -> bool
     ensures { IsTrue result ↔ JumpsTo (image_of elf.now.bytes) addr place }
 {
     match jump_at(elf, addr) {

@@ -4,12 +4,12 @@
 #![tactic(auto)]
 
 mod byte_rule;
-mod cells;
+pub mod cells;
 pub mod checked;
 mod code_rule;
 mod cutting;
 mod entry_rule;
-mod flat;
+pub mod flat;
 pub mod jumps;
 pub mod laws;
 mod lesser;

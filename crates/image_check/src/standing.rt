@@ -1,5 +1,5 @@
 //! Bytes of a file's image that stand side by side in the file.
-ghost use Rattle.std.specs.Prelude.{◌≡◌, ◌+◌, ◌-◌, ◌≤◌, ◌<◌, ℕ, length, slice_index, take, drop, IfSome};
+ghost use Rattle.std.specs.Prelude.{◌≡◌, ◌+◌, ◌-◌, ◌^◌, ◌≤◌, ◌<◌, ℕ, length, slice_index, take, drop, IfSome};
 ghost use Rattle.pun_base.specs.Memory.{Bytes};
 ghost use Rattle.elf_read.specs.Image.{image_of};
 ghost use Rattle.image_check.specs.Stretches.{HasFrom};
@@ -36,6 +36,17 @@ pub(crate) fn common_len(one: &[u8], other: &[u8]) -> usize
     most
 }
 
+/// What a file has of the segment that holds an address, from that on, and with which permissions it is loaded.
+pub(crate) fn rest_at<'a>(elf: &'a Elf<'_>, addr: u64) -> Option<(&'a [u8], u32)>
+    ensures low { IfSome result (λ r. addr + length r.0.now < 2 ^ 64) }
+    ensures stands { IfSome result (λ r. HasFrom (image_of elf.now.bytes) addr r.1 r.0.now) }
+{
+    match elf.segment_at(addr) {
+        None => None,
+        Some(segment) => Some((rest_of(elf.file(), &segment, addr), segment.perms())),
+    }
+}
+
 /// These permissions, if `bytes` is the front of `rest`.
 fn perms_of_front(rest: &[u8], bytes: &[u8], perms: u32) -> Option<u32>
     ensures { (m : Bytes) (a : ℕ) → HasFrom m a perms rest.now
@@ -51,10 +62,8 @@ fn perms_of_front(rest: &[u8], bytes: &[u8], perms: u32) -> Option<u32>
 pub(crate) fn stands(elf: &Elf<'_>, addr: u64, bytes: &[u8]) -> Option<u32>
     ensures { IfSome result (λ perms. HasFrom (image_of elf.now.bytes) addr perms bytes.now) }
 {
-    match elf.segment_at(addr) {
+    match rest_at(elf, addr) {
         None => None,
-        Some(segment) => {
-            perms_of_front(rest_of(elf.file(), &segment, addr), bytes, segment.perms())
-        }
+        Some((rest, perms)) => perms_of_front(rest, bytes, perms),
     }
 }

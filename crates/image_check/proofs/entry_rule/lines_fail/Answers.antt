@@ -1,4 +1,4 @@
-use Rattle.std.proofs.Common.{◌↔◌, ◌+◌, false, sym, subst, refl, inl, List, drop, get_or, arith}
+use Rattle.std.proofs.Common.{◌↔◌, false, sym, subst, refl, inl, List, arith, ◌+◌, drop, get_or}
 use Rattle.std.proofs.lemmas.List.{drop_more, drop_all}
 use Rattle.image_check.specs.declared.flat.ReportLine.{ReportLine}
 use Rattle.image_check.specs.Jumps.{AnyLineFails}
@@ -17,12 +17,11 @@ returns-then-line_fails c = λ o.
 pub loop-line-preserved : goal.loop-line-preserved
 loop-line-preserved c = λ o.
     let k = case_of o c.args.patched.now.bytes c.args.starts.now c.args.flat.now in
-    let i = c.loop-line.line-index in
-    let ls = c.args.lines.now in
     let d : ReportLine = record { number = 0; tramp = record { place = 0; start = 0; event = false } } in
-    let P : List ReportLine → Type 0 = λ z. AnyLineFails k c.args.addr z ↔ AnyLineFails k c.args.addr ls in
-    passed k c.args.addr (get_or ls i d) (drop (i + 1) ls) _ c.line_fails.result (c.line_fails.ensures o) c.if-line_fails.false
-    (subst P (drop_more ls i d c.loop-line-test.true) (c.loop-line.invariant o))
+    let P : List ReportLine → Type 0 = λ z. AnyLineFails k c.args.addr z ↔ AnyLineFails k c.args.addr c.args.lines.now in
+    passed k c.args.addr (get_or c.args.lines.now c.loop-line.line-index d) (drop (c.loop-line.line-index + 1) c.args.lines.now) _ c.line_fails.result
+    (c.line_fails.ensures o) c.if-line_fails.false
+    (subst P (drop_more c.args.lines.now c.loop-line.line-index d c.loop-line-test.true) (c.loop-line.invariant o))
 
 pub returns : goal.returns
 returns c = λ o.

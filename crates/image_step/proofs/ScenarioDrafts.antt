@@ -1,24 +1,21 @@
 -- The lines of a draft of a script with deliveries, and the script that it may still be.
-use Rattle.std.proofs.Common.{◌≡◌, ℕ, zero, suc, ◌+◌, ◌-◌, ◌==◌, ◌≤◌, eqb, Bool, true, false, ◌&&◌, cond, List, [], ◌∷◌, ◌++◌, length, map, Option, Some, None, refl, ap, sym, subst, ◌∙◌, arith, append-nil, append_assoc, length-append}
-use Rattle.std.specs.Prelude.{nat_le, nat_lt, option_map, replicate}
+use Rattle.std.proofs.Common.{◌≡◌, ℕ, ◌+◌, ◌-◌, ◌==◌, ◌≤◌, true, ◌&&◌, List, [], ◌∷◌, ◌++◌, length, map, Option, Some, None, refl, ap, sym, subst, ◌∙◌, arith, append-nil, append_assoc, length-append}
+use Rattle.std.specs.Prelude.{nat_le, nat_lt, option_map}
 use Rattle.std.specs.List.{AllByRecursion, flat_map}
 use Rattle.std.proofs.lemmas.Bool.{and_from, and_parts}
 use Rattle.std.proofs.lemmas.Bool.Decides.{nat_tests}
 use Rattle.std.proofs.lemmas.Grind.{flat_map-append}
-use Rattle.std.proofs.lemmas.List.{length-replicate, map-append, map_push}
-use Rattle.list_text.proofs.WordParts.{all_appended}
+use Rattle.std.proofs.lemmas.List.{map_push}
 use Rattle.cpu_state.specs.declared.world.MemWrite.{MemWrite}
 use Rattle.image_step.specs.declared.line.Line.{Line}
 use Rattle.image_step.specs.declared.line.Line.TheVariants as line
 use Rattle.image_step.specs.declared.scenario_line.ScenarioLine.{ScenarioLine}
 use Rattle.image_step.specs.declared.scenario_line.ScenarioLine.TheVariants.{Second, Due as DueLine, Rip, Plain}
-use Rattle.image_step.specs.Grammar.{IsScript, LineHolds}
 use Rattle.image_step.specs.ScenarioReading.{ScenarioDraft, came, due_at, due_with, front, inner, opened, scenario_taken, valued}
-use Rattle.image_step.specs.ScenarioText.{DueValue, HasValues, IsScenario, ScenarioLineHolds, ScenarioValue, ascend_from, due_lines, front_lines, plain, scenario_lines}
-use Rattle.image_step.specs.Spelling.{script_lines, value_lines}
-use Rattle.image_step.specs.Taking.{Draft, blank, done, heads, taken}
-use Rattle.image_step.proofs.DraftLines.{Keeps, all_front, all_push, grown, told, values_push}
-use Rattle.image_step.proofs.Languages.{after}
+use Rattle.image_step.specs.ScenarioText.{DueValue, HasValues, ScenarioLineHolds, ascend_from, due_lines, front_lines, plain}
+use Rattle.image_step.specs.Spelling.{value_lines}
+use Rattle.image_step.specs.Taking.{Draft, heads, taken}
+use Rattle.image_step.proofs.DraftLines.{Keeps, all_push, grown, told, values_push}
 use Rattle.image_step.proofs.LineSpellings.{kept}
 
 -- The lines of deliveries.

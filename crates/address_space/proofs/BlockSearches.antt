@@ -8,10 +8,10 @@ use Rattle.address_space.specs.declared.free_range.FreeRange.{FreeRange}
 use Rattle.address_space.specs.declared.block.Block.{Block}
 use Rattle.address_space.specs.declared.window.Window.{Window}
 use Rattle.address_space.specs.Ranges.{Ascending, PlacesFrom, FitsIn, FitsAmong, EndedFirst}
-use Rattle.address_space.specs.Blocks.{flat, begin}
+use Rattle.address_space.specs.Blocks.{flat, begin, no_range}
 use Rattle.address_space.proofs.RangePlaces.{apart, range_at}
 use Rattle.address_space.proofs.LongestRanges.{greatest_at}
-use Rattle.address_space.proofs.LeastPlaces.{blank, NoneBelow, found_part, none_part}
+use Rattle.address_space.proofs.LeastPlaces.{NoneBelow, found_part, none_part}
 use Rattle.address_space.proofs.BlockLists.{ranges_of, parts, begin_next, begin_most, range_of_block, has_range, ascending_right}
 use Rattle.address_space.proofs.SplitBlocks.{drop_mid}
 
@@ -25,7 +25,7 @@ among w rs k s d h f = record { place = k; below = h; fits = λ e. subst (λ (r 
 
 -- Each place is at or above the window's first step.
 pub all_above : (w : Window) (rs : List FreeRange) → AllAbove w rs w.from
-all_above w rs s f = omega (arith, (f.fits blank).steps.is)
+all_above w rs s f = omega (arith, (f.fits no_range).steps.is)
 
 -- None fits in ranges that end at or below an address that no place is below.
 pub none_under : (w : Window) (rs : List FreeRange) (count low : ℕ) → 0 < w.size → count ≤ length rs → AllAbove w rs low
@@ -71,8 +71,8 @@ short_up_to w blocks next number e from h none short =
 pub none_behind : (w : Window) (rs : List FreeRange) (count : ℕ) → ((k : ℕ) (d : FreeRange) → count ≤ k → k < length rs → w.top ≤ (get_or rs k d).lo) → NoneBelow w rs count → Least (FitsAmong w rs) None
 none_behind w rs count begun none s f =
     elim (cases_lt f.place count) [
-      | inl before ↦ none f.place blank before s (f.fits blank)
-      | inr after ↦ omega (arith, begun f.place blank after f.below, (f.fits blank).inside.0, (f.fits blank).before)
+      | inl before ↦ none f.place no_range before s (f.fits no_range)
+      | inr after ↦ omega (arith, begun f.place no_range after f.below, (f.fits no_range).inside.0, (f.fits no_range).before)
     ]
 
 -- Behind a range that begins there all do.
@@ -138,11 +138,11 @@ module _ (w : Window) (blocks : List Block) (number first low : ℕ) (e : Block)
   pub leaps : (place : ℕ) (d : FreeRange) → NoneBelow w (flat blocks) (begin blocks (number + 1)) → IsLeast (PlacesFrom w (get_or rs (length rs - 1) d).lo) place → AllAbove w (flat blocks) place
   leaps place d passed least s f =
       elim (cases_lt f.place (begin blocks (number + 1))) [
-        | inl before ↦ absurd (passed f.place blank before s (f.fits blank))
+        | inl before ↦ absurd (passed f.place no_range before s (f.fits no_range))
         | inr after ↦
             let some' = has_range (get_or blocks number e) in
             let last : length rs - 1 < length rs = omega (arith, some') in
-            let here = f.fits blank in
+            let here = f.fits no_range in
             let same = ap (λ (r : FreeRange). r.lo) (range_of_block blocks number (length rs - 1) e d within last) in
             let at = begin blocks number + (length rs - 1) in
             let all : at < length (flat blocks) = omega (arith, begin_most blocks (number + 1), next_is, last) in

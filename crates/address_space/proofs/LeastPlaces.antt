@@ -9,6 +9,7 @@ use Rattle.address_space.specs.declared.window.Window.{Window}
 use Rattle.pun_base.specs.Least.{IsLeast, Least}
 use Rattle.address_space.specs.Fit.{IsAway}
 use Rattle.address_space.specs.Ranges.{IsApart, StepsFrom, PlacesFrom, FitsIn, FitsAmong}
+use Rattle.address_space.specs.Blocks.{no_range}
 use Rattle.address_space.proofs.RangePlaces.{apart}
 
 -- The next step is the next place where it is away from what is to be avoided.
@@ -32,27 +33,23 @@ passes w low next past range e l over under p = record {
   ];
 }
 
--- a range of no address, in place of one that isn't there
-abbrev pub blank : FreeRange
-blank = record { lo = 0; hi = 0 }
-
 -- The least place in a range is the least in all where none before it has one.
 pub found_at : (w : Window) (rs : List FreeRange) (k t : ℕ) → IsApart rs → k < length rs
     → ((j : ℕ) (d : FreeRange) → j < k → (s : ℕ) → FitsIn w (get_or rs j d) s → ⊥) → ((d : FreeRange) → IsLeast (FitsIn w (get_or rs k d)) t) → IsLeast (FitsAmong w rs) t
 found_at w rs k t apart h none here = record {
   good = record { place = k; below = h; fits = λ d. (here d).good };
   least = λ s f. elim (cases_lt f.place k) [
-    | inl before ↦ absurd (none f.place blank before s (f.fits blank))
+    | inl before ↦ absurd (none f.place no_range before s (f.fits no_range))
     | inr after ↦ elim (eq-or-lt_of_le after) [
-      | inl same ↦ (here blank).least s (subst (λ j. FitsIn w (get_or rs j blank) s) (sym same) (f.fits blank))
-      | inr behind ↦ omega (arith, apart k f.place blank behind f.below, (here blank).good.inside.1, (f.fits blank).inside.0)
+      | inl same ↦ (here no_range).least s (subst (λ j. FitsIn w (get_or rs j no_range) s) (sym same) (f.fits no_range))
+      | inr behind ↦ omega (arith, apart k f.place no_range behind f.below, (here no_range).good.inside.1, (f.fits no_range).inside.0)
     ]
   ];
 }
 
 -- There is none where no range has one.
 pub found_none : (w : Window) (rs : List FreeRange) → ((j : ℕ) (d : FreeRange) → j < length rs → (s : ℕ) → FitsIn w (get_or rs j d) s → ⊥) → Least (FitsAmong w rs) None
-found_none w rs none s f = none f.place blank f.below s (f.fits blank)
+found_none w rs none s f = none f.place no_range f.below s (f.fits no_range)
 
 -- No range below a place has one.
 abbrev pub NoneBelow : Window → List FreeRange → ℕ → Type 0
@@ -89,10 +86,10 @@ found_part w rs at next t apart h l none here =
     record {
       good = record { place = found.0; below = omega (arith, found.1); fits = found.2 };
       least = λ s f. elim (cases_lt f.place at) [
-        | inl before ↦ absurd (none f.place blank before s (f.fits blank))
+        | inl before ↦ absurd (none f.place no_range before s (f.fits no_range))
         | inr after ↦ elim (cases_lt f.place next) [
           | inl inside ↦ here.least s (in_part w rs at next f.place s after inside l f.fits)
-          | inr behind ↦ omega (arith, apart found.0 f.place blank (omega (arith, found.1)) f.below, (found.2 blank).inside.1, (f.fits blank).inside.0)
+          | inr behind ↦ omega (arith, apart found.0 f.place no_range (omega (arith, found.1)) f.below, (found.2 no_range).inside.1, (f.fits no_range).inside.0)
         ]
       ];
     }
@@ -107,4 +104,4 @@ none_part w rs at next l none here j d less s f =
 
 -- None fits where the window ends before it begins.
 pub none_late : (w : Window) (rs : List FreeRange) → w.top ≤ w.from → Least (FitsAmong w rs) None
-none_late w rs late s f = let here = f.fits blank in omega (arith, here.before, here.steps.is)
+none_late w rs late s f = let here = f.fits no_range in omega (arith, here.before, here.steps.is)

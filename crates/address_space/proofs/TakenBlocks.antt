@@ -5,8 +5,8 @@ use Rattle.std.proofs.lemmas.List.{get_or_default}
 use Rattle.address_space.specs.declared.free_range.FreeRange.{FreeRange}
 use Rattle.address_space.specs.declared.block.Block.{Block}
 use Rattle.address_space.specs.Free.{SpaceState, IsFree}
-use Rattle.address_space.specs.Ranges.{Ascending, LiesAmong, EndedFirst, IsTaken}
-use Rattle.address_space.specs.Blocks.{flat, begin, no_range, BlocksEnded}
+use Rattle.address_space.specs.Ranges.{Ascending, LiesAmong, EndedFirst}
+use Rattle.address_space.specs.Blocks.{flat, begin, no_range, BlocksEnded, StandsAt}
 use Rattle.address_space.proofs.Gaps.{free_is}
 use Rattle.address_space.proofs.RangePlaces.{place_of}
 use Rattle.address_space.proofs.SplitRanges.{state_of, place_is}
@@ -71,30 +71,12 @@ module _ (blocks : List Block) (lo n number : ℕ) (some : 1 ≤ n) (lies : Lies
             let at : k ≡ begin blocks number + (k - begin blocks number) = omega (arith, after) in
             ap (λ i. (get_or (flat blocks) i d).hi) at ∙ ap (λ (r : FreeRange). r.hi) (range_of_block blocks number (k - begin blocks number) e d within inside)
 
--- What was seen of blocks holds of them.
-pub parted_as : (blocks seen : List Block) (lo from number : ℕ) → seen ≡ blocks → from ≡ lo → BlocksEnded seen from number → BlocksEnded blocks lo number
-parted_as blocks seen lo from number same is parted = subst (λ (a : ℕ). BlocksEnded blocks a number) is (subst (λ (bs : List Block). BlocksEnded bs from number) same parted)
-
--- And of ranges.
-pub ended_as : (rs seen : List FreeRange) (lo from place : ℕ) → seen ≡ rs → from ≡ lo → EndedFirst seen from place → EndedFirst rs lo place
-ended_as rs seen lo from place same is ended = subst (λ (a : ℕ). EndedFirst rs a place) is (subst (λ (xs : List FreeRange). EndedFirst xs from place) same ended)
-
--- Where a range that is free in a space stands in its blocks.
-pub record StandsAt (blocks : List Block) (number place lo hi : ℕ) : Type 0 where
-  pub within : number < length blocks
-  pub place_within : (d : Block) → place < length (ranges_of (get_or blocks number d))
-  pub taken : IsTaken (flat blocks) (begin blocks number + place) lo hi
-
-module _ (blocks : List Block) (state : SpaceState) (spare number lo hi : ℕ) (view : state_of (flat blocks) spare ≡ state) (up : Ascending 0x20000 (flat blocks)) (less : lo < hi)
-    (free : IsFree state.taken lo (hi - lo)) (parted : BlocksEnded blocks lo number) where
-  lies : LiesAmong (flat blocks) lo (hi - lo)
-  lies = lies_in (flat blocks) state spare lo (hi - lo) view up (omega (arith, less)) free
-
-  -- It stands in the block behind those that end at or below it.
+module _ (blocks : List Block) (number lo hi : ℕ) (up : Ascending 0x20000 (flat blocks)) (less : lo < hi) (lies : LiesAmong (flat blocks) lo (hi - lo)) (parted : BlocksEnded blocks lo number) where
+  -- A range lies in the block behind those that end at or below it.
   pub in_block : number < length blocks
   in_block = within blocks lo (hi - lo) number (omega (arith, less)) lies parted
 
-  -- There in the range behind those that end at or below it.
+  -- It is a part there of the range behind those that end at or below it.
   pub stands_at : (place : ℕ) (e : Block) → EndedFirst (ranges_of (get_or blocks number e)) lo place → StandsAt blocks number place lo hi
   stands_at place e ended = record {
     within = in_block;

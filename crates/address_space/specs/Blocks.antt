@@ -3,6 +3,7 @@ use Rattle.std.specs.Prelude.{ℕ, ◌+◌, ◌-◌, ◌<◌, ◌≤◌, ◌⊎�
 use Rattle.std.specs.List.{flat_map}
 use Rattle.address_space.specs.declared.free_range.FreeRange.{FreeRange}
 use Rattle.address_space.specs.declared.block.Block.{Block}
+use Rattle.address_space.specs.Ranges.{IsTaken}
 
 -- The ranges of all blocks.
 abbrev pub flat : List Block → List FreeRange
@@ -43,3 +44,9 @@ BlocksBegun blocks addr count = (k : ℕ) (d : FreeRange) → begin blocks count
 abbrev pub LeavesSome : List FreeRange → ℕ → ℕ → ℕ → Type 0
 LeavesSome ranges place lo hi =
     (2 ≤ length ranges) ⊎ ((d : FreeRange) → ((slice_index_or ranges place d).lo < lo) ⊎ (hi < (slice_index_or ranges place d).hi))
+
+-- A range is taken from the free range at a place in the block with a number.
+pub record StandsAt (blocks : List Block) (number place lo hi : ℕ) : Type 0 where
+  pub within : number < length blocks
+  pub place_within : (d : Block) → place < length (slice_index_or blocks number d).ranges.items
+  pub taken : IsTaken (flat blocks) (begin blocks number + place) lo hi

@@ -1,15 +1,17 @@
 //! The list of blocks: made, changed and searched by address.
-ghost use Rattle.std.specs.Prelude.{◌≡◌, ℕ, ◌+◌, ◌*◌, ◌^◌, ◌<◌, ◌≤◌, ◌++◌, length, take, drop, slice_index_or, vec_len, vec_capacity, IfOk, MatchOption};
-ghost use Rattle.address_space.specs.Ranges.{Ascending, IsPlaceAmong, IsSmall, left_of};
+ghost use Rattle.std.specs.Prelude.{◌≡◌, ℕ, ◌+◌, ◌-◌, ◌*◌, ◌^◌, ◌<◌, ◌≤◌, ◌++◌, length, take, drop, slice_index_or, vec_len, vec_capacity, IfOk, MatchOption};
+ghost use Rattle.address_space.specs.Ranges.{Ascending, IsPlaceAmong, IsSmall, LiesAmong, left_of};
 ghost use Rattle.address_space.specs.Marks.{MarksMore};
-ghost use Rattle.address_space.specs.Blocks.{flat, begin, ranges_if, BlocksEnded, BlocksBegun, LeavesSome, low_of, high_of};
+ghost use Rattle.address_space.specs.Blocks.{flat, begin, ranges_if, BlocksEnded, BlocksBegun, LeavesSome, StandsAt, low_of, high_of};
 
 use crate::blank_block::{BlankBlock, ROOM};
 use crate::block::Block;
 use crate::free_range::FreeRange;
 use crate::marked_places::mark_ranges;
 use crate::ranges::{longest_of, split};
+use crate::search::count_ended;
 use crate::window::Window;
+use pun_base::blanks::Blank;
 use pun_base::range::Range;
 use std::alloc::{AllocError, Global};
 
@@ -24,7 +26,7 @@ pub fn blocks_of(alloc: Global, ranges: &[FreeRange]) -> Result<Vec<Block>, Allo
     let mut rest = ranges;
     while !rest.is_empty() {
         let (first, behind) = rest.split_at(rest.len().min(HALF));
-        blocks.push(BlankBlock::new(alloc)?.filled(first))?;
+        blocks.push(BlankBlock::blank(alloc)?.filled(first))?;
         rest = behind;
     }
     Ok(blocks)
@@ -60,6 +62,18 @@ pub fn blocks_begun(blocks: &[Block], addr: u64) -> usize
     ensures parted { BlocksBegun blocks.now addr result }
 {
     blocks.partition_point(|block| u64::from(low_of(block)) < addr)
+}
+
+/// The number of the block in which a range lies, and the place there of the free range that it is a part of.
+pub fn block_place(blocks: &[Block], range: Range) -> (usize, usize)
+    requires ascending { Ascending 0x20000 (flat blocks.now) }
+    requires lies { LiesAmong (flat blocks.now) range.lo (range.hi - range.lo) }
+    ensures { StandsAt blocks.now result.0 result.1 range.lo range.hi }
+{
+    let lo = range.lo as u64;
+    let number = blocks_ended(blocks, lo);
+    let place = count_ended(&blocks[number].ranges, lo);
+    (number, place)
 }
 
 /// Takes a range out of one of a block, of which it is a part. Where the block has no more room then, its upper half becomes

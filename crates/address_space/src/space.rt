@@ -5,14 +5,15 @@ ghost use Rattle.pun_base.specs.Least.{Least};
 ghost use Rattle.address_space.specs.Marks.{MarksMore};
 ghost use Rattle.address_space.specs.Fit.{Fits, FitsStep, FitsNear, FitsAside, FitsPages};
 
-use crate::blank_block::{BlankBlock, prepare};
+use crate::blank_block::BlankBlock;
 use crate::block::Block;
-use crate::blocks::{blocks_ended, blocks_of, mark_blocks, take_out};
+use crate::blocks::{block_place, blocks_of, mark_blocks, take_out};
 use crate::extent::Extent;
 use crate::marked_places::shift_of;
 use crate::ranges::free_beside;
-use crate::search::{count_ended, least};
+use crate::search::least;
 use crate::window::{Window, start, top};
+use pun_base::blanks::prepare;
 use pun_base::limits::{ADDRESS_END, ORIGINAL_LOW, PAGE_LEN};
 use pun_base::range::Range;
 use std::alloc::{AllocError, Global};
@@ -80,9 +81,7 @@ impl Space {
             ↔ (IsFree self.old.taken t n × Misses t n (extent_of range)) }
         ensures spare { self.old.spare ≤ self.new.spare + 1 }
     {
-        let lo = u64::from(range.lo);
-        let number = blocks_ended(&self.blocks, lo);
-        let place = count_ended(&self.blocks[number].ranges, lo);
+        let (number, place) = block_place(&self.blocks, range);
         take_out(&mut self.blocks, &mut self.blank, number, place, range);
     }
 

@@ -6,6 +6,7 @@ use crate::blank_page::BlankPage;
 use crate::lock::Lock;
 use crate::page::Page;
 use crate::pages;
+use pun_base::blanks::prepare;
 use std::alloc::{AllocError, Global};
 use std::marker::Model;
 
@@ -52,7 +53,7 @@ impl Locks {
         ensures refused { OnErr result (self.new ≡ self.old) }
     {
         self.pages.reserve(n as usize)?;
-        pages::prepare(&mut self.blank, alloc, n as usize)
+        prepare(&mut self.blank, alloc, n as usize)
     }
 
     /// The lock of the byte at `addr`.

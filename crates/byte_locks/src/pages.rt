@@ -1,5 +1,5 @@
 //! Pages of locks in ascending order.
-ghost use Rattle.std.specs.Prelude.{◌≡◌, ℕ, ◌+◌, ◌≤◌, length, vec_len, vec_capacity, max, MatchResult, IfErr, OnOk, OnErr};
+ghost use Rattle.std.specs.Prelude.{◌≡◌, ℕ, ◌+◌, ◌≤◌, length, vec_len, vec_capacity, MatchResult, IfErr};
 ghost use Rattle.byte_locks.specs.Locking.{with_lock, punned};
 ghost use Rattle.byte_locks.specs.Pages.{lock_among, Ascending, count_lower, HasNumber, IsMissing};
 
@@ -7,7 +7,6 @@ use crate::blank_page::BlankPage;
 use crate::lock::Lock;
 use crate::page::Page;
 use pun_base::limits::PAGE_LEN;
-use std::alloc::{AllocError, Global};
 
 /// How many pages have lower numbers; these come first.
 fn count_before(pages: &[Page], number: u32) -> usize
@@ -92,34 +91,4 @@ pub(crate) fn pun(pages: &mut Vec<Page>, blank: &mut Vec<BlankPage>, addr: u32)
 {
     let place = place_page(pages, blank, addr / PAGE_LEN);
     pages[place].pun((addr % PAGE_LEN) as usize);
-}
-
-/// Makes blank pages until there are so many.
-fn fill(blank: &mut Vec<BlankPage>, alloc: Global, count: usize) -> Result<(), AllocError>
-    ensures enough { OnOk result (count ≤ vec_len blank.new) }
-    ensures least { vec_len blank.old ≤ vec_len blank.new }
-    ensures most { vec_len blank.new ≤ max count (vec_len blank.old) }
-{
-    for _ in blank.len()..count {
-        blank.push(BlankPage::new(alloc)?)?;
-    }
-    Ok(())
-}
-
-/// Makes blank pages until there are so many, or keeps as many as there were.
-pub(crate) fn prepare(
-    blank: &mut Vec<BlankPage>,
-    alloc: Global,
-    count: usize,
-) -> Result<(), AllocError>
-    ensures enough { OnOk result (count ≤ vec_len blank.new) }
-    ensures most { vec_len blank.new ≤ max count (vec_len blank.old) }
-    ensures refused { OnErr result (vec_len blank.new ≡ vec_len blank.old) }
-{
-    let kept = blank.len();
-    let filled = fill(blank, alloc, count);
-    if filled.is_err() {
-        blank.truncate(kept);
-    }
-    filled
 }

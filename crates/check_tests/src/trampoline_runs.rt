@@ -2,24 +2,17 @@
 //!
 //! A file has an instruction at 0x401000, with HLT all around it, and its trampoline at 0x21000. It is run from the one and from the other
 //! under one script, until an instruction ends the run or no code stands.
-ghost use Rattle.std.specs.Prelude.{◌≡◌, true};
-ghost use Rattle.pun_base.specs.Actions.{IsAction};
-
 use crate::patched_files::{Load, file_of, put, put_number};
-use code_bytes::code::Code;
 use cpu_state::script::Script;
 use cpu_state::state::State;
 use elf_read::elf::read_elf;
 use elf_read::header::E_ENTRY;
-use image_step::reading::read_world;
 use image_step::runner::Runner;
-use insn_form::classify;
-use length_decode::{Shape, decode};
+use parts_of_tests::scripts::script_with;
+use parts_of_tests::trampolines::trampoline_of;
 use pun_base::action::{Action, Base, CompareOp, Comparison, Comparisons};
-use relocate_insn::NotRelocatable;
 use std::alloc::{AllocError, Global};
 use std::test::Fail;
-use trampoline::{Event, build};
 
 /// The private range, the trampoline's page and the text.
 const LOADS: [Load; 3] = [
@@ -28,28 +21,28 @@ const LOADS: [Load; 3] = [
     (5, 0x3000, 0x40_1000, 0x1000),
 ];
 
-/// The values at the start, of which rbx names 8 bytes below rsp, and the stack: 0x401010 at rbx and 0x401018 at rsp.
-const START: &str = "e9world 1\n\
-    rax 0123456789abcdef\n\
-    rcx 0000000000000002\n\
-    rdx 0000000000000003\n\
-    rbx 0000000000600ef8\n\
-    rsp 0000000000600f00\n\
-    rbp 0000000000000006\n\
-    rsi 0000000000000007\n\
-    rdi 0000000000000008\n\
-    r8 0000000000000009\n\
-    r9 000000000000000a\n\
-    r10 000000000000000b\n\
-    r11 000000000000000c\n\
-    r12 000000000000000d\n\
-    r13 000000000000000e\n\
-    r14 000000000000000f\n\
-    r15 ffffffffffffffff\n\
-    flags 0000000000000247\n\
-    fs 0000000000001000\n\
-    gs 0000000000002000\n\
-    zero 0000000000600000 0000000000600ef8 rw-\n\
+/// The general registers at the start, of which rbx names 8 bytes below rsp.
+const REGS: [u64; 16] = [
+    0x0123_4567_89ab_cdef,
+    2,
+    3,
+    0x60_0ef8,
+    0x60_0f00,
+    6,
+    7,
+    8,
+    9,
+    10,
+    11,
+    12,
+    13,
+    14,
+    15,
+    u64::MAX,
+];
+
+/// The stack at the start: 0x401010 at rbx and 0x401018 at rsp.
+const STACK: &str = "zero 0000000000600000 0000000000600ef8 rw-\n\
     bytes 0000000000600ef8 rw- 10104000000000001810400000000000\n\
     zero 0000000000600f08 0000000000601000 rw-\n";
 
@@ -176,36 +169,6 @@ const EVENTS: [Recorded; 6] = [
     ),
 ];
 
-/// Whether an action is one that the rows ask for, with no more than one comparison.
-fn is_asked_for(action: Action) -> bool
-    ensures { result ≡ true → IsAction action }
-{
-    match action {
-        Action::Cover | Action::Count => true,
-        Action::Ring { len } => 1 <= len && len <= 65536,
-        Action::When { list, .. } => match list {
-            Comparisons::One(a) => a.reg < 16 && a.value < 0x8000_0000,
-            Comparisons::Two(..) | Comparisons::Three(..) => false,
-        },
-    }
-}
-
-/// The trampoline at 0x21000 of the one instruction that the bytes spell at 0x401000, for site 1 and a private range at 0x20000.
-fn trampoline_of(bytes: &[u8], action: Option<Action>) -> Option<Result<Code, NotRelocatable>> {
-    let event = match action {
-        None => None,
-        Some(action) if is_asked_for(action) => Some(Event { action, number: 1 }),
-        Some(_) => return None,
-    };
-    match decode(bytes) {
-        Shape::Known(parts) if usize::from(parts.len) == bytes.len() => {
-            let insn = classify(&parts, bytes);
-            Some(build(&insn, bytes, 0x40_1000, 0x2_1000, event, 0x2_0000))
-        }
-        _ => None,
-    }
-}
-
 /// The file with an instruction and its trampoline, which begins at one of them.
 fn image(alloc: Global, entry: u64, insn: &[u8], code: &[u8]) -> Result<Vec<u8>, AllocError> {
     let mut file = file_of(alloc, 0x4000, 64, &LOADS)?;
@@ -218,11 +181,13 @@ fn image(alloc: Global, entry: u64, insn: &[u8], code: &[u8]) -> Result<Vec<u8>,
 
 /// The start with these entries.
 fn script_of(alloc: Global, entries: &str) -> Result<Script, Fail> {
-    let text = format!(in alloc; "{START}{entries}end\n")?;
-    if text.len() >= 100_000 {
-        return Ok(Script::zero(alloc));
-    }
-    Ok(read_world(alloc, text.as_bytes())?)
+    let lines = format!(in alloc; "{STACK}{entries}end\n")?;
+    let mut script = script_with(alloc, 0, lines.as_str())?;
+    script.regs = REGS;
+    script.flags = 0x247;
+    script.fs = 0x1000;
+    script.gs = 0x2000;
+    Ok(script)
 }
 
 /// Whether both stacks hold the same from 0x600E00 on.
@@ -252,7 +217,7 @@ fn has_data(state: &State, data: [u64; 2]) -> bool {
 fn agrees(alloc: Global, row: Row, recorded: Recorded) -> Result<bool, Fail> {
     let (_, insn, entries, target) = row;
     let (action, data) = recorded;
-    let Some(Ok(code)) = trampoline_of(insn, action) else {
+    let Some(Ok(code)) = trampoline_of(insn, 0x40_1000, 0x2_1000, 1, action) else {
         return Ok(false);
     };
     let script = script_of(alloc, entries)?;

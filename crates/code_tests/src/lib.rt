@@ -1,6 +1,6 @@
 //! The code that a patch adds, by public calls, against an assembler and against codes worked out by hand.
 //!
-//! Stands on `relocate_insn`, `cond_action` and `trampoline`; nothing stands on it.
+//! Stands on `relocate_insn`, `cond_action`, `trampoline` and `parts_of_tests`; nothing stands on it.
 #![tactic(auto)]
 
 #[cfg(test)]

@@ -2,8 +2,8 @@
 mod moved;
 
 use code_bytes::code::Code;
-use insn_form::classify;
-use length_decode::{Shape, decode};
+use insn_form::whole_form;
+use parts_of_tests::trampolines::is_code;
 use relocate_insn::{NotRelocatable, relocate};
 
 /// The code at `to` of the one instruction that the bytes spell at `from`, for a private range at 0x20000.
@@ -11,21 +11,8 @@ fn relocated(bytes: &[u8], from: u32, to: u32) -> Option<Result<Code, NotRelocat
     if 0x7FFF_0000 < u64::from(from) + bytes.len() as u64 || 0x7FFF_0080 <= to {
         return None;
     }
-    match decode(bytes) {
-        Shape::Known(parts) if usize::from(parts.len) == bytes.len() => {
-            let insn = classify(&parts, bytes);
-            Some(relocate(&insn, bytes, from, to, 0x20000))
-        }
-        _ => None,
-    }
-}
-
-/// Whether the code has these bytes, and falls through or not.
-fn is_code(code: Option<Result<Code, NotRelocatable>>, bytes: &[u8], falls: bool) -> bool {
-    match code {
-        Some(Ok(code)) => code.bytes.as_slice() == bytes && code.falls == falls,
-        Some(Err(_)) | None => false,
-    }
+    let insn = whole_form(bytes)?;
+    Some(relocate(&insn, bytes, from, to, 0x20000))
 }
 
 #[test]

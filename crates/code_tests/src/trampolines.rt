@@ -1,58 +1,8 @@
 //! Whole trampolines.
-ghost use Rattle.std.specs.Prelude.{◌≡◌, true};
-ghost use Rattle.pun_base.specs.Actions.{IsAction};
-
-use code_bytes::code::Code;
-use insn_form::classify;
-use length_decode::{Shape, decode};
+use insn_form::whole_form;
+use parts_of_tests::trampolines::{is_code, trampoline_of};
 use pun_base::action::{Action, Base, CompareOp, Comparison, Comparisons};
-use relocate_insn::NotRelocatable;
-use trampoline::{Event, build, event_size, size};
-
-/// Whether an action is one that the rows ask for, with no more than one comparison.
-fn is_asked_for(action: Action) -> bool
-    ensures { result ≡ true → IsAction action }
-{
-    match action {
-        Action::Cover | Action::Count => true,
-        Action::Ring { len } => 1 <= len && len <= 65536,
-        Action::When { list, .. } => match list {
-            Comparisons::One(a) => a.reg < 16 && a.value < 0x8000_0000,
-            Comparisons::Two(..) | Comparisons::Three(..) => false,
-        },
-    }
-}
-
-/// The trampoline at `place` of the one instruction that the bytes spell, for site 0 and a private range at 0x20000.
-fn tramp(
-    bytes: &[u8],
-    from: u32,
-    place: u32,
-    action: Option<Action>,
-) -> Option<Result<Code, NotRelocatable>> {
-    if 0x7000_0000 < from || 0x7000_0000 < place {
-        return None;
-    }
-    let event = match action {
-        None => None,
-        Some(action) if is_asked_for(action) => Some(Event { action, number: 0 }),
-        Some(_) => return None,
-    };
-    match decode(bytes) {
-        Shape::Known(parts) if usize::from(parts.len) == bytes.len() => {
-            let insn = classify(&parts, bytes);
-            Some(build(&insn, bytes, from, place, event, 0x20000))
-        }
-        _ => None,
-    }
-}
-
-fn has_bytes(code: Option<Result<Code, NotRelocatable>>, bytes: &[u8]) -> bool {
-    match code {
-        Some(Ok(code)) => code.bytes.as_slice() == bytes && !code.falls,
-        Some(Err(_)) | None => false,
-    }
-}
+use trampoline::{Event, event_size, size};
 
 /// The bytes of an instruction, its address, the place of its trampoline, the event's action, and the trampoline's bytes.
 type Row = (&'static [u8], u32, u32, Option<Action>, &'static [u8]);
@@ -169,7 +119,7 @@ const ROWS: [Row; 8] = [
 fn whole_trampolines(rt: HostRuntime) {
     for (bytes, from, place, action, want) in ROWS {
         assert!(rt;
-            has_bytes(tramp(bytes, from, place, action), want),
+            is_code(trampoline_of(bytes, from, place, 0, action), want, false),
             "{bytes:?}"
         );
     }
@@ -181,13 +131,8 @@ fn counting_size(bytes: &[u8]) -> Option<u32> {
         action: Action::Count,
         number: 3,
     };
-    match decode(bytes) {
-        Shape::Known(parts) if usize::from(parts.len) == bytes.len() => {
-            let insn = classify(&parts, bytes);
-            size(&insn, parts.len, 0x401000, Some(event))
-        }
-        _ => None,
-    }
+    let insn = whole_form(bytes)?;
+    size(&insn, bytes.len() as u8, 0x401000, Some(event))
 }
 
 /// Actions, and the bytes of their events.

@@ -3,10 +3,11 @@ use Rattle.std.proofs.Common.{◌≡◌, ℕ, zero, suc, ◌+◌, ◌-◌, ◌*�
 use Rattle.std.proofs.Math.Seq.{drop-cons}
 use Rattle.std.proofs.lemmas.Bool.{and_parts, leb-true, cond-true, cond-false}
 use Rattle.std.proofs.lemmas.Bool.Decides.{nat_tests}
+use Rattle.pun_base.specs.Field.{number_of}
 use Rattle.pun_base.specs.Memory.{Bytes}
 use Rattle.cpu_state.specs.declared.regions.MemoryRegion.{MemoryRegion}
 use Rattle.cpu_state.specs.Bytes.{advanced, allows, byte_of, lacking, number_at, code_at}
-use Rattle.cpu_state.specs.Held.{AreHeld, number_of}
+use Rattle.cpu_state.specs.Held.{AreHeld}
 use Rattle.cpu_state.specs.Numbers.{unless_lacking, loaded}
 use Rattle.cpu_state.specs.Regions.{holds, cell_in, cell_at, Ascending, place_of}
 use Rattle.cpu_state.proofs.RegionCells.{ends_before, found_at}

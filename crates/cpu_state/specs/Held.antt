@@ -1,6 +1,5 @@
--- Bytes that are held one after the other, and their number. Contracts of private functions alone cite it.
--- Numbers are little endian (Intel SDM, volume 1, section 1.3.1).
-use Rattle.std.specs.Prelude.{◌≡◌, ℕ, ◌+◌, ◌*◌, true, List, [], ◌∷◌}
+-- Bytes that are held one after the other. Contracts of private functions alone cite it.
+use Rattle.std.specs.Prelude.{◌≡◌, ℕ, true, List, [], ◌∷◌}
 use Rattle.pun_base.specs.Memory.{Bytes}
 use Rattle.cpu_state.specs.Bytes.{advanced, allows, byte_of}
 
@@ -8,8 +7,3 @@ use Rattle.cpu_state.specs.Bytes.{advanced, allows, byte_of}
 abbrev pub AreHeld : ℕ → Bytes → ℕ → List ℕ → Type 0
 AreHeld p m a [] = Unit {0}
 AreHeld p m a (b ∷ bs) = (allows p (m a) ≡ true) × (byte_of (m a) ≡ b) × AreHeld p m (advanced a 1) bs
-
--- the number of bytes, the lowest first
-abbrev pub number_of : List ℕ → ℕ
-number_of [] = 0
-number_of (b ∷ bs) = b + 256 * number_of bs

@@ -1,8 +1,9 @@
 //! Regions of memory in ascending order, and looking addresses up among them.
 ghost use Rattle.std.specs.Prelude.{◌≡◌, ◌+◌, ◌*◌, ◌^◌, ◌<◌, ◌≤◌, ◌++◌, length, replicate, option_map, IfOk, IfSome};
 ghost use Rattle.arrayvec.specs.ArrayVec.{array_vec_len};
+ghost use Rattle.pun_base.specs.Field.{number_of};
 ghost use Rattle.cpu_state.specs.Bytes.{allows, byte_of, lacking, number_at, put, put_list, put_number, code_at};
-ghost use Rattle.cpu_state.specs.Held.{AreHeld, number_of};
+ghost use Rattle.cpu_state.specs.Held.{AreHeld};
 ghost use Rattle.cpu_state.specs.Adding.{least_met};
 ghost use Rattle.cpu_state.specs.Regions.{holds, cell_at, cell_of, Ascending, begun, extents, place_of};
 

@@ -1,9 +1,9 @@
 //! The instruction that bytes spell.
-ghost use Rattle.std.specs.Prelude.{◌≡◌, Ok};
+ghost use Rattle.std.specs.Prelude.{◌≡◌, ◌≤◌, length, Ok, IsSome, IfSome};
 ghost use Rattle.length_decode.specs.Parse.{parse};
-ghost use Rattle.length_decode.specs.Spelling.{Fields, IsSpelling, BeginsWith};
+ghost use Rattle.length_decode.specs.Spelling.{Fields, IsInstruction, IsSpelling, BeginsWith, spelling};
 ghost use Rattle.insn_form.specs.Filling as filling;
-ghost use Rattle.insn_form.specs.Instruction.{Classifies, insn_of};
+ghost use Rattle.insn_form.specs.Instruction.{Classifies, Spells, insn_of};
 
 use crate::classes::template;
 use crate::constants::extra;
@@ -11,7 +11,7 @@ use crate::form::{AskedForm, Insn, Op, Target};
 use crate::operands::Form;
 use crate::template::Template;
 use cpu_alu::Width;
-use length_decode::Parts;
+use length_decode::{Parts, Shape, decode};
 
 /// The template with its operands.
 #[tactic(auto, unfolding(crate::specs::Filling::filled))]
@@ -143,4 +143,20 @@ pub fn front_form(parts: &Parts, bytes: &[u8]) -> Insn
     ensures { (f : Fields) → parse bytes.now ≡ Ok f → result ≡ insn_of f }
 {
     classify(parts, &bytes[..usize::from(parts.len)])
+}
+
+/// The instruction that bytes spell, where nothing stands behind it.
+pub fn whole_form(bytes: &[u8]) -> Option<Insn>
+    ensures spelled { IfSome result (Spells bytes.now) }
+    ensures any { (f : Fields) → IsInstruction f → bytes.now ≡ spelling f → IsSome result }
+    ensures few { IfSome result (λ _. length bytes.now ≤ 15) }
+{
+    let Shape::Known(parts) = decode(bytes) else {
+        return None;
+    };
+    if usize::from(parts.len) == bytes.len() {
+        Some(classify(&parts, bytes))
+    } else {
+        None
+    }
 }

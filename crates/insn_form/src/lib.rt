@@ -20,7 +20,7 @@ pub mod template;
 pub mod worked;
 
 pub use bits::has_rip;
-pub use classification::{classify, front_form};
+pub use classification::{classify, front_form, whole_form};
 pub use code_bytes::code;
 pub use constants::integer;
 pub use displacing::{displaced_len, falls};

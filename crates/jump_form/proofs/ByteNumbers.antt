@@ -2,12 +2,8 @@
 use Rattle.std.proofs.Common.{◌≡◌, ℕ, zero, suc, ◌+◌, ◌*◌, ◌/◌, ◌%◌, ◌^◌, ◌<◌, List, [], ◌∷◌, ◌++◌, length, replicate, refl, ap, ap₂, ◌∙◌, arith}
 use Rattle.std.proofs.Math.Nat.{pow-suc, mul-add, mul_assoc, mul_comm}
 use Rattle.pun_base.specs.Field.{field}
+pub use Rattle.pun_base.specs.Field.{number_of as number}
 use Rattle.jump_form.specs.Jumps.{AreBytes}
-
--- The number of bytes, the lowest first.
-abbrev pub number : List ℕ → ℕ
-number [] = 0
-number (b ∷ bs) = b + 256 * number bs
 
 -- A field of four bytes holds their number.
 pub field-number : (bs : List ℕ) → length bs ≡ 4 → field 4 0 bs ≡ number bs

@@ -7,6 +7,14 @@ use Rattle.length_decode.specs.Spelling.{Fields, IsFormed}
 abbrev pub near_jump : ℕ → ℕ → ℕ → ℕ → Fields
 near_jump a b c d = record { prefixes = []; escape = OneByte; opcode = 0xe9; modrm = None; sib = None; disp = []; imm = a ∷ b ∷ c ∷ d ∷ [] }
 
+-- no operation
+abbrev pub no_operation : Fields
+no_operation = record { prefixes = []; escape = OneByte; opcode = 0x90; modrm = None; sib = None; disp = []; imm = [] }
+
+-- SYSCALL
+abbrev pub system_call : Fields
+system_call = record { prefixes = []; escape = TwoByte; opcode = 0x05; modrm = None; sib = None; disp = []; imm = [] }
+
 -- a conditional branch by four bytes, of condition code cc
 abbrev pub near_branch : ℕ → ℕ → ℕ → ℕ → ℕ → Fields
 near_branch cc a b c d = record { prefixes = []; escape = TwoByte; opcode = 0x80 + cc; modrm = None; sib = None; disp = []; imm = a ∷ b ∷ c ∷ d ∷ [] }

@@ -1,6 +1,6 @@
 //! An instruction at the front of a window of at most 15 bytes, read from the front. Beside what was read, each step knows what the
 //! prefix bytes say and how long the window is.
-ghost use Rattle.std.specs.Prelude.{◌≡◌, ◌≤◌, ◌+◌, length, true, None, Err};
+ghost use Rattle.std.specs.Prelude.{◌≡◌, ◌≤◌, ◌+◌, length, None, Err};
 ghost use Rattle.length_decode.specs.Prefix.{lead_of};
 ghost use Rattle.length_decode.specs.Rules as rules;
 ghost use Rattle.length_decode.specs.Spelling.{opcode_at, disp_at};
@@ -8,7 +8,7 @@ ghost use Rattle.length_decode.specs.Parse as parse;
 ghost use Rattle.length_decode.specs.Parse.{shape_from};
 ghost use Rattle.length_decode.specs.Reading.{fields_of};
 
-use crate::byte_tables::{Layout, after_modrm};
+use crate::byte_tables::after_modrm;
 use crate::escape_bytes::{Escape, least_after, row_after};
 use crate::field_bytes::{Fields, Stop, parts};
 use crate::instruction_parts::Shape;
@@ -66,37 +66,6 @@ fn with_tail<'a>(
 }
 
 #[inline(always)]
-fn with_base<'a>(
-    lead: Lead,
-    len: usize,
-    front: Fields<'a>,
-    modrm: u8,
-    layout: Layout,
-    imm: usize,
-    rest: &'a [u8],
-) -> Shape
-    requires window { len ≤ 15 }
-    requires known { lead ≡ lead_of front.prefixes.now }
-    requires no_sib { front.sib ≡ None }
-    requires room { disp_at (fields_of front) + length rest.now ≤ 15 }
-    requires small_imm { imm ≤ 8 }
-    requires layout { layout.disp ≡ rules.disp_size modrm None }
-    requires needed { rules.needs_sib modrm ≡ true }
-    ensures { result ≡ shape_from len (parse.with_base (fields_of front.entry) modrm imm rest.now) }
-{
-    match rest.split_first() {
-        None => stopped(len, Stop::Missing(1 + disp_size(modrm, layout, 0) + imm)),
-        Some((sib, rest)) => {
-            let front = Fields {
-                sib: Some(*sib),
-                ..front
-            };
-            with_tail(lead, len, front, disp_size(modrm, layout, *sib), imm, rest)
-        }
-    }
-}
-
-#[inline(always)]
 fn with_sib<'a>(
     lead: Lead,
     len: usize,
@@ -113,10 +82,18 @@ fn with_sib<'a>(
     ensures { result ≡ shape_from len (parse.with_sib (fields_of front.entry) modrm imm rest.now) }
 {
     let layout = after_modrm(modrm);
-    if layout.sib {
-        with_base(lead, len, front, modrm, layout, imm, rest)
-    } else {
-        with_tail(lead, len, front, usize::from(layout.disp), imm, rest)
+    if !layout.sib {
+        return with_tail(lead, len, front, usize::from(layout.disp), imm, rest);
+    }
+    match rest.split_first() {
+        None => stopped(len, Stop::Missing(1 + disp_size(modrm, layout, 0) + imm)),
+        Some((sib, rest)) => {
+            let front = Fields {
+                sib: Some(*sib),
+                ..front
+            };
+            with_tail(lead, len, front, disp_size(modrm, layout, *sib), imm, rest)
+        }
     }
 }
 

@@ -9,17 +9,13 @@ use Rattle.std.proofs.Math.Numerals.{one-add}
 use Rattle.std.proofs.lemmas.Bool.{and_parts}
 use Rattle.std.proofs.lemmas.Fmt.{decimal_is_IsNumeral}
 use Rattle.std.proofs.lemmas.Bool.Decides.{nat_tests}
+pub use Rattle.pun_base.proofs.JoinedLists.{all_appended}
 use Rattle.list_text.specs.Blanks.{word, later_words}
 use Rattle.list_text.specs.Digits.{digit_in, number_behind, number_in}
 
 -- Bytes that are no blank and no LF.
 abbrev pub IsWord : List ℕ → Type 0
 IsWord cs = AllByRecursion (λ (c : ℕ). 32 < c) cs
-
--- What holds of each element of two lists holds of each of both together.
-pub all_appended : {X : Type 0} (P : X → Type 0) (xs ys : List X) → AllByRecursion P xs → AllByRecursion P ys → AllByRecursion P (xs ++ ys)
-all_appended P [] ys a b = b
-all_appended P (x ∷ xs) ys a b = (a.0, all_appended P xs ys a.1 b)
 
 not_found : (b c : ℕ) → b < c → (c == b) ≡ false
 not_found b c h = grind (arith, nat_tests)

@@ -1,8 +1,9 @@
 //! Groups of pages.
-ghost use Rattle.std.specs.Prelude.{◌≡◌, ◌+◌, ◌<◌, ◌↔◌, IfOk, IfSome, IsSome, length};
+ghost use Rattle.std.specs.Prelude.{◌≡◌, ◌+◌, ◌<◌, ◌↔◌, IfOk, IfSome, IsSome, IsTrue, length};
 ghost use Rattle.std.specs.List.{zip};
 ghost use Rattle.page_group.specs.Pages.{ends_of, is_covered, is_occupied, AreDisjoint, MeetsPage};
 ghost use Rattle.page_group.specs.Grouping.{pages, group_of, group_count, depth_of, IsGrouping};
+ghost use Rattle.page_group.specs.Joining.{IsKept};
 
 use crate::found_pages::found_pages;
 use crate::joining::{count_groups, count_pages, join_pages};
@@ -37,6 +38,20 @@ impl Model for Groups {
     ghost invariant = { λ g. IsKept (ends_of g.pieces.items) g.pages.items g.homes.items g.count };
 }
 
+/// Whether each piece begins at or behind the end of the one before it, so that none meet.
+pub fn ascend(pieces: &[Range]) -> bool
+    ensures { IsTrue result → AreDisjoint (ends_of pieces.now) }
+{
+    let mut end = 0;
+    for piece in pieces {
+        if piece.lo < end {
+            return false;
+        }
+        end = piece.hi;
+    }
+    true
+}
+
 /// Groups the pages that meet the pieces: in ascending order each joins the first group whose pages
 /// so far have no occupied offset in common with it.
 pub fn group(alloc: Global, pieces: &[Range]) -> Result<Groups, AllocError>
@@ -53,16 +68,26 @@ pub fn group_owned(alloc: Global, pieces: Vec<Range>) -> Result<Groups, AllocErr
     ensures pieces { IfOk result (λ g. g.pieces ≡ ends_of pieces.items) }
     ensures grouping { IfOk result (λ g. IsGrouping g.pieces g.homes) }
 {
-    let shown = pieces.as_slice();
-    let pages = found_pages(alloc, shown)?;
-    let homes = join_pages(alloc, shown, &pages)?;
-    let count = count_groups(&homes);
-    Ok(Groups {
+    let (pages, homes, count) = group_pages(alloc, &pieces)?;
+    let groups = Groups {
         pieces,
         pages,
         homes,
         count,
-    })
+    };
+    groups.keeps();
+    Ok(groups)
+}
+
+/// The pages that meet the pieces, the group of each, and how many groups there are.
+fn group_pages(alloc: Global, pieces: &[Range]) -> Result<(Vec<u32>, Vec<u32>, u32), AllocError>
+    requires { AreDisjoint (ends_of pieces.now) }
+    ensures { IfOk result (λ kept. IsKept (ends_of pieces.now) kept.0.items kept.1.items kept.2) }
+{
+    let pages = found_pages(alloc, pieces)?;
+    let homes = join_pages(alloc, pieces, &pages)?;
+    let count = count_groups(&homes);
+    Ok((pages, homes, count))
 }
 
 /// Each page with its group.
@@ -78,6 +103,13 @@ fn zipped(alloc: Global, pages: &[u32], groups: &[u32]) -> Result<Vec<(u32, u32)
 }
 
 impl Groups {
+    /// What is kept is a grouping.
+    fn keeps(&self)
+        ensures { IsGrouping self.now.pieces self.now.homes }
+    {
+        let _pieces = &self.pieces;
+    }
+
     /// The number of groups.
     pub fn count(&self) -> u32
         ensures { result ≡ group_count self.now.homes }
@@ -90,6 +122,7 @@ impl Groups {
         ensures value { result.now ≡ pages self.now.homes }
         ensures grouping { IsGrouping self.now.pieces self.now.homes }
     {
+        self.keeps();
         &self.pages
     }
 
@@ -98,6 +131,7 @@ impl Groups {
         ensures homes { IfOk result (λ v. v.items ≡ self.now.homes) }
         ensures grouping { IsGrouping self.now.pieces self.now.homes }
     {
+        self.keeps();
         zipped(alloc, &self.pages, &self.homes)
     }
 

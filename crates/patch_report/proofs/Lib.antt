@@ -26,3 +26,4 @@ pub mod ReadAnswers
 pub mod FirstRefusedLine
 pub mod OtherVersions
 pub mod FirstByte
+pub mod OutcomeRuns

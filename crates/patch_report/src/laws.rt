@@ -2,17 +2,11 @@
 //! another.
 ghost use Rattle.std.specs.Prelude.{◌≡◌, IfOk};
 ghost use Rattle.patch_report.specs.Answers.{IsReadAs};
-ghost use Rattle.patch_report.specs.Grammar.{IsReport};
-ghost use Rattle.patch_report.specs.Values.{body_of, written};
 ghost use Rattle.patch_report.specs.Bounds.{ReportsAreBounded};
 ghost use Rattle.patch_report.specs.Laws.{LinesAreSpelled, RefusalsAreFirst, ReportsAreExact, VersionsAreNumbers};
 
 use crate::error::ReportError;
-use crate::origin::Origin;
 use crate::report::{Report, read};
-use crate::row::ReportRow;
-use pun_base::action::Action;
-use pun_base::range::Range;
 use std::alloc::Global;
 
 /// A line is read at the front of a text exactly where it may stand in a report and its text and an
@@ -53,19 +47,10 @@ pub fn printed_again(alloc: Global, text: &[u8]) -> Result<Vec<u8>, ReportError>
 }
 
 /// What is printed is read as the report that it was.
-pub fn read_again(
-    alloc: Global,
-    action: Action,
-    private: Range,
-    rows: &[ReportRow],
-    pages: &[(u32, u32)],
-    origin: Origin,
-) -> Result<Report, ReportError>
-    requires { IsReport (written (body_of action private rows.now pages.now) origin) }
-    ensures { IsReadAs (λ r. r) (written (body_of action private rows.now pages.now) origin)
-        result }
+pub fn read_again(alloc: Global, report: &Report) -> Result<Report, ReportError>
+    ensures { IsReadAs (λ r. r) report.now result }
 {
-    let report = Report::new(alloc, action, private, rows, pages, origin)?;
+    report.keeps();
     let text = report.print(alloc)?;
     let again = read(alloc, text.as_slice())?;
     Ok(again)

@@ -1,30 +1,20 @@
 //! The runs of written bytes that a report tells.
 ghost use Rattle.std.specs.Prelude.{◌≡◌, ◌++◌, map, IfOk, OnOk};
 ghost use Rattle.patch_report.specs.Runs.{runs, runs_of};
-ghost use Rattle.patch_report.specs.Values.{outcome_value, row_value, write_value};
+ghost use Rattle.patch_report.specs.Values.{row_value, write_value};
 
 use crate::report::Report;
 use crate::row::ReportRow;
-use pun_base::outcome::Outcome;
 use pun_base::plan::Write;
 use std::alloc::{AllocError, Global};
 
-/// The runs of an outcome.
-fn runs_of(outcome: &Outcome) -> &[Write]
-    ensures { map write_value result.now ≡ runs_of (outcome_value outcome.now) }
-{
-    match outcome {
-        Outcome::Patched(plan) => plan.writes.as_slice(),
-        Outcome::NotRelocatable | Outcome::NoPlan | Outcome::Shared => &[],
-    }
-}
-
 /// Appends the runs of a row.
+#[tactic(auto, using(crate::proofs::OutcomeRuns::runs_written))]
 fn push_runs(runs: &mut Vec<Write>, row: &ReportRow) -> Result<(), AllocError>
     ensures { OnOk result (map write_value runs.new.items
         ≡ map write_value runs.old.items ++ runs_of (row_value row.now).outcome) }
 {
-    for run in runs_of(&row.outcome) {
+    for run in row.outcome.writes() {
         runs.push(run.clone().unwrap())?;
     }
     Ok(())

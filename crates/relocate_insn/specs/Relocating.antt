@@ -1,16 +1,17 @@
 -- Relocated code: what stands at a place for an instruction that stood elsewhere. Theorems cite it.
 -- p is the first address of the private range, whose bytes 0 to 7 and 16 to 23 the code may write, and next is the address behind
 -- the instruction.
-use Rattle.std.specs.Prelude.{◌≡◌, ℕ, ◌+◌, ◌*◌, ◌/◌, ◌%◌, ◌==◌, Bool, true, false, if◌then◌else◌, List, [], ◌∷◌, ◌++◌, length, option_to_list, Some}
+use Rattle.std.specs.Prelude.{ℕ, ◌+◌, ◌*◌, ◌/◌, ◌%◌, ◌==◌, Bool, true, false, if◌then◌else◌, List, [], ◌∷◌, ◌++◌, length, option_to_list, Some}
 use Rattle.length_decode.specs.declared.instruction_parts.Parts.{Parts}
 use Rattle.length_decode.specs.declared.escape_bytes.Escape.TheVariants.{OneByte}
-use Rattle.length_decode.specs.Spelling.{Fields, IsInstruction, spelling, parts_of}
+use Rattle.length_decode.specs.Spelling.{Fields, spelling, parts_of}
 use Rattle.insn_form.specs.declared.form.Target.TheVariants.{Rel, Through}
 use Rattle.insn_form.specs.declared.form.Op.TheVariants.{Jcc, Loop, Jmp, Call}
 use Rattle.insn_form.specs.declared.form.Insn.{Insn}
 use Rattle.insn_form.specs.declared.form.Insn.TheVariants.{Exact, Asked, Ending}
 use Rattle.insn_form.specs.Classes.{has_rip, mod_of, modrm_of}
 use Rattle.insn_form.specs.Instruction.{insn_of}
+pub use Rattle.insn_form.specs.Instruction.{Spells}
 use Rattle.insn_form.specs.Displacing.{goes_to}
 use Rattle.relocate_insn.specs.Pieces.{jump_code, store_rax, load_rax, jump_through, push_code, ecx_code}
 use Rattle.insn_form.specs.Moved.{rel_bytes, named, moved_fields}
@@ -80,10 +81,3 @@ relocated_by Ending p f next place = []
 -- the code at a place for the instruction of these fields
 abbrev pub relocated_code : ℕ → Fields → ℕ → ℕ → List ℕ
 relocated_code p f next place = relocated_by (insn_of f) p f next place
-
--- the bytes spell this instruction
-pub record Spells (bytes : List ℕ) (i : Insn) : Type 0 where
-  pub fields : Fields
-  pub is : IsInstruction fields
-  pub spelled : bytes ≡ spelling fields
-  pub insn : i ≡ insn_of fields

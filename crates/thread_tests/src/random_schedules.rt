@@ -1,9 +1,9 @@
 //! Random schedules of guests of two to four threads, against what a program that steps by the manual alone left after each.
-use crate::schedules::script_with;
 use cpu_alu::pack;
 use cpu_state::script::Script;
 use elf_read::elf::{Elf, read_elf};
 use elf_read::writing::plain_file;
+use parts_of_tests::scripts::script_with;
 use start_entries::starts::ascend;
 use std::alloc::Global;
 use std::process::Abort;

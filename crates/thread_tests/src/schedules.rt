@@ -5,8 +5,9 @@ use cpu_state::script::Script;
 use cpu_step::stop::Stop;
 use elf_read::elf::{read_elf, read_written};
 use elf_read::writing::plain_file;
-use image_step::reading::read_world;
+use image_step::error::ScriptError;
 use image_step::runner_error::RunnerError;
+use parts_of_tests::scripts::script_with;
 use pun_base::memory_desk::MemDesk;
 use start_entries::starts::ascend;
 use std::alloc::Global;
@@ -15,41 +16,8 @@ use std::test::Fail;
 use thread_runs::runner::{ScheduleError, ThreadRunner};
 use thread_runs::starting::only_first_has_regions;
 
-/// The values of a world script, all of them zero.
-const ZEROS: &str = "e9world 1\n\
-    rax 0000000000000000\n\
-    rcx 0000000000000000\n\
-    rdx 0000000000000000\n\
-    rbx 0000000000000000\n\
-    rsp 0000000000000000\n\
-    rbp 0000000000000000\n\
-    rsi 0000000000000000\n\
-    rdi 0000000000000000\n\
-    r8 0000000000000000\n\
-    r9 0000000000000000\n\
-    r10 0000000000000000\n\
-    r11 0000000000000000\n\
-    r12 0000000000000000\n\
-    r13 0000000000000000\n\
-    r14 0000000000000000\n\
-    r15 0000000000000000\n\
-    flags 0000000000000000\n\
-    fs 0000000000000000\n\
-    gs 0000000000000000\n";
-
-/// The script with this value of rsp and all others zero, and with these lines behind the values.
-pub(crate) fn script_with(alloc: Global, rsp: u64, lines: &str) -> Result<Script, Fail> {
-    let text = format!(in alloc; "{ZEROS}{lines}")?;
-    if text.len() >= 100_000 {
-        return Ok(Script::zero(alloc));
-    }
-    let mut script = read_world(alloc, text.as_bytes())?;
-    script.regs[4] = rsp;
-    Ok(script)
-}
-
 /// The script of the first thread, whose stack ends at 0x501000, with these lines behind its values.
-fn first_script(alloc: Global, lines: &str) -> Result<Script, Fail> {
+fn first_script(alloc: Global, lines: &str) -> Result<Script, ScriptError> {
     script_with(alloc, 0x50_1000, lines)
 }
 
@@ -83,7 +51,7 @@ fn count_twice(rt: &impl Abort, runner: &mut ThreadRunner) -> Result<(), Fail> {
     Ok(())
 }
 
-/// Over a file that isn't patched, with the trampoline's code beside it.
+/// Over a file that isn't patched, with the trampoline's code beside it; then a schedule whose second entry names no thread.
 #[test]
 fn two_threads_count(rt: HostRuntime) -> Result<(), Fail> {
     let file = plain_file(rt.alloc(), JUMP)?;
@@ -94,6 +62,10 @@ fn two_threads_count(rt: HostRuntime) -> Result<(), Fail> {
     let mut runner = ThreadRunner::new(rt.alloc(), &elf, &scripts, STARTS)?;
     count_twice(&rt, &mut runner)?;
     assert!(rt; runner.thread(2).is_none());
+    let mut runner = ThreadRunner::new(rt.alloc(), &elf, &scripts, STARTS)?;
+    assert_eq!(rt; runner.run(&[0, 2]), Err(ScheduleError::NoThread { at: 1 }));
+    assert_eq!(rt; runner.thread(0).ok_or("no thread")?.rip, 0x240_1005);
+    assert_eq!(rt; runner.thread(1).ok_or("no thread")?.rip, 0x40_1000);
     Ok(())
 }
 
@@ -118,21 +90,6 @@ fn two_threads_count_in_a_written_file(rt: HostRuntime) -> Result<(), Fail> {
     count_twice(&rt, &mut runner)?;
     assert_eq!(rt; runner.run(&[1, 2]), Err(ScheduleError::NoThread { at: 1 }));
     assert_eq!(rt; runner.thread(1).ok_or("no thread")?.rip, 0x240_1005);
-    Ok(())
-}
-
-/// The second entry names no thread: the step before it stays made.
-#[test]
-fn no_thread(rt: HostRuntime) -> Result<(), Fail> {
-    let file = plain_file(rt.alloc(), JUMP)?;
-    let elf = read_elf(rt.alloc(), &file)?;
-    let first = first_script(rt.alloc(), PATCHED)?;
-    let scripts = [first, further_script(rt.alloc(), 0x50_2000)];
-    assert!(rt; ascend(STARTS) && only_first_has_regions(&scripts));
-    let mut runner = ThreadRunner::new(rt.alloc(), &elf, &scripts, STARTS)?;
-    assert_eq!(rt; runner.run(&[0, 2]), Err(ScheduleError::NoThread { at: 1 }));
-    assert_eq!(rt; runner.thread(0).ok_or("no thread")?.rip, 0x240_1005);
-    assert_eq!(rt; runner.thread(1).ok_or("no thread")?.rip, 0x40_1000);
     Ok(())
 }
 

@@ -1,8 +1,7 @@
 //! Groups of pages that were computed elsewhere.
-ghost use Rattle.std.specs.Prelude.{◌<◌, ◌≤◌, IsTrue};
-ghost use Rattle.page_group.specs.Pages.{ends_of, AreDisjoint};
+ghost use Rattle.std.specs.Prelude.{◌<◌, ◌≤◌};
 
-use page_group::groups::group;
+use page_group::groups::{ascend, group};
 use pun_base::limits::PAGE_LEN;
 use pun_base::range::Range;
 use std::alloc::{AllocError, Global};
@@ -93,20 +92,6 @@ const FIRST_PAGE: u32 = 0x2_0000;
 
 /// How many pages the largest tests have.
 const MANY_PAGES: u32 = 16_384;
-
-/// Whether each piece begins at or behind the end of the one before it, so that none meet.
-fn ascend(pieces: &[Range]) -> bool
-    ensures { IsTrue result → AreDisjoint (ends_of pieces.now) }
-{
-    let mut end = 0;
-    for piece in pieces {
-        if piece.lo < end {
-            return false;
-        }
-        end = piece.hi;
-    }
-    true
-}
 
 /// The next number of a sequence that looks random, below a bound.
 fn draw(state: &mut u32, bound: u32) -> u32

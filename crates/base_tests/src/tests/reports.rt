@@ -54,16 +54,11 @@ const RICH: &str = "e9report 1\n\
     end\n";
 
 /// The worked report in version 2: what the original was stands in front of the action.
-const ORIGINAL: &str = "e9report 2\n\
-    origin 4103 64 1 0000000000401000\n\
-    action cover\n\
-    private 00020000 1\n\
-    sites 1\n\
-    site 00401000 0 B1\n\
-    tramp 00021000 00401000 event\n\
-    write 00401000 b83c000000 e9fbffc1ff\n\
-    page 00021000 0\n\
-    end\n";
+fn worked_with_origin(alloc: Global) -> Result<String, Fail> {
+    let (_, rest) = WORKED.split_once('\n').ok_or("a line")?;
+    let text = format!(in alloc; "e9report 2\norigin 4103 64 1 0000000000401000\n{rest}")?;
+    Ok(text)
+}
 
 /// A site that shares bytes, and numbers at the ends of their ranges.
 const SHARED: &str = "e9report 2\n\
@@ -303,8 +298,9 @@ fn refusal(alloc: Global, text: &[u8]) -> (u32, u32) {
 
 #[test]
 fn origins(rt: HostRuntime) -> Result<(), Fail> {
+    let original = worked_with_origin(rt.alloc())?;
     for (old, new, line) in ORIGINS.iter() {
-        let (front, back) = ORIGINAL.split_once(*old).unwrap_or(("", ""));
+        let (front, back) = original.split_once(*old).unwrap_or(("", ""));
         let text = format!(in rt.alloc(); "{front}{new}{back}")?;
         assert_eq!(rt; refusal(rt.alloc(), text.as_bytes()), (1, *line), "{text}");
     }
@@ -424,7 +420,8 @@ fn worked_origin() -> Origin {
 /// A report of version 2 tells the origin, and else what one of version 1 tells.
 #[test]
 fn original(rt: HostRuntime) -> Result<(), Fail> {
-    let report = read(rt.alloc(), ORIGINAL.as_bytes())?;
+    let text = worked_with_origin(rt.alloc())?;
+    let report = read(rt.alloc(), text.as_bytes())?;
     assert_eq!(rt; report.origin(), Some(worked_origin()));
     assert_eq!(rt; report.action(), Action::Cover);
     assert_eq!(rt; report.row_count(), 1);
@@ -470,7 +467,7 @@ fn without_sites(rt: HostRuntime) -> Result<(), Fail> {
         sites 0\n\
         end\n";
     assert_eq!(rt; text.as_slice(), expected.as_bytes());
-    let again = read_again(rt.alloc(), Action::Count, private, &[], &[], origin)?;
+    let again = read_again(rt.alloc(), &report)?;
     assert_eq!(rt; again.private(), private);
     assert_eq!(rt; again.row_count(), 0);
     Ok(())
@@ -494,7 +491,8 @@ fn actions(rt: HostRuntime) -> Result<(), Fail> {
 #[test]
 fn texts_come_back(rt: HostRuntime) -> Result<(), Fail> {
     let empty = "e9report 1\naction cover\nprivate 7ffef000 1\nsites 0\nend\n";
-    for text in [WORKED, RICH, ORIGINAL, SHARED, empty] {
+    let original = worked_with_origin(rt.alloc())?;
+    for text in [WORKED, RICH, original.as_str(), SHARED, empty] {
         let printed = printed_again(rt.alloc(), text.as_bytes())?;
         assert_eq!(rt; printed.as_slice(), text.as_bytes());
     }

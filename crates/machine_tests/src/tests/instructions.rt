@@ -2,22 +2,10 @@
 mod classes;
 mod disassembled;
 
-use insn_form::classify;
 use insn_form::code::{Code, CodeBytes};
-use insn_form::form::Insn;
-use length_decode::{Shape, decode};
+use insn_form::whole_form;
 use std::alloc::Global;
 use std::test::Fail;
-
-/// The instruction that the bytes spell, if they spell one.
-fn insn_of(bytes: &[u8]) -> Option<Insn> {
-    match decode(bytes) {
-        Shape::Known(parts) if usize::from(parts.len) == bytes.len() => Some(classify(
-            &parts, bytes,
-        )),
-        _ => None,
-    }
-}
 
 /// Whether a line has the bytes of an instruction and then this instruction.
 fn agrees(alloc: Global, line: &str) -> Result<bool, Fail> {
@@ -25,7 +13,7 @@ fn agrees(alloc: Global, line: &str) -> Result<bool, Fail> {
         return Ok(false);
     };
     let bytes = hex::decode(alloc, bytes)?;
-    let Some(insn) = insn_of(&bytes) else {
+    let Some(insn) = whole_form(&bytes) else {
         return Ok(false);
     };
     let told = format!(in alloc; "{insn:?}")?;

@@ -3,7 +3,6 @@ ghost use Rattle.std.specs.Prelude.{◌≡◌, ◌≤◌, true};
 ghost use Rattle.std.specs.List.Sorted.{IsStrictlyIncreasing};
 ghost use Rattle.image_step.specs.Scheduled.{rise};
 
-use crate::tests::runs::script_with;
 use cpu_alu::unpack;
 use cpu_state::page_list::PageList;
 use cpu_state::script::Script;
@@ -15,6 +14,7 @@ use elf_read::writing::plain_file;
 use image_step::delivering::rise;
 use image_step::delivery::{Delivery, Due, DueEnd, Halted};
 use image_step::runner::Runner;
+use parts_of_tests::scripts::script_with;
 use start_entries::starts::ascend;
 use std::alloc::Global;
 use std::test::Fail;

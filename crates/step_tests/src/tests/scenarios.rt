@@ -7,7 +7,7 @@ use std::process::Abort;
 use std::test::Fail;
 
 /// Nineteen values, of a delivery or of a script.
-const VALUES: &str = "rax 0000000000000001\n\
+pub(crate) const VALUES: &str = "rax 0000000000000001\n\
     rcx 0000000000000002\n\
     rdx 0000000000000003\n\
     rbx 0000000000000004\n\
@@ -110,16 +110,21 @@ const HOSTILE: [Case; 38] = [
     ("end\n", "end\ndue ffffffffffffffff\n", 93),
 ];
 
+/// The refused line of what was read, or 0.
+pub(crate) fn refused_line<S>(read: &Result<S, ScriptError>) -> u32 {
+    match read {
+        Ok(_) => 0,
+        Err(ScriptError::BadScript { line }) => *line,
+        Err(ScriptError::Memory) => 1_000_000,
+    }
+}
+
 /// The refused line of a text, or 0.
 pub(crate) fn refusal(alloc: Global, text: &[u8]) -> u32 {
     if text.len() >= 1_000_000 {
         return 0;
     }
-    match read_scenario(alloc, text) {
-        Ok(_) => 0,
-        Err(ScriptError::BadScript { line }) => line,
-        Err(ScriptError::Memory) => 1_000_000,
-    }
+    refused_line(&read_scenario(alloc, text))
 }
 
 #[test]

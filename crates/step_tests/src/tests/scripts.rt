@@ -1,34 +1,11 @@
 //! Scripts whose values and whose first refused lines are known from elsewhere.
-use crate::tests::scenarios;
+use crate::tests::scenarios::{self, VALUES, refused_line};
 use cpu_state::script::Script;
 use cpu_state::script_regions::RegionBody;
-use image_step::error::ScriptError;
 use image_step::reading::read_world;
 use std::alloc::Global;
 use std::process::Abort;
 use std::test::Fail;
-
-/// The values at a start, each by its line.
-const HEAD: &str = "e9world 1\n\
-    rax 0000000000000001\n\
-    rcx 0000000000000002\n\
-    rdx 0000000000000003\n\
-    rbx 0000000000000004\n\
-    rsp 7ffffffffffffff8\n\
-    rbp 0000000000000006\n\
-    rsi 0000000000000007\n\
-    rdi 0000000000000008\n\
-    r8 0000000000000009\n\
-    r9 000000000000000a\n\
-    r10 000000000000000b\n\
-    r11 000000000000000c\n\
-    r12 000000000000000d\n\
-    r13 000000000000000e\n\
-    r14 000000000000000f\n\
-    r15 ffffffffffffffff\n\
-    flags 0000000000000246\n\
-    fs 0000000000001000\n\
-    gs 0000000000002000\n";
 
 /// A line of each kind behind the values: regions from line 21 on, entries from line 26 on.
 const RICH: &str = "zero 0000000000001000 0000000000002000 rw-\n\
@@ -92,7 +69,7 @@ const HOSTILE: [Case; 90] = [
         "r15 ffffffffffffffff\nr16 ffffffffffffffff\n",
         18,
     ),
-    ("flags 0000000000000246\n", "", 18),
+    ("flags 0000000000000ad7\n", "", 18),
     (
         "fs 0000000000001000\n",
         "zero 0000000000001000 0000000000002000 rw-\n",
@@ -275,16 +252,12 @@ fn refusal(alloc: Global, text: &[u8]) -> u32 {
     if text.len() >= 1_000_000 {
         return 0;
     }
-    match read_world(alloc, text) {
-        Ok(_) => 0,
-        Err(ScriptError::BadScript { line }) => line,
-        Err(ScriptError::Memory) => 1_000_000,
-    }
+    refused_line(&read_world(alloc, text))
 }
 
 #[test]
 fn hostile(rt: HostRuntime) -> Result<(), Fail> {
-    let rich = format!(in rt.alloc(); "{HEAD}{RICH}")?;
+    let rich = format!(in rt.alloc(); "e9world 1\n{VALUES}{RICH}")?;
     for (old, new, line) in HOSTILE.iter() {
         let (front, back) = rich.split_once(*old).unwrap_or(("", ""));
         let text = format!(in rt.alloc(); "{front}{new}{back}")?;
@@ -307,7 +280,8 @@ fn hostile(rt: HostRuntime) -> Result<(), Fail> {
 #[test]
 fn regions(rt: HostRuntime) -> Result<(), Fail> {
     let mut text = String::new(rt.alloc());
-    text.push_str(HEAD)?;
+    text.push_str("e9world 1\n")?;
+    text.push_str(VALUES)?;
     for digit in "0123456789abcdef".chars() {
         let line = format!(in rt.alloc(); "bytes 00000000000000{digit}0 rwx 00\n")?;
         text.push_str(line.as_str())?;
@@ -326,13 +300,21 @@ fn bytes(rt: HostRuntime) -> Result<(), Fail> {
     for _turn in 0..4096 {
         page.push_str("5a")?;
     }
-    let region = format!(in rt.alloc(); "{HEAD}bytes fffffffffffff000 r-- {page}\nend\n")?;
+    let region = format!(in rt.alloc();
+        "e9world 1\n{VALUES}bytes fffffffffffff000 r-- {page}\nend\n"
+    )?;
     assert_eq!(rt; refusal(rt.alloc(), region.as_bytes()), 0);
-    let region = format!(in rt.alloc(); "{HEAD}bytes ffffffffffffe000 r-- {page}5a\nend\n")?;
+    let region = format!(in rt.alloc();
+        "e9world 1\n{VALUES}bytes ffffffffffffe000 r-- {page}5a\nend\n"
+    )?;
     assert_eq!(rt; refusal(rt.alloc(), region.as_bytes()), 21);
-    let write = format!(in rt.alloc(); "{HEAD}ask 90 -\nmem fffffffffffff000 {page}\nend\n")?;
+    let write = format!(in rt.alloc();
+        "e9world 1\n{VALUES}ask 90 -\nmem fffffffffffff000 {page}\nend\n"
+    )?;
     assert_eq!(rt; refusal(rt.alloc(), write.as_bytes()), 0);
-    let write = format!(in rt.alloc(); "{HEAD}ask 90 -\nmem ffffffffffffe000 {page}5a\nend\n")?;
+    let write = format!(in rt.alloc();
+        "e9world 1\n{VALUES}ask 90 -\nmem ffffffffffffe000 {page}5a\nend\n"
+    )?;
     assert_eq!(rt; refusal(rt.alloc(), write.as_bytes()), 22);
     Ok(())
 }
@@ -340,7 +322,7 @@ fn bytes(rt: HostRuntime) -> Result<(), Fail> {
 /// The values of a script with a line of each kind.
 #[test]
 fn rich(rt: HostRuntime) -> Result<(), Fail> {
-    let text = format!(in rt.alloc(); "{HEAD}{RICH}")?;
+    let text = format!(in rt.alloc(); "e9world 1\n{VALUES}{RICH}")?;
     assert!(rt; text.len() < 1_000_000);
     let script = read_world(rt.alloc(), text.as_bytes())?;
     let top = u64::MAX;
@@ -363,7 +345,7 @@ fn rich(rt: HostRuntime) -> Result<(), Fail> {
         top,
     ];
     assert_eq!(rt; script.regs, regs);
-    assert_eq!(rt; script.flags, 0x246);
+    assert_eq!(rt; script.flags, 0xad7);
     assert_eq!(rt; (script.fs, script.gs), (0x1000, 0x2000));
     let entries = script.world.entries.as_slice();
     assert_eq!(rt; entries.len(), 4);
@@ -385,7 +367,7 @@ fn rich(rt: HostRuntime) -> Result<(), Fail> {
 /// The regions of a script with a line of each kind.
 #[test]
 fn rich_regions(rt: HostRuntime) -> Result<(), Fail> {
-    let text = format!(in rt.alloc(); "{HEAD}{RICH}")?;
+    let text = format!(in rt.alloc(); "e9world 1\n{VALUES}{RICH}")?;
     assert!(rt; text.len() < 1_000_000);
     let script = read_world(rt.alloc(), text.as_bytes())?;
     let regions = script.regions.as_slice();

@@ -1,14 +1,14 @@
 use Rattle.std.proofs.Common.{◌≡◌, ◌++◌, ◌-◌, length, take, drop, List, arith, ap, ◌∙◌, take-append-drop}
 use Rattle.std.proofs.lemmas.List.{take_rest}
 use Rattle.address_space.specs.declared.free_range.FreeRange.{FreeRange}
-use Rattle.address_space.proofs.LeastPlaces.{blank}
+use Rattle.address_space.specs.Blocks.{no_range}
 use Rattle.address_space.proofs.SplitBlocks.{leaves_one}
 use Rattle.address_space.proofs.blocks.take_in.Goals as goal
 
 pub invariant_of-block-clause-some : goal.invariant_of-block-clause-some
 invariant_of-block-clause-some c =
     let ranges = c.args.block.now.ranges in
-    let one = leaves_one ranges.items c.split.new.free.items c.args.place c.args.range blank (omega (arith, c.requires.place, ranges.ok.0)) c.requires.some (c.split.ensures.items blank) in
+    let one = leaves_one ranges.items c.split.new.free.items c.args.place c.args.range no_range (omega (arith, c.requires.place, ranges.ok.0)) c.requires.some (c.split.ensures.items no_range) in
     omega (arith, one, c.split.new.free.ok.0)
 
 pub returns-clause-ranges : goal.returns-clause-ranges

@@ -1,4 +1,4 @@
-use Rattle.std.proofs.Common.{◌≡◌, [], ◌++◌, Some, None, sym, ap, ◌∙◌, subst}
+use Rattle.std.proofs.Common.{◌≡◌, ◌+◌, ◌≤◌, [], ◌++◌, length, Some, None, sym, ap, ◌∙◌, subst}
 use Rattle.length_decode.specs.declared.instruction_parts.Parts.{Parts}
 use Rattle.length_decode.specs.Spelling.{Fields}
 use Rattle.length_decode.proofs.ShapeAnswers.{one_fields}
@@ -7,21 +7,22 @@ use Rattle.insn_form.specs.Classes.{has_rip}
 use Rattle.insn_form.specs.Step.{question_of}
 use Rattle.insn_form.proofs.SpellingSlices.{rip_disp}
 use Rattle.cpu_step.proofs.MaskedDisplacements.{rip_ends, asked_by_rip, asked_plainly}
+use Rattle.cpu_step.proofs.question.question.Goals.{After-from-at}
 use Rattle.cpu_step.proofs.question.question.Goals as goal
 
-pub with_zeros-requires-clause-within : goal.with_zeros-requires-clause-within
-with_zeros-requires-clause-within c =
+-- The four bytes of the displacement end within the instruction.
+inside : (c : After-from-at) → c.from-at.result + 4 ≤ length c.args.bytes.now
+inside c =
     let g = c.requires.fields in
     let p = c.requires.divided in
     let h = sym (ap has_rip p) ∙ sym c.has_rip.ensures ∙ c.if-has_rip.true in
     rip_ends g c.args.bytes.now c.from-at.result c.requires.spelled (c.from-at.ensures ∙ ap (λ (z : Parts). z.disp_at) p) (rip_disp g c.requires.is h)
 
+pub with_zeros-requires-clause-within : goal.with_zeros-requires-clause-within
+with_zeros-requires-clause-within c = inside (goal.at.with_zeros-requires-clause-within c).After-from-at
+
 pub named-requires : goal.named-requires
-named-requires c =
-    let g = c.requires.fields in
-    let p = c.requires.divided in
-    let h = sym (ap has_rip p) ∙ sym c.has_rip.ensures ∙ c.if-has_rip.true in
-    rip_ends g c.args.bytes.now c.from-at.result c.requires.spelled (c.from-at.ensures ∙ ap (λ (z : Parts). z.disp_at) p) (rip_disp g c.requires.is h)
+named-requires c = inside (goal.at.named-requires c).After-from-at
 
 pub returns-then-has_rip : goal.returns-then-has_rip
 returns-then-has_rip c = λ f i b.

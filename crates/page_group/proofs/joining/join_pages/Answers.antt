@@ -22,8 +22,8 @@ loop-offsets-init c =
       met = λ place group d e l _. absurd (omega arith);
     }
 
-pub first_open-group-requires-clause-start : goal.first_open-group-requires-clause-start
-first_open-group-requires-clause-start c =
+pub first_open-group-requires : goal.first_open-group-requires
+first_open-group-requires c =
     let at = c.loop-offsets in
     let blank : Offsets = record { words = [] } in
     let sets = c.deref-offsets-items.result.now in
@@ -34,20 +34,11 @@ first_open-group-requires-clause-start c =
     (subst (λ (z : List ℕ). IsStart c.deref.result.now z offsets start) c.deref-in-loop-offsets.ensures.value c.first_tried-start.ensures) in
     let within = start_within sets at.joined.items at.groups.items offsets start at.invariant.joining.below begins in
     let same = ap length c.deref-in-loop-offsets-2.ensures.value in
-    omega arith
-
-pub first_open-group-requires-clause-met : goal.first_open-group-requires-clause-met
-first_open-group-requires-clause-met c =
-    let at = c.loop-offsets in
-    let blank : Offsets = record { words = [] } in
-    let sets = c.deref-offsets-items.result.now in
-    let offsets : Offsets = get_or sets at.offsets-index blank in
-    let start = c.first_tried-start.result in
-    let begins : IsStart sets at.joined.items offsets start =
-    subst (λ (z : List Offsets). IsStart z at.joined.items offsets start) (c.deref.ensures.value ∙ sym c.deref-offsets-items.ensures.value)
-    (subst (λ (z : List ℕ). IsStart c.deref.result.now z offsets start) c.deref-in-loop-offsets.ensures.value c.first_tried-start.ensures) in
-    λ group d l. start_met sets at.joined.items c.deref-in-loop-offsets-2.result.now offsets start
-    (subst (λ (z : List Offsets). AreMet sets at.joined.items z) (sym c.deref-in-loop-offsets-2.ensures.value) at.invariant.met) begins group d l
+    record {
+      start = omega arith;
+      met = λ group d l. start_met sets at.joined.items c.deref-in-loop-offsets-2.result.now offsets start
+          (subst (λ (z : List Offsets). AreMet sets at.joined.items z) (sym c.deref-in-loop-offsets-2.ensures.value) at.invariant.met) begins group d l;
+    }
 
 pub loop-offsets-preserved : goal.loop-offsets-preserved
 loop-offsets-preserved c =

@@ -23,6 +23,3 @@ empty_report = record {
 
 pub new-requires : goal.new-requires
 new-requires g c = empty_report
-
-pub read_again-requires : goal.read_again-requires
-read_again-requires g c = empty_report

@@ -1,6 +1,6 @@
 use Rattle.std.proofs.Common.{take}
 use Rattle.page_group.proofs.AscendingPieces.{AscendTo}
-use Rattle.base_tests.proofs.tests.page_groups.ascend.Given as goal
+use Rattle.page_group.proofs.groups.ascend.Given as goal
 
 abbrev pub invariant-loop-piece : goal.invariant-loop-piece
 invariant-loop-piece l = AscendTo l.end (take l.piece-index l.pieces)

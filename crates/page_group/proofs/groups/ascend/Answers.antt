@@ -1,5 +1,5 @@
 use Rattle.page_group.proofs.AscendingPieces.{ascend_none, ascend_more, ascend_all}
-use Rattle.base_tests.proofs.tests.page_groups.ascend.Goals as goal
+use Rattle.page_group.proofs.groups.ascend.Goals as goal
 
 pub loop-piece-init : goal.loop-piece-init
 loop-piece-init c = ascend_none

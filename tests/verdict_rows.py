@@ -123,6 +123,47 @@ UNSOUND: list[tuple[str, Files, str]] = [
     ("the private range is too short", report(("action cover", "action ring:65536")), "00020000 6"),
 ]
 
+# Sound patches for threads: by T2, whose site stands right before its victim, and by T3, whose site's jump leads to a
+# second one at 0x40100C, inside the victim at 0x40100A. The victims' code has no event.
+BEHIND, NEAR = (
+    {**files_in(f"rows/threads_{name}/before"), **files_in(f"rows/threads_{name}/after")}
+    for name in ("victim_behind_the_site", "near_victim")
+)
+# where OUT has the code of the first one's site, and that of the second one's victim
+OF_BEHIND, OF_NEAR = 5 * PAGE + 5, 4 * PAGE + 0x90F
+
+
+def in_threads(files: Files, changes: dict[int, bytes], *lines: tuple[str, str]) -> Files:
+    """A patch for threads with other bytes of OUT and other words of REPORT."""
+    data, text = bytearray(files["O"]), files["R"].decode()
+    for at, changed in changes.items():
+        data[at : at + len(changed)] = changed
+    for old, new in lines:
+        assert text.count(old) == 1
+        text = text.replace(old, new)
+    return {**files, "O": bytes(data), "R": text.encode()}
+
+
+# what breaks a rule for threads, the files then, and what `check` reports
+UNSOUND_IN_THREADS: list[tuple[str, Files, str]] = [
+    ("another byte", in_threads(NEAR, {PAGE + 5: b"\xcc"}), "00401005 1"),
+    ("the first jump leads elsewhere", in_threads(NEAR, {PAGE + 1: b"\x0b"}, ("eb0a", "eb0b")), "00401000 3"),
+    ("the second jump leads elsewhere", in_threads(NEAR, {PAGE + 13: b"\1"}, ("e90000c2", "e90100c2")), "00401000 3"),
+    (
+        "the second jump stands in new code",
+        in_threads(
+            BEHIND,
+            {PAGE + 2: b"\1", OF_BEHIND + 0x100: b"\xe9" + pack("<i", -0x105)},
+            ("e90000e9", "e90001e9"),
+        ),
+        "00401000 3",
+    ),
+    ("the victim's jump leads elsewhere", in_threads(NEAR, {PAGE + 11: b"\1"}, ("e900e9", "e901e9")), "0040100a 3"),
+    ("another byte of the victim's code", in_threads(NEAR, {OF_NEAR + 1: b"\x80"}), "0040f910 4"),
+    ("the victim has an event", in_threads(NEAR, {}, ("0040100a plain", "0040100a event")), "00401000 6"),
+    ("the action isn't to count", in_threads(NEAR, {}, ("action count", "action cover")), "00020000 6"),
+]
+
 CPUID, IMUL, ANSWER = b"\x0f\xa2", b"\x0f\xaf\xc0", b"ask 0fa2 -\n"
 # what keeps a step from being made, the text, the answers, the stop, its address and how many answers are left
 STOPS: list[tuple[str, bytes, bytes, str, int, int]] = [
@@ -159,8 +200,8 @@ UNFIT: list[tuple[str, str, bytes, int, int]] = [
 
 
 def unsound_rows() -> Iterator[Row]:
-    for why, changed, told in UNSOUND:
-        files = {**FILES, **changed}
+    plain = [(why, {**FILES, **changed}, told) for why, changed, told in UNSOUND]
+    for why, files, told in plain + [(f"threads, {why}", files, told) for why, files, told in UNSOUND_IN_THREADS]:
         inputs = {name: files[name] for name in "FOSR"}
         yield Row(f"check no {told}, {why}", b"check F O S R".split(), inputs, 7, f"check no {told}\n".encode())
 

@@ -491,10 +491,12 @@ fn actions(rt: HostRuntime) -> Result<(), Fail> {
 #[test]
 fn texts_come_back(rt: HostRuntime) -> Result<(), Fail> {
     let empty = "e9report 1\naction cover\nprivate 7ffef000 1\nsites 0\nend\n";
-    let original = worked_with_origin(rt.alloc())?;
-    for text in [WORKED, RICH, original.as_str(), SHARED, empty] {
+    for text in [WORKED, RICH, SHARED, empty] {
         let printed = printed_again(rt.alloc(), text.as_bytes())?;
         assert_eq!(rt; printed.as_slice(), text.as_bytes());
     }
+    let original = worked_with_origin(rt.alloc())?;
+    let printed = printed_again(rt.alloc(), original.as_bytes())?;
+    assert_eq!(rt; printed.as_slice(), original.as_bytes());
     Ok(())
 }

@@ -9,6 +9,7 @@ use Rattle.elf_read.specs.Plain.{text_segment}
 use Rattle.elf_read.proofs.FileSlices.{drop_past}
 use Rattle.elf_read.proofs.WindowBytes.{code_taken, backed_yes}
 use Rattle.length_decode.specs.Spelling.{Fields, IsInstruction, spelling}
+use Rattle.length_decode.specs.Forms.{no_operation}
 use Rattle.guest_gen.specs.declared.instruction.GuestInsn.{GuestInsn}
 use Rattle.guest_gen.specs.declared.instruction.GuestInsn.TheVariants.{Ret, MovRaxRbx, AddRbxRax, MovEax, AddRbx, AddRcxOne, PushRax, PopRax, CmpRaxRbx, JeOverInc, IncRdx, LoadRax, StoreRax, CallRet, LeaData, XorRaxRcx, Nop, Cpuid, LeaRcx, CallRsi, JmpBack}
 use Rattle.guest_gen.specs.Files.{guest_front, data_segment, file_of}
@@ -17,7 +18,7 @@ use Rattle.guest_gen.specs.Laws.{IsCoded, AreCoded, GuestsAreCoded}
 use Rattle.guest_gen.specs.Texts.{text_from, guest_insns, guest_text}
 use Rattle.guest_gen.proofs.GuestImages.{both, length-front, length_file, segments-file}
 use Rattle.guest_gen.proofs.TextSizes.{insn_size, text_size}
-use Rattle.guest_gen.proofs.PlainTurns.{mov_rax_rbx_fields, mov_rax_rbx_is, add_rbx_rax_fields, add_rbx_rax_is, mov_eax_fields, mov_eax_is, add_rbx_fields, add_rbx_is, add_rcx_one_fields, add_rcx_one_is, cmp_rax_rbx_fields, cmp_rax_rbx_is, inc_rdx_fields, inc_rdx_is, load_rax_fields, load_rax_is, store_rax_fields, store_rax_is, lea_data_fields, lea_data_is, do_nothing_fields, do_nothing_is, lea_rcx_fields, lea_rcx_is}
+use Rattle.guest_gen.proofs.PlainTurns.{mov_rax_rbx_fields, mov_rax_rbx_is, add_rbx_rax_fields, add_rbx_rax_is, mov_eax_fields, mov_eax_is, add_rbx_fields, add_rbx_is, add_rcx_one_fields, add_rcx_one_is, cmp_rax_rbx_fields, cmp_rax_rbx_is, inc_rdx_fields, inc_rdx_is, load_rax_fields, load_rax_is, store_rax_fields, store_rax_is, lea_data_fields, lea_data_is, do_nothing_is, lea_rcx_fields, lea_rcx_is}
 use Rattle.guest_gen.proofs.StackTurns.{push_fields, push_is, pop_fields, pop_is, ret_fields, ret_is, call_fields, call_is, call_rsi_fields, call_rsi_is, jump_fields, jump_is, je_fields, je_is}
 use Rattle.guest_gen.proofs.AskedTurns.{xor_fields, xor_is, cpuid_fields, cpuid_is}
 
@@ -39,7 +40,7 @@ insn_fields StoreRax at = (store_rax_fields, store_rax_is, refl)
 insn_fields CallRet at = (call_fields at, call_is at, refl)
 insn_fields LeaData at = (lea_data_fields at, lea_data_is at, refl)
 insn_fields XorRaxRcx at = (xor_fields, xor_is, refl)
-insn_fields Nop at = (do_nothing_fields, do_nothing_is, refl)
+insn_fields Nop at = (no_operation, do_nothing_is, refl)
 insn_fields Cpuid at = (cpuid_fields, cpuid_is, refl)
 insn_fields LeaRcx at = (lea_rcx_fields, lea_rcx_is, refl)
 insn_fields CallRsi at = (call_rsi_fields, call_rsi_is, refl)

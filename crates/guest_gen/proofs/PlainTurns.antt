@@ -5,6 +5,7 @@ use Rattle.cpu_alu.specs.declared.operation.Width.TheVariants.{W32, W64}
 use Rattle.cpu_alu.specs.declared.operation.AluOp.TheVariants.{Add, Sub, Inc}
 use Rattle.length_decode.specs.declared.escape_bytes.Escape.TheVariants.{OneByte}
 use Rattle.length_decode.specs.Spelling.{Fields, IsInstruction}
+use Rattle.length_decode.specs.Forms.{no_operation}
 use Rattle.insn_form.specs.declared.form.Seg.TheVariants.{Plain}
 use Rattle.insn_form.specs.declared.form.MemForm.{MemForm}
 use Rattle.insn_form.specs.declared.form.Spot.TheVariants.{Reg, Mem}
@@ -222,12 +223,8 @@ lea_data_turn x rip m k is h c l =
     (Lea W64 0 (at_number (absolute (rip + 7) (integer_of (rel_bytes (rip + 7) data_start))))) refl
     (record { read = refl; write = refl }) refl (record { rax = _; rcx = _; rdx = _; rbx = _; behind = x.behind; regs = refl }) refl
 
--- NOP
-abbrev pub do_nothing_fields : Fields
-do_nothing_fields = record { prefixes = []; escape = OneByte; opcode = 0x90; modrm = None; sib = None; disp = []; imm = [] }
-
 -- NOP is an instruction
-pub do_nothing_is : IsInstruction do_nothing_fields
+pub do_nothing_is : IsInstruction no_operation
 do_nothing_is = record {
   formed = record { prefixes = refl; escape = refl; opcode = refl; known = refl; modrm = refl; operand = refl; imm = refl };
   short = omega arith;
@@ -237,7 +234,7 @@ do_nothing_is = record {
 pub do_nothing_turn : HasTurn Nop
 unfolding template filled effect
 do_nothing_turn x rip m k is h c l =
-    plain_turn x rip m k is h do_nothing_fields c l do_nothing_is (op.Nop None) refl
+    plain_turn x rip m k is h no_operation c l do_nothing_is (op.Nop None) refl
     (record { read = refl; write = refl }) refl (record { rax = _; rcx = _; rdx = _; rbx = _; behind = x.behind; regs = refl }) refl
 
 -- LEA rcx, [rcx+rax+4]

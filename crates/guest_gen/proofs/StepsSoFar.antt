@@ -1,6 +1,7 @@
 -- The steps that a guest made so far, and the entries that answered them.
 use Rattle.std.proofs.Common.{◌≡◌, ℕ, ◌+◌, List, [], ◌∷◌, ◌++◌, refl, sym, ap, ◌∙◌, subst, append_assoc, append-nil, length-append}
 use Rattle.std.specs.List.{AllByRecursion}
+use Rattle.pun_base.proofs.JoinedLists.{all_appended}
 use Rattle.cpu_state.specs.declared.state.State.{State}
 use Rattle.cpu_state.specs.declared.world.Entry.{Entry}
 use Rattle.insn_form.specs.Machine.{Machine}
@@ -9,11 +10,6 @@ use Rattle.insn_form.specs.Runs.{nowhere, IsRun, last_of}
 use Rattle.cpu_step.specs.Stepping.{machine_of}
 use Rattle.guest_gen.specs.Worlds.{SetsNothing}
 use Rattle.guest_gen.specs.Running.{Advances, Answered, AnsweredSoFar, CanRun, Leads}
-
--- a fact of each of two lists
-all_joined : (xs ys : List Entry) → AllByRecursion SetsNothing xs → AllByRecursion SetsNothing ys → AllByRecursion SetsNothing (xs ++ ys)
-all_joined [] ys h k = k
-all_joined (x ∷ xs) ys h k = (h.0, all_joined xs ys h.1 k)
 
 -- one step more
 run_more : (s u v : Machine) (ts : List Machine) → IsRun Step s ts → last_of s ts ≡ u → Step nowhere u v → IsRun Step s (ts ++ v ∷ [])
@@ -49,7 +45,7 @@ answered_more n first now next es later a d =
     let same : (rest : List Entry) → es ++ (d.more ++ rest) ≡ later ++ rest =
     λ rest. sym (append_assoc es d.more rest) ∙ ap (λ (z : List Entry). z ++ rest) (sym d.entries) in
     record {
-      nothing = subst (AllByRecursion SetsNothing) (sym d.entries) (all_joined es d.more a.nothing d.nothing);
+      nothing = subst (AllByRecursion SetsNothing) (sym d.entries) (all_appended SetsNothing es d.more a.nothing d.nothing);
       goes = d.goes;
       states = λ rest. a.states (d.more ++ rest) ++ machine_of next rest ∷ [];
       leads = λ rest. subst (λ (z : List Entry). Leads (machine_of first z) (machine_of next rest) (n + 1)

@@ -76,11 +76,6 @@ pub all_push : {X : Type 0} (P : X → Type 0) (xs : List X) (x : X) → AllByRe
 all_push P [] x h p = (p, tt)
 all_push P (y ∷ xs) x h p = (h.0, all_push P xs x h.1 p)
 
--- What holds of all of a list holds of all of its front.
-pub all_front : {X : Type 0} (P : X → Type 0) (xs ys : List X) → AllByRecursion P (xs ++ ys) → AllByRecursion P xs
-all_front P [] ys h = tt
-all_front P (x ∷ xs) ys h = (h.0, all_front P xs ys h.1)
-
 -- A line and three lists, joined from the right or from the left.
 pub behind_two : (x : Line) (a b c : List Line) → x ∷ (a ++ (b ++ c)) ≡ (x ∷ (a ++ b)) ++ c
 behind_two x a b c = simp append_assoc

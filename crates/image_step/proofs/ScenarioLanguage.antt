@@ -5,7 +5,7 @@ use Rattle.std.specs.List.{AllByRecursion, flat_map}
 use Rattle.std.proofs.lemmas.Bool.{and_parts}
 use Rattle.std.proofs.lemmas.Bool.Decides.{nat_tests}
 use Rattle.std.proofs.lemmas.List.{length-replicate, map-append}
-use Rattle.list_text.proofs.WordParts.{all_appended}
+use Rattle.pun_base.proofs.JoinedLists.{all_appended, all_behind}
 use Rattle.cpu_state.specs.declared.world.MemWrite.{MemWrite}
 use Rattle.image_step.specs.declared.line.Line.{Line}
 use Rattle.image_step.specs.declared.line.Line.TheVariants as line
@@ -165,10 +165,6 @@ plain_holds (x ∷ xs) h = (h.0, plain_holds xs h.1)
 plain_held : (xs : List Line) → AllByRecursion ScenarioLineHolds (plain xs) → AllByRecursion LineHolds xs
 plain_held [] h = tt
 plain_held (x ∷ xs) h = (h.0, plain_held xs h.1)
-
-all_behind : {X : Type 0} (P : X → Type 0) (xs ys : List X) → AllByRecursion P (xs ++ ys) → AllByRecursion P ys
-all_behind P [] ys h = h
-all_behind P (x ∷ xs) ys h = all_behind P xs ys h.1
 
 zero_script : IsScript (completed blank)
 zero_script = completed_script blank tt tt

@@ -4,6 +4,7 @@ use Rattle.std.specs.Prelude.{option_and_then}
 use Rattle.std.specs.List.{AllByRecursion}
 use Rattle.std.proofs.lemmas.List.{take-append-drop, nil_from_length}
 use Rattle.std.proofs.lemmas.Option.{none-some, same_Some}
+use Rattle.pun_base.proofs.JoinedLists.{all_appended}
 use Rattle.patch_report.specs.declared.line.Line.{Line}
 use Rattle.patch_report.specs.Values.{ReportValue}
 use Rattle.patch_report.specs.Spelling.{line_text, lines_text, report_lines, report_text}
@@ -236,10 +237,6 @@ none_agrees text n v e h a =
     (record { place = places (length (take n xs)) 1; text = a.rest }) n (omega arith) e t in
     omega arith
 
-all_joined : (xs ys : List Line) → AllByRecursion IsLine xs → AllByRecursion IsLine ys → AllByRecursion IsLine (xs ++ ys)
-all_joined [] ys a b = b
-all_joined (x ∷ xs) ys a b = (a.0, all_joined xs ys a.1 b)
-
 -- The front of two lists joined, as long as the first, is the first.
 pub taken : (xs ys : List Line) → take (length xs) (xs ++ ys) ≡ xs
 taken [] ys = refl
@@ -256,7 +253,7 @@ some_agrees text n e = by k.answer
     by (inl a) = absurd (ok_err a.0 n (sym a.3 ∙ e))
     by (inr o) =
         let c : Completion k.end = completion k.end (run_kept fresh k.end k.lines tt k.all k.runs).1 in
-        let l = led_is (k.lines ++ c.lines) c.report (all_joined k.lines c.lines k.all c.all)
+        let l = led_is (k.lines ++ c.lines) c.report (all_appended IsLine k.lines c.lines k.all c.all)
         (run_joined fresh k.end (done c.report) k.lines c.lines k.runs c.runs) in
         let few : length (report_lines c.report) ≤ most_lines = lines_few c.report l.1 in
         let size : length (report_lines c.report) ≡ length k.lines + length c.lines = ap (λ (x : List Line). length x) l.0

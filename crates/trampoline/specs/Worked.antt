@@ -11,6 +11,7 @@ use Rattle.pun_base.specs.declared.action.Comparison.{Comparison}
 use Rattle.pun_base.specs.declared.action.Comparisons.TheVariants.{One}
 use Rattle.length_decode.specs.declared.escape_bytes.Escape.TheVariants.{OneByte, TwoByte}
 use Rattle.length_decode.specs.Spelling.{Fields, spelling}
+use Rattle.length_decode.specs.Forms.{system_call}
 use Rattle.insn_form.specs.Machine.{Machine}
 use Rattle.insn_form.specs.Step.{StepsBy}
 use Rattle.relocate_insn.specs.Running.{IsReady}
@@ -45,10 +46,6 @@ jump_to_itself = record { prefixes = []; escape = OneByte; opcode = 0xeb; modrm 
 -- 0F 28 05 disp32: MOVAPS xmm0, [rip + 16]
 abbrev pub rip_operand : Fields
 rip_operand = record { prefixes = []; escape = TwoByte; opcode = 0x28; modrm = Some 0x05; sib = None; disp = 0x10 ∷ 0 ∷ 0 ∷ 0 ∷ []; imm = [] }
-
--- 0F 05: SYSCALL
-abbrev pub system_call : Fields
-system_call = record { prefixes = []; escape = TwoByte; opcode = 0x05; modrm = None; sib = None; disp = []; imm = [] }
 
 -- B8 3C 00 00 00: MOV eax, 60
 abbrev pub mov_sixty : Fields

@@ -1,5 +1,5 @@
 -- The runs of a job's pages are parts of its file.
-use Rattle.std.proofs.Common.{◌≡◌, ℕ, suc, ◌+◌, ◌*◌, ◌<◌, ◌≤◌, ◌==◌, ◌⊎◌, inl, inr, Bool, true, false, cond, ◌&&◌, nat_lt, nat_le, List, [], ◌∷◌, length, map, None, refl, ap, ◌∙◌, arith, eqb-true}
+use Rattle.std.proofs.Common.{◌≡◌, ℕ, suc, ◌+◌, ◌*◌, ◌^◌, ◌<◌, ◌≤◌, ◌==◌, ◌⊎◌, inl, inr, Bool, true, false, cond, ◌&&◌, nat_lt, nat_le, List, [], ◌∷◌, length, map, Option, None, unwrap_or, refl, ap, ◌∙◌, arith, eqb-true}
 use Rattle.std.specs.List.{AllByRecursion, list_any}
 use Rattle.std.proofs.lemmas.Bool.{and_parts, cases_lt, or_right, or_left}
 use Rattle.std.proofs.lemmas.Bool.Decides.{nat_tests}
@@ -8,7 +8,7 @@ use Rattle.std.proofs.lemmas.Simd.{map-map}
 use Rattle.elf_read.specs.Image.{Chunk, image, image_of}
 use Rattle.elf_emit.specs.declared.runs.Page.{Page}
 use Rattle.elf_emit.specs.declared.runs.Run.{Run}
-use Rattle.elf_emit.specs.Job.{BytesAt, Job}
+use Rattle.elf_emit.specs.Job.{BytesAt, Job, Part}
 use Rattle.elf_emit.specs.Frames.{others, olds}
 use Rattle.elf_emit.specs.Layout.{part_of, frame_of, runs_of, join_page, group_pages, count}
 use Rattle.elf_emit.specs.FrameLaws.{PairsByRecursion, IsPart, PartsApart, IsNew, IsFrame, part_chunk}
@@ -101,9 +101,11 @@ pages_new j h =
 in_range : (lo hi a : ℕ) → lo ≤ a → a < hi → (nat_le lo a && nat_lt a hi) ≡ true
 in_range lo hi a l m = grind (arith, nat_tests)
 
--- a job's file meets the conditions on a written file
-pub job_frame : (j : Job) → IsJob j → IsFrame (frame_of j)
-job_frame j h = record {
+-- a job's file with whatever pages behind the private range meets the conditions on a written file where those pages do
+pub framed_with : (j : Job) → IsJob j → (body : List ℕ) (files : ℕ) (parts : List Part) (entry : Option ℕ) → length body ≡ 4096 * files
+    → files < 2 ^ 33 → AllByRecursion (IsPart j.private_lo j.private_hi files) parts → PairsByRecursion PartsApart parts → AllByRecursion (IsNew j.orig) parts
+    → unwrap_or entry 0 < 2 ^ 64 → IsFrame (record (frame_of j) { body = body; files = files; parts = parts; entry = entry })
+framed_with j h body files parts entry long few are apart new starts = record {
   bytes = h.bytes;
   size = h.size;
   accepted = h.accepted;
@@ -113,19 +115,28 @@ job_frame j h = record {
   private_low = h.private_low;
   private_high = h.private_high;
   private_new = λ a l m. h.new a (or_left (nat_le j.private_lo a && nat_lt a j.private_hi) (list_any (λ q. is_on q a) j.pages) (in_range j.private_lo j.private_hi a l m));
-  long = length_group_pages j 0 j.groups;
-  few_files = (let q = h.few_groups in omega (arith, q));
-  parts = all_mapped (IsPart j.private_lo j.private_hi j.groups) part_of (runs_of j.pages)
-      (all_map (λ r. IsRun j.groups r × ClearRun j.private_lo j.private_hi r) (λ r. IsPart j.private_lo j.private_hi j.groups (part_of r)) (runs_of j.pages)
-      (λ r k. record { low = k.0.low; high = k.0.high; whole = k.0.whole; some = k.0.some; shown = k.0.shown; perms = omega arith; apart = k.1 })
-      (all_both (IsRun j.groups) (ClearRun j.private_lo j.private_hi) (runs_of j.pages) (job_runs j h)
-      (runs_clear j.private_lo j.private_hi j.pages h.private_some
-      (all_map (IsPage j.private_lo j.private_hi j.groups) (ClearPage j.private_lo j.private_hi) j.pages (λ p k. k.apart) h.pages))));
-  parts_apart = pairs_mapped PartsApart part_of (runs_of j.pages)
-      (pairs_map RunsAscend (λ r q. PartsApart (part_of r) (part_of q)) (runs_of j.pages) (λ r q l. inl l) (runs_pairs j.pieces j.pages h.pages_apart));
-  new = all_mapped (IsNew j.orig) part_of (runs_of j.pages) (runs_new j.orig j.pages (pages_new j h));
-  starts = omega arith;
+  long = long;
+  few_files = few;
+  parts = are;
+  parts_apart = apart;
+  new = new;
+  starts = starts;
 }
+
+-- a job's file meets the conditions on a written file
+pub job_frame : (j : Job) → IsJob j → IsFrame (frame_of j)
+job_frame j h =
+    framed_with j h (group_pages j.pieces j.pages 0 j.groups) j.groups (map part_of (runs_of j.pages)) None (length_group_pages j 0 j.groups)
+    (let q = h.few_groups in omega (arith, q))
+    (all_mapped (IsPart j.private_lo j.private_hi j.groups) part_of (runs_of j.pages)
+    (all_map (λ r. IsRun j.groups r × ClearRun j.private_lo j.private_hi r) (λ r. IsPart j.private_lo j.private_hi j.groups (part_of r)) (runs_of j.pages)
+    (λ r k. record { low = k.0.low; high = k.0.high; whole = k.0.whole; some = k.0.some; shown = k.0.shown; perms = omega arith; apart = k.1 })
+    (all_both (IsRun j.groups) (ClearRun j.private_lo j.private_hi) (runs_of j.pages) (job_runs j h)
+    (runs_clear j.private_lo j.private_hi j.pages h.private_some
+    (all_map (IsPage j.private_lo j.private_hi j.groups) (ClearPage j.private_lo j.private_hi) j.pages (λ p k. k.apart) h.pages)))))
+    (pairs_mapped PartsApart part_of (runs_of j.pages)
+    (pairs_map RunsAscend (λ r q. PartsApart (part_of r) (part_of q)) (runs_of j.pages) (λ r q l. inl l) (runs_pairs j.pieces j.pages h.pages_apart)))
+    (all_mapped (IsNew j.orig) part_of (runs_of j.pages) (runs_new j.orig j.pages (pages_new j h))) (omega arith)
 
 -- the table of a job's file has an entry for each run, for each old segment, for each that isn't PT_LOAD, and two more
 pub count_of : (j : Job) → count j ≡ length (others (frame_of j)) + (2 + (length (runs_of j.pages) + length (olds (frame_of j))))

@@ -6,6 +6,7 @@ use Rattle.std.specs.List.{AllByRecursion}
 use Rattle.byteorder.specs.Endian.{little_number, little_bytes}
 use Rattle.byteorder.specs.Numbers.{little_from-take, little_number-reads_back}
 use Rattle.pun_base.specs.Field.{field}
+pub use Rattle.pun_base.proofs.JoinedLists.{all_appended as all_append}
 use Rattle.elf_read.specs.declared.segment.Segment.{Segment}
 use Rattle.elf_read.specs.Entries.{Fits, segments, table, table_place, table_count, is_load}
 use Rattle.elf_read.specs.Writing.{load_entry}
@@ -116,16 +117,6 @@ all_insert P s (t ∷ ts) p h = all_cond (λ z. AllByRecursion P z) (nat_le s.va
 pub all_order : (P : Segment → Type 0) (ss : List Segment) → AllByRecursion P ss → AllByRecursion P (in_order ss)
 all_order P [] h = tt
 all_order P (s ∷ ss) h = all_insert P s (in_order ss) h.0 (all_order P ss h.1)
-
--- what holds of all in two lists holds of all in both together
-pub all_append : {X : Type 0} (P : X → Type 0) (xs ys : List X) → AllByRecursion P xs → AllByRecursion P ys → AllByRecursion P (xs ++ ys)
-all_append P [] ys h k = k
-all_append P (x ∷ xs) ys h k = (h.0, all_append P xs ys h.1 k)
-
--- what holds of all in two lists together holds of all in the second
-pub all_behind : {X : Type 0} (P : X → Type 0) (xs ys : List X) → AllByRecursion P (xs ++ ys) → AllByRecursion P ys
-all_behind P [] ys h = h
-all_behind P (x ∷ xs) ys h = all_behind P xs ys h.1
 
 -- what holds of the image of each holds of all in the mapped list
 pub all_mapped : {X Y : Type 0} (P : Y → Type 0) (f : X → Y) (xs : List X) → AllByRecursion (λ x. P (f x)) xs → AllByRecursion P (map f xs)

@@ -1,14 +1,13 @@
 -- The loader form's file keeps the conditions of a written file.
-use Rattle.std.proofs.Common.{◌≡◌, ℕ, ◌+◌, ◌-◌, ◌*◌, ◌<◌, ◌≤◌, nat_le, nat_lt, ◌&&◌, List, ◌++◌, length, length-append, replicate, ◌∙◌, arith}
-use Rattle.std.specs.List.{list_any}
-use Rattle.std.proofs.lemmas.Bool.{or_left, and_from, le-leb, lt-ltb}
+use Rattle.std.proofs.Common.{◌≡◌, ℕ, ◌+◌, ◌-◌, ◌*◌, ◌<◌, ◌≤◌, List, ◌++◌, length, length-append, replicate, ◌∙◌, arith}
+use Rattle.std.specs.List.{AllByRecursion}
 use Rattle.std.proofs.lemmas.List.{length-replicate}
-use Rattle.elf_emit.specs.Job.{Job}
+use Rattle.elf_emit.specs.Job.{Frame, Job}
 use Rattle.elf_emit.specs.Layout.{group_pages}
-use Rattle.elf_emit.specs.Laws.{is_on}
 use Rattle.elf_emit.specs.FrameLaws.{IsPart}
 use Rattle.elf_emit.proofs.GroupPages.{length_group_pages}
 use Rattle.elf_emit.proofs.FrameAcceptance.{frame_loads}
+use Rattle.elf_emit.proofs.PageRuns.{framed_with}
 use Rattle.loader_form.specs.Laid.{Laid, stub_of, stub_bytes, loader_frame, IsApart, IsLaid, LaidIsFrame, LoaderLoads}
 
 -- pages that meet nothing are a part of a written file
@@ -33,27 +32,14 @@ body_length j l h =
 
 -- the loader form's file keeps the conditions of a written file
 pub laid_frame : LaidIsFrame
-laid_frame j l h k = record {
-  bytes = h.bytes;
-  size = h.size;
-  accepted = h.accepted;
-  backed = h.backed;
-  private_whole = h.private_whole;
-  private_some = h.private_some;
-  private_low = h.private_low;
-  private_high = h.private_high;
-  private_new = λ a p q. h.new a (or_left (nat_le j.private_lo a && nat_lt a j.private_hi) (list_any (λ x. is_on x a) j.pages)
-      (and_from (nat_le j.private_lo a) (nat_lt a j.private_hi) (le-leb j.private_lo a p) (lt-ltb a j.private_hi q)));
-  long = body_length j l k;
-  few_files = (let a = h.few_groups in let b = k.few in omega (arith, a, b));
-  parts = (
-    part_is j l.at l.pages j.groups 5 (j.groups + (l.pages + 1)) k.stub k.some (omega arith) (omega arith),
-    (part_is j l.save 1 (j.groups + l.pages) 6 (j.groups + (l.pages + 1)) k.save (omega arith) (omega arith) (omega arith), tt),
-  );
-  parts_apart = ((k.apart, tt), (tt, tt));
-  new = (k.stub.new, (k.save.new, tt));
-  starts = (let a = k.stub.high in omega (arith, a));
-}
+laid_frame j l h k =
+    let f : Frame = loader_frame j l in
+    let parts : AllByRecursion (IsPart j.private_lo j.private_hi f.files) f.parts = (
+      part_is j l.at l.pages j.groups 5 (j.groups + (l.pages + 1)) k.stub k.some (omega arith) (omega arith),
+      (part_is j l.save 1 (j.groups + l.pages) 6 (j.groups + (l.pages + 1)) k.save (omega arith) (omega arith) (omega arith), tt),
+    ) in
+    framed_with j h f.body f.files f.parts f.entry (body_length j l k) (let a = h.few_groups in let b = k.few in omega (arith, a, b)) parts ((k.apart, tt), (tt, tt))
+    (k.stub.new, (k.save.new, tt)) (let a = k.stub.high in omega (arith, a))
 
 -- the loader form's file loads its table, the private range, the stub, the save page and the original with what is written, and starts at
 -- the stub

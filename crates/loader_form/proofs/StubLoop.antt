@@ -10,6 +10,7 @@ use Rattle.cpu_state.specs.Bytes.{advanced, allows, lacking, number_at, bytes_of
 use Rattle.cpu_state.specs.Adding.{IsFree}
 use Rattle.cpu_state.specs.Fixed.{IsFixed}
 use Rattle.cpu_state.specs.Processor.{IsProcessorCore}
+use Rattle.length_decode.specs.Forms.{system_call}
 use Rattle.insn_form.specs.Operands.{reg}
 use Rattle.insn_form.specs.Moves.{sign_filled}
 use Rattle.insn_form.specs.Branches.{is_empty}
@@ -25,7 +26,7 @@ use Rattle.loader_form.specs.Stub.{Used, Rax, Rdx, Rdi, used, loads, Run, Stub, 
 use Rattle.loader_form.specs.Kernel.{Reply, IsAnswer, AreReplies, Call, Map, Close, Asks, answered, memory_after, mapped, replied, IsAtCall, number_after, IsWaiting}
 use Rattle.loader_form.specs.Starting.{IsLoaded, IsOutside, IsRunOf, AreRunsOf, AreFree, IsStart}
 use Rattle.loader_form.specs.Running.{all_mapped, End, AtExit, AtCall, end_by, end_from, left_by, left_from}
-use Rattle.loader_form.proofs.StubSteps.{Own, set_step, spread_step, sign_step, to_rdi_step, place_step, size_step, offset_step, next_step, end_step, taken_step, passed_step, back_step, leave_step, call_fields, call_here}
+use Rattle.loader_form.proofs.StubSteps.{Own, set_step, spread_step, sign_step, to_rdi_step, place_step, size_step, offset_step, next_step, end_step, taken_step, passed_step, back_step, leave_step, call_here}
 use Rattle.loader_form.proofs.StubPaths.{Reach, stay, own, called, then, reach_at, Outcome, before, at_most}
 use Rattle.loader_form.proofs.SavedRegisters.{everywhere, Slots, restored, loads_run}
 use Rattle.loader_form.proofs.StubLengths.{records_length, loaded_back}
@@ -255,7 +256,7 @@ module _ (file : List ℕ) (b : Stub) (s : Machine) (st : IsStart file b s) wher
 
   -- a call of the code that has its reply is a run of one move, to the instruction after it
   pub call_step : {k : Option ℕ} (call : Call) (r : Reply) (off : ℕ) (d d' : Core) (m m' : Bytes) → off < 4000
-      → (h : IsAtCall (state d (lo + off) m)) → h.fields ≡ call_fields → Asks file k d m call
+      → (h : IsAtCall (state d (lo + off) m)) → h.fields ≡ system_call → Asks file k d m call
       → behind call r off d m ≡ state d' (advanced (lo + off) 2) m'
       → Reach file lo (lo + 4096) k (state d (lo + off) m) 1 (r ∷ []) (number_after call r.answer k) (state d' (lo + (off + 2)) m')
   call_step {k} call r off d d' m m' l h f a e =
@@ -284,7 +285,7 @@ module _ (file : List ℕ) (b : Stub) (s : Machine) (st : IsStart file b s) wher
       let here = call_here v3 (lo + 179) refl (part m 179 2 (omega arith) g) in
       before (then s1 s2) (closed rs here refl)
     where
-      closed : (qs : List Reply) (h : IsAtCall (state (ten c 3 a1 a2 a3 a6 num num a9 a10 a11) (lo + 179) m)) → h.fields ≡ call_fields
+      closed : (qs : List Reply) (h : IsAtCall (state (ten c 3 a1 a2 a3 a6 num num a9 a10 a11) (lo + 179) m)) → h.fields ≡ system_call
           → Outcome file lo (Some num) (state (ten c 3 a1 a2 a3 a6 num num a9 a10 a11) (lo + 179) m) 12 (end_from 0 qs) (final m) qs (left_from 0 qs)
       closed [] h f = at_most (omega arith) (waits 179 (ten c 3 a1 a2 a3 a6 num num a9 a10 a11) m (omega arith) (record { here = h; call = Close; asks = (refl, refl) }))
       closed (r ∷ qs) h f =

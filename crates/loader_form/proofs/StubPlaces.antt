@@ -11,8 +11,7 @@ use Rattle.pun_base.specs.Least.{Least}
 use Rattle.address_space.specs.Fit.{FitsPages}
 use Rattle.scheme_search.proofs.LeastNumbers.{least_same}
 use Rattle.elf_read.specs.Entries.{segments}
-use Rattle.elf_emit.proofs.WrittenTable.{all_append, all_behind}
-use Rattle.image_step.proofs.DraftLines.{all_front}
+use Rattle.pun_base.proofs.JoinedLists.{all_appended, all_behind, all_front}
 use Rattle.site_turns.specs.PrivateRange.{taken_first}
 use Rattle.site_turns.specs.PlannedState.{PlannedState}
 use Rattle.site_turns.specs.Turned.{HasSameFree}
@@ -78,7 +77,7 @@ fits_listed firsts codes private n t = (to, from)
             above = f.free.above;
             below = f.free.below;
             misses = All-from_recursion (Misses t (n * 4096)) (private ∷ (codes ++ map widened firsts))
-                (own.0, all_append (Misses t (n * 4096)) codes (map widened firsts) (all_behind (Misses t (n * 4096)) (firsts ++ private ∷ []) codes narrowed) wide);
+                (own.0, all_appended (Misses t (n * 4096)) codes (map widened firsts) (all_behind (Misses t (n * 4096)) (firsts ++ private ∷ []) codes narrowed) wide);
           };
         }
 
@@ -89,8 +88,8 @@ fits_listed firsts codes private n t = (to, from)
         let all = recursion_from_All (Misses t (n * 4096)) (private ∷ (codes ++ map widened firsts)) f.free.misses in
         let first = subst (λ (x : ℕ). AllByRecursion (Misses x (n * 4096)) firsts) (sym e)
         (all_narrow firsts k n (subst (λ (x : ℕ). AllByRecursion (Misses x (n * 4096)) (map widened firsts)) e (all_behind (Misses t (n * 4096)) codes (map widened firsts) all.1))) in
-        let front : AllByRecursion (Misses t (n * 4096)) (firsts ++ private ∷ []) = all_append (Misses t (n * 4096)) firsts (private ∷ []) first (all.0, tt) in
-        let whole = all_append (Misses t (n * 4096)) (firsts ++ private ∷ []) codes front (all_front (Misses t (n * 4096)) codes (map widened firsts) all.1) in
+        let front : AllByRecursion (Misses t (n * 4096)) (firsts ++ private ∷ []) = all_appended (Misses t (n * 4096)) firsts (private ∷ []) first (all.0, tt) in
+        let whole = all_appended (Misses t (n * 4096)) (firsts ++ private ∷ []) codes front (all_front (Misses t (n * 4096)) codes (map widened firsts) all.1) in
         record {
           page = f.page;
           free = record {

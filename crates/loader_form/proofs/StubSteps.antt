@@ -6,8 +6,9 @@ use Rattle.cpu_alu.specs.declared.operation.Width.TheVariants.{W32, W64}
 use Rattle.cpu_alu.specs.Widths.{cut}
 use Rattle.cpu_state.specs.Bytes.{advanced, lacking, number_at, put_list, bytes_of}
 use Rattle.cpu_state.specs.Fixed.{IsFixed}
-use Rattle.length_decode.specs.declared.escape_bytes.Escape.TheVariants.{OneByte, TwoByte}
+use Rattle.length_decode.specs.declared.escape_bytes.Escape.TheVariants.{OneByte}
 use Rattle.length_decode.specs.Spelling.{Fields, IsInstruction, spelling}
+use Rattle.length_decode.specs.Forms.{system_call}
 use Rattle.insn_form.specs.declared.form.Seg.TheVariants.{Plain}
 use Rattle.insn_form.specs.declared.form.MemForm.{MemForm}
 use Rattle.insn_form.specs.declared.form.Target.TheVariants.{Rel, Through}
@@ -514,22 +515,18 @@ leave_step v at a target l k y h w e c =
     let q : number_at v.mem (place v.core (at_fixed (four a))) 8 % 2 ^ 64 ≡ target = ap (λ z. number_at v.mem z 8 % 2 ^ 64) p ∙ ap (λ z. z % 2 ^ 64) e ∙ (let g : target % 2 ^ 64 ≡ target = omega arith in g) in
     lands (λ j. gone_to v (q j)) st
 
--- SYSCALL
-abbrev pub call_fields : Fields
-call_fields = record { prefixes = []; escape = TwoByte; opcode = 0x05; modrm = None; sib = None; disp = []; imm = [] }
-
 -- SYSCALL's fields are an instruction's
-pub call_is : IsInstruction call_fields
+pub call_is : IsInstruction system_call
 call_is = record {
   formed = record { prefixes = refl; escape = refl; opcode = refl; known = refl; modrm = refl; operand = refl; imm = refl };
   short = omega arith;
 }
 
 -- the instruction of these fields is SYSCALL
-pub calls_kernel : is_syscall (insn_of call_fields) ≡ true
+pub calls_kernel : is_syscall (insn_of system_call) ≡ true
 unfolding template filled
 calls_kernel = refl
 
 -- where SYSCALL stands at the instruction pointer, the state is at a call
 abbrev pub call_here : (v : Machine) (at : ℕ) → v.rip ≡ at → IsFixed v.mem at call_kernel → IsAtCall v
-call_here v at h c = record { fields = call_fields; at = is_at v at call_fields call_is h c; calls = calls_kernel; plain = refl }
+call_here v at h c = record { fields = system_call; at = is_at v at system_call call_is h c; calls = calls_kernel; plain = refl }

@@ -20,7 +20,7 @@ use Rattle.elf_emit.proofs.DisjointLoads.{olds_pairs}
 use Rattle.elf_emit.proofs.OriginalChunks.{chunk_after, new_byte}
 use Rattle.elf_emit.proofs.LoadedImage.{olds_part}
 use Rattle.elf_emit.proofs.GroupPages.{slice_at}
-use Rattle.elf_emit.proofs.WrittenTable.{all_behind}
+use Rattle.pun_base.proofs.JoinedLists.{all_behind}
 use Rattle.unpatch.specs.Undone.{place_in, place_of}
 use Rattle.unpatch.proofs.SegmentsByAddress.{Loads, IsFound, all_found, news_found}
 

@@ -4,7 +4,7 @@ use Rattle.std.specs.List.{AllByRecursion, list_any, flat_map}
 use Rattle.std.proofs.lemmas.Bool.{cases_Bool, cases_eq, cond-true, cond-false, true≢false, or_cases, or_left, or_right, lt-ltb}
 use Rattle.std.proofs.lemmas.Bool.Decides.{nat_tests}
 use Rattle.patch_report.specs.Values.{WriteValue}
-use Rattle.elf_emit.proofs.WrittenTable.{all_append}
+use Rattle.pun_base.proofs.JoinedLists.{all_appended}
 use Rattle.unpatch.specs.Undone.{addressed, place_of, put_at, put_back}
 
 -- a place is this one
@@ -89,7 +89,7 @@ all_addressed P a (b ∷ bs) h = (
 -- what holds of all bytes of each run holds of all bytes of the runs
 pub all_flat : (P : ℕ × ℕ → Type 0) (g : WriteValue → List (ℕ × ℕ)) (ws : List WriteValue) → AllByRecursion (λ w. AllByRecursion P (g w)) ws → AllByRecursion P (flat_map g ws)
 all_flat P g [] h = tt
-all_flat P g (w ∷ ws) h = all_append P (g w) (flat_map g ws) h.0 (all_flat P g ws h.1)
+all_flat P g (w ∷ ws) h = all_appended P (g w) (flat_map g ws) h.0 (all_flat P g ws h.1)
 
 -- some byte of runs, from one of one
 any_append : {X : Type 0} (p : X → Bool) (xs ys : List X) → (list_any p xs || list_any p ys) ≡ true → list_any p (xs ++ ys) ≡ true

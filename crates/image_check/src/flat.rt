@@ -2,7 +2,7 @@
 ghost use Rattle.std.specs.Prelude.{◌≡◌, ◌==◌, ◌++◌, ◌+◌, ◌^◌, ◌&&◌, ◌≤◌, ◌<◌, ℕ, true, nat_le, nat_lt, map, IsTrue, IfOk, OnOk};
 ghost use Rattle.std.specs.List.{list_any, count_by};
 ghost use Rattle.std.specs.List.Sorted.{IsPermutation, IsNonDecreasingBy};
-ghost use Rattle.patch_report.specs.Values.{write_value, row_value, outcome_value};
+ghost use Rattle.patch_report.specs.Values.{write_value, row_value};
 ghost use Rattle.image_check.specs.Nearness.{IsNear};
 ghost use Rattle.image_check.specs.Parts.{line_of};
 ghost use Rattle.image_check.specs.Reports as reports;
@@ -12,7 +12,6 @@ use patch_report::report::Report;
 use patch_report::row::{RUN_MAX, ReportRow};
 use pun_base::action::Action;
 use pun_base::limits::PAGE_LEN;
-use pun_base::outcome::Outcome;
 use pun_base::plan::Write;
 use pun_base::tramp::Tramp;
 use std::alloc::{AllocError, Global};
@@ -46,22 +45,13 @@ impl<'a> Model for FlatReport<'a> {
     ghost invariant = { λ f. IsFlat f.report.now.body f.lines.items f.started.items f.runs.items };
 }
 
-/// The trampolines of an outcome.
-pub(crate) fn tramps_of(outcome: &Outcome) -> &[Tramp]
-    ensures { result.now ≡ reports.tramps_of (outcome_value outcome.now) }
-{
-    match outcome {
-        Outcome::Patched(plan) => plan.tramps.as_slice(),
-        Outcome::NotRelocatable | Outcome::NoPlan | Outcome::Shared => &[],
-    }
-}
-
 /// Appends the trampolines of a row.
+#[tactic(auto, using(crate::proofs::OutcomeTramps::tramps_told))]
 fn push_lines(lines: &mut Vec<ReportLine>, row: &ReportRow) -> Result<(), AllocError>
     ensures { OnOk result (map line_of lines.new.items
         ≡ map line_of lines.old.items ++ reports.row_lines (row_value row.now)) }
 {
-    for tramp in tramps_of(&row.outcome) {
+    for tramp in row.outcome.tramps() {
         lines.push(ReportLine {
             number: row.number,
             tramp: *tramp,

@@ -9,7 +9,6 @@ ghost use Rattle.image_check.specs.Rules as rules;
 ghost use Rattle.image_check.specs.Rules.{SiteFails};
 ghost use Rattle.image_check.specs.Verdict.{case_of};
 
-use crate::flat::tramps_of;
 use crate::lesser::lesser;
 use elf_read::elf::Elf;
 use patch_report::report::Report;
@@ -47,12 +46,13 @@ fn is_below(site: u32, before: Option<&ReportRow>) -> bool
 
 /// Whether a row that comes after another one is bad: its site isn't listed or isn't below the one
 /// before, or its trampolines aren't the site's.
+#[tactic(auto, using(crate::proofs::OutcomeTramps::tramps_told))]
 fn is_bad(row: &ReportRow, before: Option<&ReportRow>, starts: &Starts) -> bool
     ensures { result ≡ row_is_bad starts.now (option_map (λ r. row_value r.now) before.entry)
         (row_value row.now) }
 {
     starts.at(row.site).is_none()
-        || (!is_below(row.site, before) || !is_own(row.site, tramps_of(&row.outcome)))
+        || (!is_below(row.site, before) || !is_own(row.site, row.outcome.tramps()))
 }
 
 /// Whether a row with this site is bad.

@@ -1,5 +1,5 @@
 -- What an accepted file keeps, and what it loads at an address, by the segment that holds it.
-use Rattle.std.proofs.Common.{◌≡◌, ℕ, ◌+◌, ◌-◌, ◌≤◌, Bool, true, false, cond, List, [], length, take, drop, slice_index, Option, Some, None, option_map, sym, ap, ◌∙◌, subst}
+use Rattle.std.proofs.Common.{◌≡◌, ℕ, ◌+◌, ◌-◌, ◌<◌, ◌≤◌, Bool, true, false, cond, List, [], length, get_or, take, drop, slice_index, Option, Some, None, option_map, sym, ap, ◌∙◌, subst}
 use Rattle.pun_base.specs.Memory.{Cell}
 use Rattle.elf_read.specs.declared.segment.Segment.{Segment}
 use Rattle.elf_read.specs.Entries.{segments, loads}
@@ -9,7 +9,7 @@ use Rattle.elf_read.specs.Code.{is_exec_in, is_exec, code_of, code_from, window}
 use Rattle.elf_read.specs.Refusals.{refusal}
 use Rattle.elf_read.specs.Accepted.{Ascends, IsFile}
 use Rattle.elf_read.proofs.AcceptedFiles.{is_accepted, accepted_lower}
-use Rattle.elf_read.proofs.SegmentSearch.{Held, found_held, image_by, exec_of, find_executed, is_exec_some, is_exec_none}
+use Rattle.elf_read.proofs.SegmentSearch.{Held, found_held, image_by, exec_of, find_executed, is_exec_some, is_exec_none, executed_one}
 
 -- what the struct keeps
 pub is_file : (low : ℕ) (bytes : List ℕ) (entries loaded : List Segment) → 0x10000 ≤ low → entries ≡ segments bytes → loaded ≡ loads entries → refusal low bytes ≡ None → IsFile bytes entries loaded
@@ -73,3 +73,10 @@ window_some bytes a s e = ap (λ (b : Bool). code_of bytes a (cond b (Some s) No
 -- in a segment from which the address isn't executed the window is empty
 pub window_none : (bytes : List ℕ) (a : ℕ) (s : Segment) → is_exec_in a s ≡ false → code_of bytes a (exec_of a (Some s)) ≡ []
 window_none bytes a s e = ap (λ (b : Bool). code_of bytes a (cond b (Some s) None)) e
+
+-- a loaded entry from which an address is executed is the one that holds it
+pub executed_at : (bytes : List ℕ) (ss : List Segment) (a i : ℕ) (d : Segment) → refusal 0x10000 bytes ≡ None → ss ≡ loads (segments bytes) → i < length ss → is_exec_in a (get_or ss i d) ≡ true → segment_holding bytes a ≡ Some (get_or ss i d)
+executed_at bytes ss a i d r e l x =
+    let f = is_accepted 0x10000 bytes r in
+    subst (λ (ts : List Segment). (i < length ts) → (is_exec_in a (get_or ts i d) ≡ true) → segment_holding bytes a ≡ Some (get_or ts i d)) (sym e)
+    (λ m y. executed_one 0x10000 (length bytes) a i (loads (segments bytes)) d f.ascends f.placed m y) l x

@@ -80,6 +80,20 @@ covered ss a i d up l h p w =
     let v = h.0 (i - 1) d (omega arith) (omega arith) in
     first_covers ss a (i - 1) d (omega arith) (λ k m. ended ss a k (i - 1) d up m (omega arith) v) (covers_it (get_or ss (i - 1) d) a v w)
 
+placed_one : (from len i : ℕ) (ss : List Segment) (d : Segment) → AllByRecursion (IsPlaced from len) ss → i < length ss → IsPlaced from len (get_or ss i d)
+placed_one from len i [] d p l = absurd (omega arith)
+placed_one from len zero (s ∷ ss) d p l = p.0
+placed_one from len (suc i) (s ∷ ss) d p l = placed_one from len i ss d p.1 (omega arith)
+
+exec_parts : (s : Segment) (a : ℕ) → s.filesz ≤ s.memsz → is_exec_in a s ≡ true → (nat_le s.vaddr a ≡ true) × (covers s a ≡ true)
+exec_parts s a l e = grind (arith, nat_tests)
+
+-- the entry from which an address is executed is the one that covers it
+pub executed_one : (from len a i : ℕ) (ss : List Segment) (d : Segment) → Ascends 0 ss → AllByRecursion (IsPlaced from len) ss → i < length ss → is_exec_in a (get_or ss i d) ≡ true → segment_of ss a ≡ Some (get_or ss i d)
+executed_one from len a i ss d up p l e =
+    let k = exec_parts (get_or ss i d) a (placed_one from len i ss d p l).sizes e in
+    first_covers ss a i d l (λ j m. ended ss a j i d up m l k.0) k.1
+
 outside_one : (ss : List Segment) (a i k : ℕ) (d : Segment) → Ascends 0 ss → i ≤ length ss → Parted ss a i → 0 < i → (get_or ss (i - 1) d).memsz ≤ a - (get_or ss (i - 1) d).vaddr → k < length ss → covers (get_or ss k d) a ≡ false
 outside_one ss a i k d up n h p w l =
     let v = h.0 (i - 1) d (omega arith) (omega arith) in

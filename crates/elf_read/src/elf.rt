@@ -7,7 +7,7 @@ ghost use Rattle.elf_read.specs.Find.{segment_holding};
 ghost use Rattle.elf_read.specs.Image.{image_of};
 ghost use Rattle.elf_read.specs.Refusals.{refusal, Refused};
 
-use crate::find::{code_at, find_segment, loaded_byte};
+use crate::find::{code_at, count_below, find_segment, loaded_byte};
 use crate::header::{E_ENTRY, E_PHNUM, E_PHOFF, header_refusal};
 use crate::refusal::ElfError;
 use crate::rules::entry_refusal;
@@ -209,5 +209,21 @@ impl<'a> Elf<'a> {
         } else {
             &[]
         }
+    }
+
+    /// The window at an address, as `window` tells it. The entry at `place` among those that are loaded is tried first, and
+    /// `place` becomes that of the entry that was found: which one it is changes nothing of the answer.
+    #[inline(always)]
+    pub fn window_near(&self, place: &mut usize, addr: u32) -> &[u8]
+        ensures { result.now ≡ window self.now.bytes addr }
+    {
+        let wide = u64::from(addr);
+        let loads = self.loads();
+        let at = *place;
+        if at < loads.len() && loads[at].is_exec_at(wide) {
+            return code_at(self.file(), &loads[at], wide);
+        }
+        *place = count_below(loads, wide).saturating_sub(1);
+        self.window(addr)
     }
 }

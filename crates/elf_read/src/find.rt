@@ -9,7 +9,7 @@ use pun_base::limits::INSTRUCTION_MAX;
 use std::cmp::min;
 
 /// How many segments begin at or below an address; these come first.
-fn count_below(loads: &[Segment], addr: u64) -> usize
+pub(crate) fn count_below(loads: &[Segment], addr: u64) -> usize
     requires { Ascends 0 loads.now }
     ensures bound { result ≤ length loads.now }
     ensures parted { Parted loads.now addr result }

@@ -88,13 +88,18 @@ pub(crate) fn push_by_window(
     }
 }
 
-/// The window of a start, or how it is refused.
-pub(crate) fn window_of_start<'a>(elf: &'a Elf<'_>, addr: u32) -> Result<&'a [u8], StartError>
+/// The window of a start, which is looked for first in the segment at `place`, or how the start is refused.
+#[inline(always)]
+pub(crate) fn window_of_start<'a>(
+    elf: &'a Elf<'_>,
+    place: &mut usize,
+    addr: u32,
+) -> Result<&'a [u8], StartError>
     ensures { MatchResult result (λ window. (window.now ≡ code.window elf.now.bytes addr)
         × (refusal_of elf.now.bytes addr ≡ None))
         (λ error. refusal_of elf.now.bytes addr ≡ Some error) }
 {
-    let window = elf.window(addr);
+    let window = elf.window_near(place, addr);
     if window.is_empty() {
         Err(StartError::NotExecutable { addr })
     } else {

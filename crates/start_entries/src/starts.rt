@@ -51,8 +51,9 @@ impl Starts {
         let mut items = Vec::new(alloc);
         let mut left = starts;
         let mut reached = 0;
+        let mut place = 0;
         while let Some((addr, after)) = left.split_first() {
-            let window = window_of_start(elf, *addr)?;
+            let window = window_of_start(elf, &mut place, *addr)?;
             let next = after.first().copied();
             let Ok(new) = push_by_window(&mut items, window, *addr, reached, next) else {
                 return Err(StartError::Memory);

@@ -22,8 +22,6 @@ use Rattle.elf_read.specs.declared.refusal.ElfError.TheVariants as elf
 use Rattle.start_entries.specs.declared.refusal.StartError.{StartError}
 use Rattle.start_entries.specs.declared.refusal.StartError.TheVariants as start
 use Rattle.elf_emit.specs.declared.emit.EmitError.TheVariants as emit
-use Rattle.guest_threads.specs.declared.rewriting.ThreadError.{ThreadError}
-use Rattle.guest_threads.specs.declared.rewriting.ThreadError.TheVariants as threads
 use Rattle.rewrite_core.specs.declared.rewrite.RewriteError.{RewriteError}
 use Rattle.rewrite_core.specs.declared.rewrite.RewriteError.TheVariants as rewrite
 use Rattle.unpatch.specs.declared.error.UnpatchError.{UnpatchError}
@@ -218,15 +216,3 @@ load_failed error = Refused (refusals.Load error)
 abbrev pub loader_failed : List ℕ → LoaderError → Failed
 loader_failed out (loader.Rewrite error) = rewrite_failed out error
 loader_failed out (loader.Load error) = load_failed error
-
--- The error of a rewriting for threads as one of a rewriting: it is told as that.
-abbrev pub as_rewriting : ThreadError → RewriteError
-as_rewriting (threads.Elf error) = rewrite.Elf error
-as_rewriting (threads.Start error) = rewrite.Start error
-as_rewriting (threads.Turn error) = rewrite.Turn error
-as_rewriting (threads.Emit error) = rewrite.Emit error
-as_rewriting threads.Memory = rewrite.Memory
-
--- What the error of a rewriting for threads is told as.
-abbrev pub thread_failed : List ℕ → ThreadError → Failed
-thread_failed out error = rewrite_failed out (as_rewriting error)

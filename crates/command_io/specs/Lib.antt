@@ -1,5 +1,4 @@
 pub mod Refusals
-pub mod SiteRows
 pub mod Summary
 pub mod Ends
 pub mod Messages

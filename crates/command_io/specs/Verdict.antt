@@ -14,7 +14,7 @@ use Rattle.rewrite_core.specs.Judging.{Job, Judges}
 use Rattle.rewrite_core.specs.Rewrites.{file_of}
 use Rattle.rewrite_core.specs.Followed.{IsFollowed}
 use Rattle.command_words.specs.Words.{Names}
-use Rattle.command_io.specs.Refusals.{BadList, Rewrite}
+use Rattle.command_io.specs.Refusals.{Refusal, BadList, Rewrite}
 use Rattle.command_io.specs.Writing.{Verdict, Refused, Accepted}
 use Rattle.command_io.specs.ReportModes.{mode_text}
 use Rattle.command_io.specs.declared.ends.Input.TheVariants as input
@@ -60,16 +60,16 @@ pub record Form (J : Type 0) : Type 1 where
 abbrev pub reported_text : {J : Type 0} → Form J → J → List ℕ
 reported_text f job = mode_text f.mode ++ report_text (f.report job)
 
--- The verdict is what the rewriting is judged to be.
-abbrev pub IsJudged : Asked → Verdict Job → Type 0
-IsJudged a (Accepted job) = Judges a (Ok job)
-IsJudged a (Refused (Rewrite error)) = Judges a (Err error)
-IsJudged a other = ⊥
+-- The verdict is what a rewriting is judged to be, where each of its errors is told as a refusal.
+abbrev pub IsJudgedAs : {J E : Type 0} → (E → Refusal) → (Asked → Result J E → Type 0) → Asked → Verdict J → Type 0
+IsJudgedAs told Judges a (Accepted job) = Judges a (Ok job)
+IsJudgedAs {E = E} told Judges a (Refused r) = (error : E) × (r ≡ told error) × Judges a (Err error)
+IsJudgedAs told Judges a other = ⊥
 
 -- The form of `patch`: the table of the patched file loads each page for code, and the file follows the original.
 abbrev pub plain : Form Job
 plain = record {
-  Judged = IsJudged;
+  Judged = IsJudgedAs Rewrite Judges;
   file = file_of;
   mode = Plain;
   report = λ job. job.report;

@@ -1,12 +1,11 @@
 //! How what a lower call refuses ends a command.
 ghost use Rattle.std.specs.Prelude.{◌≡◌};
-ghost use Rattle.command_io.specs.Failing.{failed_of, list_failed, script_failed, report_failed, file_failed, start_failed, runner_failed, rewrite_failed, undo_failed, load_failed, loader_failed, as_rewriting, thread_failed};
+ghost use Rattle.command_io.specs.Failing.{failed_of, list_failed, script_failed, report_failed, file_failed, start_failed, runner_failed, rewrite_failed, undo_failed, load_failed, loader_failed};
 
 use crate::ends::{Failure, Input};
 use crate::refusal::Refusal;
 use elf_emit::emit::EmitError;
 use elf_read::refusal::ElfError;
-use guest_threads::rewriting::ThreadError;
 use image_step::error::ScriptError;
 use image_step::runner_error::RunnerError;
 use list_text::refusal::ListError;
@@ -116,24 +115,4 @@ pub fn loader_failure<'a>(error: LoaderError, out: &'a str) -> Failure<'a>
         LoaderError::Rewrite(error) => rewrite_failure(error, out),
         LoaderError::Load(error) => load_failure(error),
     }
-}
-
-/// The error of a rewriting for threads as one of `rewrite`.
-fn as_rewriting(error: ThreadError) -> RewriteError
-    ensures { result ≡ as_rewriting error }
-{
-    match error {
-        ThreadError::Elf(error) => RewriteError::Elf(error),
-        ThreadError::Start(error) => RewriteError::Start(error),
-        ThreadError::Turn(error) => RewriteError::Turn(error),
-        ThreadError::Emit(error) => RewriteError::Emit(error),
-        ThreadError::Memory => RewriteError::Memory,
-    }
-}
-
-/// A rewriting for threads, into the output of this name, that is refused, or cut short.
-pub fn thread_failure<'a>(error: ThreadError, out: &'a str) -> Failure<'a>
-    ensures { failed_of result ≡ thread_failed out.entry.now error }
-{
-    rewrite_failure(as_rewriting(error), out)
 }

@@ -92,16 +92,19 @@ pub fn print_report(alloc: Global, mode: Mode, report: &Report) -> Result<Vec<u8
 }
 
 /// A text is read as one thing.
+#[tactic(auto, using(crate::proofs::ModedReadings::one_moded_reading))]
 pub fn one_moded_reading()
     ensures { OneModedReading }
 {}
 
 /// A text that doesn't begin with the mode's line is read as a plain report's.
+#[tactic(auto, using(crate::proofs::ModedReadings::plain_is_read))]
 pub fn plain_is_read()
     ensures { PlainIsRead }
 {}
 
 /// A text that begins with the mode's line is read as the text after it.
+#[tactic(auto, using(crate::proofs::ModedReadings::threaded_is_read))]
 pub fn threaded_is_read()
     ensures { ThreadedIsRead }
 {}

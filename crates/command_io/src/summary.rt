@@ -1,12 +1,10 @@
 //! The summary of a patch.
-ghost use Rattle.std.specs.Prelude.{◌≡◌, false, IfOk, string_bytes, slice_get};
-ghost use Rattle.std.specs.Option.{option_map_or};
-ghost use Rattle.patch_report.specs.Values.{outcome_value};
-ghost use Rattle.command_io.specs.SiteRows.{rows_of};
+ghost use Rattle.std.specs.Prelude.{◌≡◌, IfOk, map, string_bytes};
+ghost use Rattle.patch_report.specs.Values.{outcome_value, row_value};
 ghost use Rattle.command_io.specs.Summary.{is_scheme, is_counted, number, sites_line, schemes_line, left_line, summary_text, done_status};
 
-use crate::site_rows::SiteRows;
 use crate::status;
+use patch_report::row::ReportRow;
 use pun_base::outcome::Outcome;
 use pun_base::scheme::Scheme;
 use std::alloc::{AllocError, Global};
@@ -51,33 +49,18 @@ fn is_counted(which: Counted, outcome: &Outcome) -> bool
     }
 }
 
-/// Whether the site of the row at a place is counted.
-fn counts_at(rows: &SiteRows<'_>, which: Counted, place: usize) -> bool
-    ensures { result ≡ option_map_or (λ row. is_counted which row.outcome)
-        (slice_get (rows_of rows.now) place) false }
-{
-    match rows.get(place) {
-        Some(row) => is_counted(which, &row.outcome),
-        None => false,
-    }
-}
-
 /// How many sites are counted.
-fn number(rows: &SiteRows<'_>, which: Counted) -> usize
-    ensures { result ≡ number which (rows_of rows.now) }
+fn number(rows: &[ReportRow], which: Counted) -> usize
+    ensures { result ≡ number which (map row_value rows.now) }
 {
-    let mut count = 0;
-    for place in 0..rows.count() {
-        if counts_at(rows, which, place) {
-            count += 1;
-        }
-    }
-    count
+    rows.iter()
+        .filter(|row| is_counted(which, &row.outcome))
+        .count()
 }
 
 /// The status of a patch that did its work, by whether a site is left.
-pub fn done_status(rows: &SiteRows<'_>) -> u8
-    ensures { result ≡ done_status (rows_of rows.now) }
+pub fn done_status(rows: &[ReportRow]) -> u8
+    ensures { result ≡ done_status (map row_value rows.now) }
 {
     if number(rows, Counted::Left) == 0 {
         status::DONE
@@ -88,10 +71,10 @@ pub fn done_status(rows: &SiteRows<'_>) -> u8
 
 /// How many sites there are, and how many of them are patched and left.
 #[tactic(auto, unfolding(crate::specs::Summary::sites_line))]
-fn sites_line(alloc: Global, rows: &SiteRows<'_>) -> Result<String, AllocError>
-    ensures { IfOk result (λ line. string_bytes line ≡ sites_line (rows_of rows.now)) }
+fn sites_line(alloc: Global, rows: &[ReportRow]) -> Result<String, AllocError>
+    ensures { IfOk result (λ line. string_bytes line ≡ sites_line (map row_value rows.now)) }
 {
-    let sites = rows.count();
+    let sites = rows.len();
     let patched = number(rows, Counted::Patched);
     let left = number(rows, Counted::Left);
     format!(in alloc; "sites {sites} patched {patched} left {left}\n")
@@ -99,8 +82,8 @@ fn sites_line(alloc: Global, rows: &SiteRows<'_>) -> Result<String, AllocError>
 
 /// How many sites each scheme patched.
 #[tactic(auto, unfolding(crate::specs::Summary::schemes_line))]
-fn schemes_line(alloc: Global, rows: &SiteRows<'_>) -> Result<String, AllocError>
-    ensures { IfOk result (λ line. string_bytes line ≡ schemes_line (rows_of rows.now)) }
+fn schemes_line(alloc: Global, rows: &[ReportRow]) -> Result<String, AllocError>
+    ensures { IfOk result (λ line. string_bytes line ≡ schemes_line (map row_value rows.now)) }
 {
     let b1 = number(rows, Counted::By(Scheme::B1));
     let b2 = number(rows, Counted::By(Scheme::B2));
@@ -112,8 +95,8 @@ fn schemes_line(alloc: Global, rows: &SiteRows<'_>) -> Result<String, AllocError
 
 /// Why sites are left, and how many.
 #[tactic(auto, unfolding(crate::specs::Summary::left_line))]
-fn left_line(alloc: Global, rows: &SiteRows<'_>) -> Result<String, AllocError>
-    ensures { IfOk result (λ line. string_bytes line ≡ left_line (rows_of rows.now)) }
+fn left_line(alloc: Global, rows: &[ReportRow]) -> Result<String, AllocError>
+    ensures { IfOk result (λ line. string_bytes line ≡ left_line (map row_value rows.now)) }
 {
     let fixed = number(rows, Counted::NotRelocatable);
     let unplanned = number(rows, Counted::NoPlan);
@@ -121,10 +104,10 @@ fn left_line(alloc: Global, rows: &SiteRows<'_>) -> Result<String, AllocError>
     format!(in alloc; "NotRelocatable {fixed} NoPlan {unplanned} Shared {shared}\n")
 }
 
-/// The summary of these rows.
+/// The summary of these rows, one for each site in turn order.
 #[tactic(auto, unfolding(crate::specs::Summary::summary_text))]
-pub fn summary(alloc: Global, rows: &SiteRows<'_>) -> Result<String, AllocError>
-    ensures { IfOk result (λ text. string_bytes text ≡ summary_text (rows_of rows.now)) }
+pub fn summary(alloc: Global, rows: &[ReportRow]) -> Result<String, AllocError>
+    ensures { IfOk result (λ text. string_bytes text ≡ summary_text (map row_value rows.now)) }
 {
     let mut text = sites_line(alloc, rows)?;
     text.push_str(schemes_line(alloc, rows)?.as_str())?;

@@ -10,10 +10,10 @@ use Rattle.pun_base.specs.Actions.{IsAction}
 use Rattle.list_text.specs.Digits.{below, number_in}
 use Rattle.list_text.specs.Words.{action_of, count_of}
 use Rattle.list_text.proofs.ActionSpellings.{actions_are_spelled}
-use Rattle.command_words.specs.Words.{Names, StepNames, ThreadNames, UnpatchNames, Command, Usage, Patch, Step, Gen, Load, Threads, ThreadsReported, Unpatch, is_plain, are_apart, patch_with, reserves_of, patch_of, check_of, most_steps, step_with, step_of, most_seed, most_blocks, nonzero, blocks_of, gen_with, gen_of, load_with, load_of, threads_with, reported_with, report_of, threads_by, threads_after, threads_of, unpatch_of, CommandRow, commands, under_name, form_of, command_of}
+use Rattle.command_words.specs.Words.{Names, ThreadNames, UnpatchNames, Command, Usage, Patch, Step, Gen, Load, Threads, ThreadsReported, Unpatch, is_plain, are_apart, patch_with, reserves_of, patch_of, check_of, most_steps, step_with, step_of, most_seed, most_blocks, nonzero, blocks_of, gen_with, gen_of, load_with, load_of, threads_with, reported_with, report_of, threads_by, threads_after, threads_of, unpatch_of, CommandRow, commands, under_name, form_of, command_of}
 
--- what is known of a command that words are of
-abbrev IsKnown : Command → Type 0
+-- What is known of a command that words are of: its outputs are apart, its action can be asked for, and its numbers are within their limits.
+abbrev pub IsKnown : Command → Type 0
 IsKnown (Patch n a r) = (n.out ≡ n.report → ⊥) × IsAction a
 IsKnown (Step n count) = count ≤ most_steps
 IsKnown (Gen seed blocks) = (1 ≤ blocks) × (blocks ≤ most_blocks)
@@ -198,33 +198,6 @@ known : (words : List (List ℕ)) → IsKnown (command_of words)
 known [] = tt
 known (program ∷ words) = known_plain words (list_all is_plain words)
 
-of_words : (words : List (List ℕ)) (c : Command) → c ≡ command_of words → IsKnown c
-of_words words c e = subst IsKnown (sym e) (known words)
-
--- a patch is of names that are apart
-pub patch_apart : (words : List (List ℕ)) (n : Names) (a : Action) (r : List (ℕ × ℕ)) → Patch n a r ≡ command_of words → n.out ≡ n.report → ⊥
-patch_apart words n a r e = (of_words words (Patch n a r) e).0
-
--- the action that words tell can be asked for
-pub patch_action : (words : List (List ℕ)) (n : Names) (a : Action) (r : List (ℕ × ℕ)) → Patch n a r ≡ command_of words → IsAction a
-patch_action words n a r e = (of_words words (Patch n a r) e).1
-
--- the number of steps isn't too large
-pub step_few : (words : List (List ℕ)) (n : StepNames) (k : ℕ) → Step n k ≡ command_of words → k ≤ most_steps
-step_few words n k e = of_words words (Step n k) e
-
--- the number of blocks is at least 1 and isn't too large
-pub gen_few : (words : List (List ℕ)) (seed blocks : ℕ) → Gen seed blocks ≡ command_of words → (1 ≤ blocks) × (blocks ≤ most_blocks)
-gen_few words seed blocks e = of_words words (Gen seed blocks) e
-
--- so are the names and the action of `load`
-pub load_apart : (words : List (List ℕ)) (n : Names) (a : Action) (r : List (ℕ × ℕ)) → Load n a r ≡ command_of words → n.out ≡ n.report → ⊥
-load_apart words n a r e = (of_words words (Load n a r) e).0
-
--- the action of `load` can be asked for
-pub load_action : (words : List (List ℕ)) (n : Names) (a : Action) (r : List (ℕ × ℕ)) → Load n a r ≡ command_of words → IsAction a
-load_action words n a r e = (of_words words (Load n a r) e).1
-
--- a patch for threads with a report is of names that are apart
-pub reported_apart : (words : List (List ℕ)) (n : Names) (r : List (ℕ × ℕ)) → ThreadsReported n r ≡ command_of words → n.out ≡ n.report → ⊥
-reported_apart words n r e = of_words words (ThreadsReported n r) e
+-- what is known of the command that words are of
+pub known_of : (words : List (List ℕ)) (c : Command) → c ≡ command_of words → IsKnown c
+known_of words c e = subst IsKnown (sym e) (known words)

@@ -1,11 +1,9 @@
 pub mod PatchRuns
-pub mod LoadRuns
 pub mod ThreadsRuns
 pub mod ReversedPlans
-pub mod ReversedThreads
 pub mod PatchReversal
 pub mod LoadReversal
-pub mod ThreadsReversal
+pub mod ReversedThreads
 pub mod InspectingRuns
 pub mod GenRuns
 pub mod LostWords

@@ -11,10 +11,16 @@ use Rattle.commands.specs.Commands.{Does}
 use Rattle.command_io.proofs.ReadingEnds.{Agree, inspected}
 use Rattle.inspect_commands.proofs.CheckVerdicts.{check_agrees}
 use Rattle.inspect_commands.proofs.StepVerdicts.{step_agrees}
-use Rattle.commands.proofs.PatchRuns.{patch_lost}
-use Rattle.commands.proofs.LoadRuns.{load_lost}
-use Rattle.commands.proofs.ThreadsRuns.{threads_lost, reported_lost}
-use Rattle.commands.proofs.PatchReversal.{unpatch_lost}
+use Rattle.command_io.specs.Verdict.{patching}
+use Rattle.patch_commands.specs.Answers.{patch_writing, Patches}
+use Rattle.patch_commands.specs.LoadAnswers.{with_stub, load_writing, Loads}
+use Rattle.patch_commands.specs.ThreadsAnswers.{for_threads, thread_patching, threads_writing, PatchesThreads, reported_patching, reported_writing, PatchesReported}
+use Rattle.patch_commands.specs.UnpatchAnswers.{unpatch_writing}
+use Rattle.commands.specs.Reversal.{Unpatches}
+use Rattle.command_words.proofs.CommandForms.{known_of}
+use Rattle.commands.proofs.PatchRuns.{form_ended, lost, patch_ended}
+use Rattle.commands.proofs.ThreadsRuns.{threads_ended}
+use Rattle.commands.proofs.PatchReversal.{unpatch_ended}
 
 only_none : (s : DeskState) → OnlyReads s s
 only_none s = record { held = refl; writing = refl; writes = refl; later = omega arith; sure = λ h. h }
@@ -28,7 +34,8 @@ inspecting_lost xs A R T O a s k =
 -- any command
 pub words_lost : (words : List (List ℕ)) (c : Command) (s : DeskState) (k : SinkState) → c ≡ command_of words → Does c s s k k 6
 words_lost words Usage s k e = record { untouched = refl; told = inr (refl, refl) }
-words_lost words (Patch n action reserves) s k e = patch_lost words n action reserves s k e
+words_lost words (Patch n action reserves) s k e =
+    let p = patching n action reserves in lost (patch_writing p) (Patches p) (patch_ended p (known_of words (Patch n action reserves) e).0) s k
 words_lost words (Check n) s k e = record {
   inspects = inspecting_lost (check_inputs n) CheckAccepts CheckRefuses CheckTells IsCheckStatus check_agrees s k;
   followed = λ files h z. absurd (omega arith);
@@ -36,7 +43,11 @@ words_lost words (Check n) s k e = record {
 words_lost words (Step n count) s k e =
     inspecting_lost (step_inputs n) StepAccepts StepRefuses (StepTells count) IsStepStatus (step_agrees count) s k
 words_lost words (Gen seed blocks) s k e = record { untouched = refl; told = inr (refl, refl) }
-words_lost words (Load n action reserves) s k e = load_lost words n action reserves s k e
-words_lost words (Threads n reserves) s k e = threads_lost n reserves s k
-words_lost words (ThreadsReported n reserves) s k e = reported_lost words n reserves s k e
-words_lost words (Unpatch n) s k e = unpatch_lost n s k
+words_lost words (Load n action reserves) s k e =
+    let p = patching n action reserves in lost (load_writing p) (Loads p) (form_ended with_stub p (known_of words (Load n action reserves) e).0) s k
+words_lost words (Threads n reserves) s k e =
+    let p = thread_patching n reserves in lost (threads_writing p) (PatchesThreads p) (threads_ended p) s k
+words_lost words (ThreadsReported n reserves) s k e =
+    let p = reported_patching n reserves in
+    lost (reported_writing p) (PatchesReported p) (form_ended for_threads p (known_of words (ThreadsReported n reserves) e)) s k
+words_lost words (Unpatch n) s k e = lost (unpatch_writing n) (Unpatches n) (unpatch_ended n) s k

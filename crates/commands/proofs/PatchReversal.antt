@@ -1,5 +1,5 @@
 -- A patch is taken back.
-use Rattle.std.proofs.Common.{◌≡◌, ℕ, ◌^◌, ◌<◌, ◌≤◌, inl, Bool, true, false, nat_lt, if◌then◌else◌, List, [], ◌∷◌, length, Option, Some, None, Result, Ok, Err, IsSomeAnd, refl, sym, ap, ◌∙◌, subst, arith}
+use Rattle.std.proofs.Common.{◌≡◌, ℕ, ◌^◌, ◌<◌, ◌≤◌, Bool, true, false, nat_lt, if◌then◌else◌, List, [], ◌∷◌, length, Option, Some, None, Result, Ok, Err, IsSomeAnd, refl, sym, ap, ◌∙◌, subst, arith}
 use Rattle.std.proofs.lemmas.Bool.Decides.{nat_tests}
 use Rattle.pun_base.specs.Shown.{Files, DeskState, SinkState, with_file, Told}
 use Rattle.pun_base.proofs.HeldFiles.{with_file-same}
@@ -8,22 +8,20 @@ use Rattle.patch_report.specs.Grammar.{IsReport}
 use Rattle.rewrite_core.specs.Asked.{Asked, IsInOrder}
 use Rattle.commands.specs.Planned.{IsReversed}
 use Rattle.commands.proofs.ReversedPlans.{judged_is_reversed}
-use Rattle.command_words.specs.Words.{UnpatchNames, Command, Unpatch, command_of}
-use Rattle.commands.specs.Commands.{Does}
+use Rattle.command_words.specs.Words.{UnpatchNames}
 use Rattle.command_io.specs.Inputs.{most, Gathered, TooLong, All, with_first, first_of, gathered, IsWithin}
 use Rattle.command_io.specs.Endings.{Delivers}
 use Rattle.command_io.specs.Writing.{Verdict, Accepted, OfGathered, IsInputVerdict, KeepsRest, files_after, Writes}
 use Rattle.command_io.specs.Verdict.{Patching, Form, reported_text, plain, rewriting_in, starts_of, sites_of, asked, OfLists, OfTexts, HoldsBytes}
-use Rattle.patch_commands.specs.Answers.{IsDone, patch_inputs, form_outputs, TextsFollowed, form_writing}
+use Rattle.patch_commands.specs.Answers.{patch_inputs, form_outputs, TextsFollowed, form_writing}
 use Rattle.command_io.specs.declared.report_mode.Mode.{Mode}
-use Rattle.command_io.specs.Failing.{NoMemory, Failed, Answer, end_message}
-use Rattle.command_io.specs.Works.{IsOnly, AreApart, Ends, Carries}
+use Rattle.command_io.specs.Failing.{Failed, Answer, end_message}
+use Rattle.command_io.specs.Works.{IsOnly, AreApart, Ends}
 use Rattle.patch_commands.specs.UnpatchAnswers.{unpatch_inputs, unpatch_outputs, OfBoth, restored_text, unpatch_writing}
-use Rattle.commands.specs.Reversal.{HoldsPatch, ComesBack, Unpatches, PatchIsReversed}
+use Rattle.commands.specs.Reversal.{HoldsPatch, ComesBack, Unpatches, IsReversedAfter, PatchIsReversed}
 use Rattle.command_io.proofs.NamedFiles.{with_file-other}
 use Rattle.command_io.proofs.GatheredInputs.{first_read}
 use Rattle.command_io.proofs.DeliveredTexts.{HasOwnHead}
-use Rattle.command_io.proofs.WrittenOutputs.{told_same}
 use Rattle.command_io.proofs.WritingEnds.{IsApart, writes}
 use Rattle.patch_commands.proofs.TextVerdicts.{in_order}
 use Rattle.patch_commands.proofs.UnpatchVerdicts.{of_undoing}
@@ -82,24 +80,13 @@ is_apart : (n : UnpatchNames) → IsApart (unpatch_writing n)
 is_apart n = record { own = λ bytes. refl; odd = λ status o q. (let z = q.0 in omega arith); head = λ bytes. restored_head (length bytes) }
 
 -- an end that was printed
-pub unpatches : (n : UnpatchNames) (s t : DeskState) (k l : SinkState) (r : Result Answer Failed) (status : ℕ)
+pub unpatch_ended : (n : UnpatchNames) (s t : DeskState) (k l : SinkState) (r : Result Answer Failed) (status : ℕ)
     → Told (KeepsRest (unpatch_outputs n)) s.held t.held → Ends (unpatch_writing n) s t r → Delivers (end_message r) k l status
     → Unpatches n s t k l status
-unpatches n s t k l r status rest e d =
+unpatch_ended n s t k l r status rest e d =
     let apart : AreApart (unpatch_outputs n) = (λ b. b, tt) in
     let w = writes (unpatch_writing n) (is_apart n) apart s t k l r status rest e d in
     record { writes = w; back = λ files h orig m p. comes_back n orig files s t k l status w h m p }
-
--- undoing that was carried out and printed
-pub unpatch_ran : (words : List (List ℕ)) (n : UnpatchNames) (s t : DeskState) (k l : SinkState) (r : Result Answer Failed) (status : ℕ)
-    → Unpatch n ≡ command_of words → Carries (unpatch_writing n) s t r → Delivers (end_message r) k l status → Does (command_of words) s t k l status
-unpatch_ran words n s t k l r status q c d = subst (λ (x : Command). Does x s t k l status) q (unpatches n s t k l r status c.rest c.ends d)
-
--- memory ran out before the words were read
-pub unpatch_lost : (n : UnpatchNames) (s : DeskState) (k : SinkState) → Unpatches n s s k k 6
-unpatch_lost n s k =
-    unpatches n s s k k (Err NoMemory) 6 (told_same (KeepsRest (unpatch_outputs n)) s.held s.held (λ files name o. refl) refl)
-    (inl (record { held = refl; writes = refl })) (refl, refl)
 
 -- ---- what `patch` wrote
 
@@ -161,11 +148,7 @@ texts_reversed f back p files new (file ∷ starts ∷ sites ∷ []) job orig ap
 texts_reversed f back p files new other job orig apart bytes held e j h same w x n a b = absurd h
 
 -- what was written in a form
-pub form_is_reversed : {J : Type 0} → (f : Form J) → IsTakenBack f → (p : Patching) (files new : Files) (s t : DeskState) (k l : SinkState) (status : ℕ)
-    → (orig : List ℕ) → (p.names.out ≡ p.names.report → ⊥)
-    → s.held ≡ Some files → HoldsBytes files p.names.file → files p.names.file ≡ Some orig → Writes (form_writing f p) s t k l status → IsDone status
-    → t.held ≡ Some new → IsWithin new p.names.out → IsWithin new p.names.report
-    → (n : UnpatchNames) → n.patched ≡ p.names.out → n.report ≡ p.names.report → HoldsPatch f.mode new n orig
+pub form_is_reversed : {J : Type 0} → (f : Form J) → IsTakenBack f → IsReversedAfter f.mode (λ p. Writes (form_writing f p))
 form_is_reversed f back p files new s t k l status orig apart h bytes held w o g i x n a b =
     let d = (w.held files h).done o in
     let z = d.1.outputs in

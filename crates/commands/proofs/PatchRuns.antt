@@ -1,27 +1,24 @@
 -- What patching in a form does, and `patch`, is what a command does that writes OUT and REPORT.
-use Rattle.std.proofs.Common.{◌≡◌, ℕ, ◌⊎◌, inl, inr, List, [], ◌∷◌, Some, Result, Err, refl, sym, ◌∙◌, subst, arith}
+use Rattle.std.proofs.Common.{◌≡◌, ℕ, ◌⊎◌, inl, inr, List, [], ◌∷◌, Result, Err, refl, sym, ◌∙◌, subst, arith}
 use Rattle.pun_base.specs.Shown.{Files, DeskState, SinkState, with_file, Told}
-use Rattle.pun_base.specs.declared.action.Action.{Action}
 use Rattle.pun_base.proofs.HeldFiles.{with_file-same}
 use Rattle.patch_report.specs.Values.{RowValue}
 use Rattle.patch_report.specs.Spelling.{report_text}
 use Rattle.rewrite_core.specs.Rewrites.{file_of}
-use Rattle.command_words.specs.Words.{Names, Command, Patch, command_of}
-use Rattle.commands.specs.Commands.{Does}
+use Rattle.command_words.specs.Words.{Names}
 use Rattle.command_io.specs.Summary.{summary_text, sites_line}
-use Rattle.command_io.specs.Inputs.{All, gathered, WhereTold}
+use Rattle.command_io.specs.Inputs.{All, gathered}
 use Rattle.command_io.specs.Endings.{Delivers}
-use Rattle.command_io.specs.Writing.{KeepsRest, files_after, Writes}
-use Rattle.command_io.specs.Verdict.{Patching, patching, Form, reported_text, plain}
-use Rattle.patch_commands.specs.Answers.{IsDone, patch_inputs, form_outputs, TextsFollowed, form_writing, patch_writing, FormFollowed, FilesFollowed, Patches}
+use Rattle.command_io.specs.Writing.{Writing, KeepsRest, files_after}
+use Rattle.command_io.specs.Verdict.{Patching, Form, reported_text, plain}
+use Rattle.patch_commands.specs.Answers.{patch_inputs, form_outputs, TextsFollowed, form_writing, patch_writing, FormFollowed, FilesFollowed, Patches, PatchesIn}
 use Rattle.command_io.specs.Failing.{Failed, NoMemory, Answer, end_message}
-use Rattle.command_io.specs.Works.{AreApart, Ends, Carries}
+use Rattle.command_io.specs.Works.{AreApart, Ends}
 use Rattle.command_io.proofs.NamedFiles.{with_file-other}
 use Rattle.command_io.proofs.GatheredInputs.{first_read}
 use Rattle.command_io.proofs.DeliveredTexts.{HasOwnHead}
 use Rattle.command_io.proofs.WrittenOutputs.{told_same}
 use Rattle.command_io.proofs.WritingEnds.{IsApart, writes}
-use Rattle.command_words.proofs.CommandForms.{patch_apart}
 use Rattle.patch_commands.proofs.DoneStatuses.{end_done}
 
 -- a summary begins with an s
@@ -72,25 +69,27 @@ followed f n files new other job apart e h same = absurd h
 -- ---- what patching in a form does
 
 -- an end that was printed
-pub form_written : {J : Type 0} → (f : Form J) (p : Patching) (s t : DeskState) (k l : SinkState) (r : Result Answer Failed) (status : ℕ)
-    → (p.names.out ≡ p.names.report → ⊥) → Told (KeepsRest (form_outputs f p.names)) s.held t.held → Ends (form_writing f p) s t r
-    → Delivers (end_message r) k l status → Writes (form_writing f p) s t k l status
-form_written f p s t k l r status apart rest e d =
-    writes (form_writing f p) (is_apart f p) (outputs_apart f p.names apart) s t k l r status rest e d
+pub form_ended : {J : Type 0} → (f : Form J) (p : Patching) → (p.names.out ≡ p.names.report → ⊥) → (s t : DeskState) (k l : SinkState)
+    → (r : Result Answer Failed) (status : ℕ) → Told (KeepsRest (form_outputs f p.names)) s.held t.held → Ends (form_writing f p) s t r
+    → Delivers (end_message r) k l status → PatchesIn f p s t k l status
+form_ended f p apart s t k l r status rest e d =
+    let w = writes (form_writing f p) (is_apart f p) (outputs_apart f p.names apart) s t k l r status rest e d in
+    record {
+      writes = w;
+      followed = λ files h new g o.
+          let x = (w.held files h).done o in
+          let z = x.1.outputs in
+          let q : files_after files (form_outputs f p.names) x.0 ≡ new = cc in
+          followed f p.names files new x.1.texts x.0 apart x.1.read x.1.promised q;
+    }
 
--- and what is promised then
-pub form_followed : {J : Type 0} → (f : Form J) (p : Patching) (s t : DeskState) (k l : SinkState) (status : ℕ) → (p.names.out ≡ p.names.report → ⊥)
-    → Writes (form_writing f p) s t k l status
-    → WhereTold s (λ files. (new : Files) → t.held ≡ Some new → IsDone status → FormFollowed f p.names files new)
-form_followed f p s t k l status apart w files h new g o =
-    let x = (w.held files h).done o in
-    let z = x.1.outputs in
-    let q : files_after files (form_outputs f p.names) x.0 ≡ new = cc in
-    followed f p.names files new x.1.texts x.0 apart x.1.read x.1.promised q
-
--- nothing was begun
-pub none_begun : {J : Type 0} → (f : Form J) (n : Names) (s : DeskState) → Told (KeepsRest (form_outputs f n)) s.held s.held
-none_begun f n s = told_same (KeepsRest (form_outputs f n)) s.held s.held (λ files name o. refl) refl
+-- memory ran out before the words were read, of any command that writes, by what its printed ends come to
+pub lost : {J : Type 0} → (w : Writing J) (Done : DeskState → DeskState → SinkState → SinkState → ℕ → Type 0)
+    → ((s t : DeskState) (k l : SinkState) (r : Result Answer Failed) (status : ℕ) → Told (KeepsRest w.outputs) s.held t.held → Ends w s t r
+    → Delivers (end_message r) k l status → Done s t k l status) → (s : DeskState) (k : SinkState) → Done s s k k 6
+lost w Done ended s k =
+    ended s s k k (Err NoMemory) 6 (told_same (KeepsRest w.outputs) s.held s.held (λ files name o. refl) refl)
+    (inl (record { held = refl; writes = refl })) (refl, refl)
 
 -- ---- what `patch` does
 
@@ -113,27 +112,9 @@ files_followed n old new h = record {
 }
 
 -- an end that was printed
-patches : (p : Patching) (s t : DeskState) (k l : SinkState) (r : Result Answer Failed) (status : ℕ) → (p.names.out ≡ p.names.report → ⊥)
+pub patch_ended : (p : Patching) → (p.names.out ≡ p.names.report → ⊥) → (s t : DeskState) (k l : SinkState) (r : Result Answer Failed) (status : ℕ)
     → Told (KeepsRest (form_outputs plain p.names)) s.held t.held → Ends (patch_writing p) s t r → Delivers (end_message r) k l status
     → Patches p s t k l status
-patches p s t k l r status apart rest e d =
-    let w = form_written plain p s t k l r status apart rest e d in
-    record {
-      writes = w;
-      followed = λ files h new g o. files_followed p.names files new (form_followed plain p s t k l status apart w files h new g o);
-    }
-
--- a patch that was carried out and printed
-pub ran : (words : List (List ℕ)) (n : Names) (action : Action) (pairs : List (ℕ × ℕ)) (s t : DeskState) (k l : SinkState)
-    → (r : Result Answer Failed) (status : ℕ) → Patch n action pairs ≡ command_of words
-    → Carries (patch_writing (patching n action pairs)) s t r → Delivers (end_message r) k l status → Does (command_of words) s t k l status
-ran words n action pairs s t k l r status q c d =
-    subst (λ (x : Command). Does x s t k l status) q
-    (patches (patching n action pairs) s t k l r status (patch_apart words n action pairs q) c.rest c.ends d)
-
--- memory ran out before the words were read
-pub patch_lost : (words : List (List ℕ)) (n : Names) (action : Action) (pairs : List (ℕ × ℕ)) (s : DeskState) (k : SinkState)
-    → Patch n action pairs ≡ command_of words → Patches (patching n action pairs) s s k k 6
-patch_lost words n action pairs s k q =
-    patches (patching n action pairs) s s k k (Err NoMemory) 6 (patch_apart words n action pairs q)
-    (none_begun plain n s) (inl (record { held = refl; writes = refl })) (refl, refl)
+patch_ended p apart s t k l r status rest e d =
+    let w = form_ended plain p apart s t k l r status rest e d in
+    record { writes = w.writes; followed = λ files h new g o. files_followed p.names files new (w.followed files h new g o) }

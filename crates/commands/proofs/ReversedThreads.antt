@@ -1,4 +1,4 @@
--- What is written for threads is undone by its report.
+-- What is written for threads is undone by its report, and what `threads` wrote with a report is taken back.
 use Rattle.std.proofs.Common.{◌≤◌, sym, subst}
 use Rattle.elf_emit.specs.Layout.{count, frame_of, layout}
 use Rattle.elf_emit.proofs.PageRuns.{job_frame}
@@ -10,6 +10,9 @@ use Rattle.rewrite_core.proofs.OneVerdict.{asked_of}
 use Rattle.guest_threads.specs.ThreadRewriting.{ThreadJob, job_of}
 use Rattle.guest_threads.proofs.ThreadPlans.{writable}
 use Rattle.commands.specs.Planned.{IsReversed, JudgedThreadsAreReversed}
+use Rattle.patch_commands.specs.ThreadsAnswers.{for_threads}
+use Rattle.commands.specs.Reversal.{ThreadsAreReversed}
+use Rattle.commands.proofs.PatchReversal.{form_is_reversed}
 use Rattle.commands.proofs.ReversedPlans.{writes_under, told_under, frame_is_reversed}
 
 -- the file of each job for threads that an input is judged to be is undone by its report
@@ -24,3 +27,9 @@ judged_threads_are_reversed a job order size judged =
     subst (λ (z : ThreadJob). IsReversed a.file (layout z.emit) z.report) (sym j.is)
     (frame_is_reversed (frame_of w.emit) w.report (job_frame w.emit is) (subst (λ (z : ThreadJob). count z.emit ≤ 1024) j.is judged.1.few)
     (writes_under thread_rules q j.turns j.planned j.groups turned.rows) (told_under thread_rules five_lead q j.turns j.groups asked turned.turns))
+
+-- after a `threads` with a report that answered 0 or 1, OUT and REPORT hold what gives FILE back
+pub threads_are_reversed : ThreadsAreReversed
+threads_are_reversed p files new s t k l status orig apart h bytes held w =
+    form_is_reversed for_threads (record { undone = judged_threads_are_reversed; told = λ file starts job f. f.of_job.told }) p files new s t k l status
+    orig apart h bytes held w.writes

@@ -41,26 +41,22 @@ pub record Unpatches (n : UnpatchNames) (s t : DeskState) (k l : SinkState) (sta
   -- what was patched comes back
   pub back : WhereTold s (λ files. (orig : List ℕ) (m : Mode) → HoldsPatch m files n orig → ComesBack n orig files s t k l status)
 
--- After a patch that answered 0 or 1, OUT and REPORT hold such texts of FILE, where they are within the limit of a read.
+-- After a command of this kind answered 0 or 1, OUT and REPORT hold such texts of FILE in this mode, where they are within the limit of a read.
+abbrev pub IsReversedAfter : Mode → (Patching → DeskState → DeskState → SinkState → SinkState → ℕ → Type 0) → Type 0
+IsReversedAfter m Does =
+    (p : Patching) (files new : Files) (s t : DeskState) (k l : SinkState) (status : ℕ) (orig : List ℕ) → (p.names.out ≡ p.names.report → ⊥)
+    → s.held ≡ Some files → HoldsBytes files p.names.file → files p.names.file ≡ Some orig → Does p s t k l status → IsDone status
+    → t.held ≡ Some new → IsWithin new p.names.out → IsWithin new p.names.report
+    → (n : UnpatchNames) → n.patched ≡ p.names.out → n.report ≡ p.names.report → HoldsPatch m new n orig
+
+-- After `patch` they do.
 abbrev pub PatchIsReversed : Type 0
-PatchIsReversed =
-    (p : Patching) (files new : Files) (s t : DeskState) (k l : SinkState) (status : ℕ) (orig : List ℕ) → (p.names.out ≡ p.names.report → ⊥)
-    → s.held ≡ Some files → HoldsBytes files p.names.file → files p.names.file ≡ Some orig → Patches p s t k l status → IsDone status
-    → t.held ≡ Some new → IsWithin new p.names.out → IsWithin new p.names.report
-    → (n : UnpatchNames) → n.patched ≡ p.names.out → n.report ≡ p.names.report → HoldsPatch Plain new n orig
+PatchIsReversed = IsReversedAfter Plain Patches
 
--- So after `load`.
+-- After `load` they do.
 abbrev pub LoadIsReversed : Type 0
-LoadIsReversed =
-    (p : Patching) (files new : Files) (s t : DeskState) (k l : SinkState) (status : ℕ) (orig : List ℕ) → (p.names.out ≡ p.names.report → ⊥)
-    → s.held ≡ Some files → HoldsBytes files p.names.file → files p.names.file ≡ Some orig → Loads p s t k l status → IsDone status
-    → t.held ≡ Some new → IsWithin new p.names.out → IsWithin new p.names.report
-    → (n : UnpatchNames) → n.patched ≡ p.names.out → n.report ≡ p.names.report → HoldsPatch Plain new n orig
+LoadIsReversed = IsReversedAfter Plain Loads
 
--- So after `threads` with a report.
+-- After `threads` with a report they do.
 abbrev pub ThreadsAreReversed : Type 0
-ThreadsAreReversed =
-    (p : Patching) (files new : Files) (s t : DeskState) (k l : SinkState) (status : ℕ) (orig : List ℕ) → (p.names.out ≡ p.names.report → ⊥)
-    → s.held ≡ Some files → HoldsBytes files p.names.file → files p.names.file ≡ Some orig → PatchesReported p s t k l status → IsDone status
-    → t.held ≡ Some new → IsWithin new p.names.out → IsWithin new p.names.report
-    → (n : UnpatchNames) → n.patched ≡ p.names.out → n.report ≡ p.names.report → HoldsPatch Threaded new n orig
+ThreadsAreReversed = IsReversedAfter Threaded PatchesReported

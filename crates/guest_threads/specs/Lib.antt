@@ -2,6 +2,5 @@ pub mod FromTurns
 pub mod WorkedGuest
 pub mod ThreadPlanning
 pub mod ThreadCalls
-pub mod ThreadCauses
 pub mod ThreadRewriting
 pub mod WorkedFile

@@ -1,34 +1,29 @@
 -- What `rewrite_threads` and `rewrite_threads_reported` answer, and what they do to the desk. Theorems cite it.
-use Rattle.std.specs.Prelude.{◌≡◌, ℕ, ◌⊎◌, ◌<◌, ◌≤◌, List, map, Some, None, Result, Ok, Err}
+use Rattle.std.specs.Prelude.{◌≡◌, ℕ, List, map, Result, Ok}
 use Rattle.std.specs.List.{flat_map}
 use Rattle.pun_base.specs.Shown.{DeskState}
-use Rattle.pun_base.specs.Desk.{PutResult, Fills}
-use Rattle.pun_base.specs.declared.desk.PutError.TheVariants as put
+use Rattle.pun_base.specs.Desk.{Fills}
 use Rattle.pun_base.specs.declared.action.Action.TheVariants.{Count}
 use Rattle.address_space.specs.declared.extent.Extent.{Extent}
 use Rattle.address_space.specs.Free.{extent_of}
 use Rattle.page_group.specs.Grouping.{GroupsState}
 use Rattle.elf_read.specs.Entries.{entry_of}
 use Rattle.elf_read.specs.Image.{image_of}
-use Rattle.elf_read.specs.Refusals.{refusal}
 use Rattle.elf_emit.specs.Job as written
-use Rattle.elf_emit.specs.Layout.{count, layout}
-use Rattle.elf_emit.specs.declared.emit.EmitError.TheVariants as emit
+use Rattle.elf_emit.specs.Layout.{layout}
 use Rattle.patch_report.specs.Grammar.{IsReport}
 use Rattle.patch_report.specs.Values.{RowValue, ReportValue, row_value, written as report_written}
 use Rattle.start_entries.specs.Entries.{entries_of}
-use Rattle.start_entries.specs.Refusals.{first_refusal}
 use Rattle.image_check.specs.Reports.{row_lines}
 use Rattle.site_turns.specs.Modes.{thread_rules}
 use Rattle.site_turns.specs.PlannedState.{PlannedState}
-use Rattle.site_turns.specs.Planning.{Request, Turns, IsRequestRefused, end_under}
+use Rattle.site_turns.specs.Planning.{Request, Turns, end_under}
 use Rattle.site_turns.specs.PlanLaws.{job_for, report_under, AreGroups}
-use Rattle.site_turns.specs.declared.error.TurnError.TheVariants as turn
-use Rattle.rewrite_core.specs.Asked.{Asked, IsInOrder, request_of}
-use Rattle.rewrite_core.specs.Judging.{HasStarts}
+use Rattle.rewrite_core.specs.Asked.{Asked}
+use Rattle.rewrite_core.specs.declared.rewrite.RewriteError.{RewriteError}
+use Rattle.rewrite_core.specs.Judging.{JudgesBy}
+use Rattle.rewrite_core.specs.Rewrites.{RewritesBy}
 use Rattle.rewrite_core.specs.Origins.{origin_of}
-use Rattle.guest_threads.specs.declared.rewriting.ThreadError.{ThreadError}
-use Rattle.guest_threads.specs.declared.rewriting.ThreadError.TheVariants as threads
 use Rattle.guest_threads.specs.declared.rewriting.ThreadReport.{ThreadReport}
 use Rattle.guest_threads.specs.FromTurns.{site_of}
 use Rattle.thread_runs.specs.Theorem.{AreFollowed, GetOut}
@@ -64,34 +59,17 @@ pub record IsThreadJobFor (q : Request) (j : ThreadJob) : Type 0 where
   pub are_groups : AreGroups planned groups
   pub is : j ≡ job_of q turns planned groups
 
--- The table of the written file would need this many entries, more than 1,024.
-pub record NeedsTooMany (q : Request) (n : ℕ) : Type 0 where
-  pub job : ThreadJob
-  pub is_job : IsThreadJobFor q job
-  pub many : 1024 < count job.emit
-  pub told : n ≡ count job.emit
+-- What is to be written of a job.
+abbrev pub writing_of : ThreadJob → written.Job
+writing_of j = j.emit
 
--- The input is accepted as a job whose written file needs at most 1,024 entries of the table.
-pub record IsAcceptedAs (q : Request) (j : ThreadJob) : Type 0 where
-  pub is_job : IsThreadJobFor q j
-  pub few : count j.emit ≤ 1024
+-- The written file of a job.
+abbrev pub file_of : ThreadJob → List ℕ
+file_of j = layout j.emit
 
--- What an input is judged to be: a job, or refused. The first rule that the file breaks comes first, then the first start
--- that is refused, then the least site that is no start, then that no private range is left, then the table of the written
--- file. Want of memory and faults of the desk are no verdicts.
-abbrev pub Judges : Asked → Result ThreadJob ThreadError → Type 0
-Judges a (Err (threads.Elf error)) = refusal 0x20000 a.file ≡ Some error
-Judges a (Err (threads.Start error)) =
-    (refusal 0x20000 a.file ≡ None) × (first_refusal a.file a.starts ≡ Some error)
-Judges a (Err (threads.Turn turn.Memory)) = ⊥
-Judges a (Err (threads.Turn error)) = HasStarts a × IsRequestRefused (request_of a) error
-Judges a (Err (threads.Emit (emit.TooManySegments n))) = HasStarts a × NeedsTooMany (request_of a) n
-Judges a (Err other) = ⊥
-Judges a (Ok job) = HasStarts a × IsAcceptedAs (request_of a) job
-
--- An input is judged in one way at most: to be one job or one refusal, and never both.
-abbrev pub JudgedOnce : Type 0
-JudgedOnce = (a : Asked) (v w : Result ThreadJob ThreadError) → IsInOrder a → Judges a v → Judges a w → v ≡ w
+-- What an input is judged to be: first its plan for threads, and then the table of the planned job's file.
+abbrev pub Judges : Asked → Result ThreadJob RewriteError → Type 0
+Judges a v = JudgesBy IsThreadJobFor writing_of a v
 
 -- What was patched for threads: the images of the original and of a written file, the listed
 -- entries of the starts, the sites of the rows, and the private range.
@@ -119,32 +97,18 @@ pub record IsFollowedInThreads (file starts patched : List ℕ) (private : Exten
   pub followed_with : AreFollowedWith (threading_for file starts patched private rows)
   pub out_with : GetOutWith (threading_for file starts patched private rows)
 
--- The input is judged to be a job for which P holds.
-abbrev pub HasJob : Asked → (ThreadJob → Type 0) → Type 0
-HasJob a P = (j : ThreadJob) × Judges a (Ok j) × P j
-
 -- The answer is what was patched by a job, and the name holds the job's file, which follows the
 -- original.
 pub record IsRewritten (a : Asked) (name : List ℕ) (s t : DeskState) (report : ThreadReport)
     (j : ThreadJob) : Type 0 where
   pub private_is : extent_of report.private ≡ j.private
-  pub rows_are : map row_value report.rows ≡ j.rows
+  pub rows_are : map row_value report.rows.items ≡ j.rows
   pub holds : Fills name (layout j.emit) s t (Ok tt)
   pub followed : IsFollowedInThreads a.file a.starts (layout j.emit) j.private j.rows
 
--- The name holds a prefix of the job's file, or what it held before.
-abbrev pub IsCutOff : Asked → List ℕ → DeskState → DeskState → PutResult → Type 0
-IsCutOff a name s t cause = HasJob a (λ j. Fills name (layout j.emit) s t cause)
-
--- What each answer of `rewrite_threads` says. A refusal is the one that the input is judged to be,
--- and changes nothing. After a write fault or want of memory the name holds a prefix of the file or
--- what it held before; want of memory may come in place of any answer, and may have changed
--- nothing.
-abbrev pub RewritesThreads : Asked → List ℕ → DeskState → DeskState → Result ThreadReport ThreadError → Type 0
-RewritesThreads a name s t (Ok report) = HasJob a (IsRewritten a name s t report)
-RewritesThreads a name s t (Err (threads.Emit emit.WriteFault)) = IsCutOff a name s t (Err put.Failed)
-RewritesThreads a name s t (Err threads.Memory) = (t ≡ s) ⊎ IsCutOff a name s t (Err put.Memory)
-RewritesThreads a name s t (Err refusal) = Judges a (Err refusal) × (t ≡ s)
+-- What each answer of `rewrite_threads` says.
+abbrev pub RewritesThreads : Asked → List ℕ → DeskState → DeskState → Result ThreadReport RewriteError → Type 0
+RewritesThreads a name s t r = RewritesBy Judges file_of IsRewritten a name s t r
 
 -- The answer is the report of a job, and the name holds the job's file, which follows the original.
 pub record IsReported (a : Asked) (name : List ℕ) (s t : DeskState) (report : ReportValue)
@@ -159,8 +123,6 @@ pub record IsReported (a : Asked) (name : List ℕ) (s t : DeskState) (report : 
   pub holds : Fills name (layout j.emit) s t (Ok tt)
   pub followed : IsFollowedInThreads a.file a.starts (layout j.emit) j.private j.rows
 
--- What each answer of `rewrite_threads_reported` says: a report tells what was written, and an error
--- says what it says of `rewrite_threads`.
-abbrev pub ReportsThreads : Asked → List ℕ → DeskState → DeskState → Result ReportValue ThreadError → Type 0
-ReportsThreads a name s t (Ok report) = HasJob a (IsReported a name s t report)
-ReportsThreads a name s t (Err error) = RewritesThreads a name s t (Err error)
+-- What each answer of `rewrite_threads_reported` says: a report tells what was written.
+abbrev pub ReportsThreads : Asked → List ℕ → DeskState → DeskState → Result ReportValue RewriteError → Type 0
+ReportsThreads a name s t r = RewritesBy Judges file_of IsReported a name s t r

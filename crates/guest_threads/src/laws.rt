@@ -1,6 +1,7 @@
 //! What holds of the files that are written for guests of several threads.
 ghost use Rattle.guest_threads.specs.FromTurns.{FoldedIsThreadSound, TurnsForThreads, CountersHaveRoom, TurnsAreThreaded, ThreadJobLoads, WrittenIsThreaded};
-ghost use Rattle.guest_threads.specs.ThreadRewriting.{JudgedOnce};
+ghost use Rattle.rewrite_core.specs.Laws.{AreJudgedOnce};
+ghost use Rattle.guest_threads.specs.ThreadRewriting.{Judges};
 ghost use Rattle.guest_threads.specs.WorkedFile.{RowIsThreaded};
 ghost use Rattle.guest_threads.specs.WorkedGuest.{IsThreadsReal};
 
@@ -45,5 +46,5 @@ pub fn written_row()
 /// An input of `rewrite_threads` has one job or one refusal at most.
 #[tactic(auto, using(crate::proofs::ThreadVerdicts::judged_once))]
 pub fn judged_once()
-    ensures { JudgedOnce }
+    ensures { AreJudgedOnce Judges }
 {}

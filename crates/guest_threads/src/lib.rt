@@ -1,11 +1,10 @@
 //! Files that are patched for guests of several threads.
 //!
-//! Stands on `rewrite_core`, `site_turns` and `thread_runs`; `thread_check` and `command_io` stand on it.
+//! Stands on `rewrite_core`, `site_turns` and `thread_runs`; `thread_check` and `patch_commands` stand on it.
 #![tactic(auto)]
 
 pub mod laws;
 mod planning;
-pub mod report_rows;
 pub mod rewriting;
 
 pub use planning::plan_threads;

@@ -1,50 +1,32 @@
 //! The rewriting of a file for a guest of several threads.
-ghost use Rattle.std.specs.Prelude.{◌≡◌, ℕ, ◌^◌, ◌<◌, ◌≤◌, None, length, slice_index};
+ghost use Rattle.std.specs.Prelude.{◌≡◌, ◌^◌, ◌<◌, ◌≤◌, None, length};
 ghost use Rattle.std.specs.List.Sorted.{IsStrictlyIncreasing};
 ghost use Rattle.pun_base.specs.Desk.{Stays};
 ghost use Rattle.pun_base.specs.declared.action.Action.TheVariants.{Count};
 ghost use Rattle.pun_base.specs.Limits.{most_sites};
 ghost use Rattle.elf_read.specs.Refusals.{refusal};
-ghost use Rattle.rewrite_core.specs.Asked.{Asked};
-ghost use Rattle.guest_threads.specs.ThreadCalls.{IsPlannedFor, WasPlanned, WritesThreads};
+ghost use Rattle.rewrite_core.specs.Asked.{IsInOrder};
+ghost use Rattle.guest_threads.specs.ThreadCalls.{counting, WritesThreads};
 ghost use Rattle.guest_threads.specs.ThreadRewriting.{RewritesThreads, ReportsThreads};
 
 use crate::planning::plan_threads;
-use crate::report_rows::ReportRows;
-use elf_emit::emit::{EmitError, emit};
 use elf_read::elf::{Elf, read_elf};
-use elf_read::refusal::ElfError;
 use patch_report::report::Report;
+use patch_report::row::ReportRow;
 use pun_base::action::Action;
 use pun_base::desk::Desk;
 use pun_base::range::Range;
 use rewrite_core::original::origin_of;
-use rewrite_core::patching::{Patch, patch_of};
-use site_turns::error::TurnError;
-use site_turns::planned::Planned;
-use start_entries::refusal::StartError;
+use rewrite_core::patching::Patch;
+use rewrite_core::rewrite::write_patch;
 use start_entries::starts::Starts;
-use std::alloc::{AllocError, Global};
-use thiserror::Error;
+use std::alloc::Global;
 
-/// Why a file wasn't rewritten for threads.
-#[derive(Debug, Drop, Error)]
-pub enum ThreadError {
-    /// The file breaks a rule.
-    #[error("the file can't be patched")]
-    Elf(ElfError),
-    /// A start breaks a rule.
-    #[error("the starts can't be those of the file")]
-    Start(StartError),
-    /// A site is no start, or there is no place for the counters.
-    #[error("the sites can't be patched")]
-    Turn(TurnError),
-    /// The patched file wasn't written.
-    #[error("the patched file can't be written")]
-    Emit(EmitError),
-    #[error("out of memory")]
-    Memory,
-}
+/// A file isn't rewritten for threads for one of the reasons of `rewrite`.
+pub use rewrite_core::rewrite::RewriteError as ThreadError;
+
+/// The rows of a patched file: one for each site, in turn order, the highest site first.
+pub type ReportRows = Vec<ReportRow>;
 
 /// What was patched: the private range, in which the counters stand from offset 64 on, and what
 /// became of each site.
@@ -52,96 +34,6 @@ pub enum ThreadError {
 pub struct ThreadReport {
     pub private: Range,
     pub rows: ReportRows,
-}
-
-impl From<ElfError> for ThreadError {
-    ghost use Rattle.guest_threads.specs.ThreadCauses.{elf_error};
-
-    ghost from_gives = { λ error result. result ≡ elf_error error };
-
-    fn from(error: ElfError) -> ThreadError {
-        match error {
-            ElfError::Memory => ThreadError::Memory,
-            error => ThreadError::Elf(error),
-        }
-    }
-}
-
-impl From<StartError> for ThreadError {
-    ghost use Rattle.guest_threads.specs.ThreadCauses.{start_error};
-
-    ghost from_gives = { λ error result. result ≡ start_error error };
-
-    fn from(error: StartError) -> ThreadError {
-        match error {
-            StartError::Memory => ThreadError::Memory,
-            error => ThreadError::Start(error),
-        }
-    }
-}
-
-impl From<TurnError> for ThreadError {
-    ghost use Rattle.guest_threads.specs.ThreadCauses.{turn_error};
-
-    ghost from_gives = { λ error result. result ≡ turn_error error };
-
-    fn from(error: TurnError) -> ThreadError {
-        match error {
-            TurnError::Memory => ThreadError::Memory,
-            error => ThreadError::Turn(error),
-        }
-    }
-}
-
-impl From<EmitError> for ThreadError {
-    ghost use Rattle.guest_threads.specs.ThreadCauses.{emit_error};
-
-    ghost from_gives = { λ error result. result ≡ emit_error error };
-
-    fn from(error: EmitError) -> ThreadError {
-        match error {
-            EmitError::Memory => ThreadError::Memory,
-            error => ThreadError::Emit(error),
-        }
-    }
-}
-
-impl From<AllocError> for ThreadError {
-    ghost use Rattle.guest_threads.specs.declared.rewriting.ThreadError.TheVariants.{Memory};
-
-    ghost from_gives = { λ _ result. result ≡ Memory };
-
-    fn from(_error: AllocError) -> ThreadError {
-        ThreadError::Memory
-    }
-}
-
-/// Writes the file of what was planned, and answers its patch.
-fn write_planned<D: Desk>(
-    alloc: Global,
-    elf: &Elf<'_>,
-    planned: Planned,
-    name: &str,
-    desk: &mut D,
-) -> Result<Patch, ThreadError>
-    requires planned { WasPlanned elf.now.bytes planned }
-    requires nothing { (D.seen desk.old).writing ≡ None }
-    ensures writes { (a : Asked) → IsPlannedFor elf.now.bytes planned a
-        → WritesThreads a name.now (D.seen desk.old) (D.seen desk.new) result }
-    ensures stays { Stays (D.seen desk.old) (D.seen desk.new) }
-{
-    let patch = patch_of(alloc, planned)?;
-    emit(
-        alloc,
-        elf,
-        &patch.writes,
-        &patch.built,
-        &patch.groups,
-        patch.private,
-        name,
-        desk,
-    )?;
-    Ok(patch)
 }
 
 /// Builds the starts of a file that was read, plans each site, writes the file of the plan, and
@@ -155,26 +47,18 @@ fn write_threads<D: Desk>(
     name: &str,
     desk: &mut D,
 ) -> Result<Patch, ThreadError>
-    requires bytes { (k : ℕ) → slice_index elf.now.bytes k < 256 }
+    requires order { IsInOrder (counting elf.now.bytes starts.now sites.now reserves.now) }
     requires size { length elf.now.bytes < 2 ^ 63 }
     requires accepted { refusal 0x20000 elf.now.bytes ≡ None }
-    requires starts_ascend { IsStrictlyIncreasing starts.now }
-    requires sites_ascend { IsStrictlyIncreasing sites.now }
-    requires few_sites { length sites.now ≤ most_sites }
     requires nothing { (D.seen desk.old).writing ≡ None }
-    ensures writes { WritesThreads (record {
-      file = elf.now.bytes;
-      starts = starts.now;
-      sites = sites.now;
-      action = Count;
-      reserves = reserves.now;
-    }) name.now (D.seen desk.old) (D.seen desk.new) result }
+    ensures writes { WritesThreads (counting elf.now.bytes starts.now sites.now reserves.now)
+        name.now (D.seen desk.old) (D.seen desk.new) result }
     ensures stays { Stays (D.seen desk.old) (D.seen desk.new) }
 {
     let listed = Starts::build(alloc, elf, starts)?;
     let planned = plan_threads(alloc, elf, &listed, sites, reserves)?;
     drop(listed);
-    write_planned(alloc, elf, planned, name, desk)
+    write_patch(alloc, elf, planned, name, desk)
 }
 
 /// Writes the file that is patched for a guest of several threads under a name, in pieces of 4,096
@@ -205,22 +89,15 @@ pub fn rewrite_threads<D: Desk>(
     ensures stays { Stays (D.seen desk.old) (D.seen desk.new) }
 {
     let elf = read_elf(alloc, file)?;
-    match write_threads(alloc, &elf, starts, sites, reserves, name, desk) {
-        Ok(patch) => {
-            let Patch {
-                private,
-                rows,
-                built: _,
-                writes: _,
-                groups: _,
-            } = patch;
-            Ok(ThreadReport {
-                private,
-                rows: ReportRows::new(rows),
-            })
-        }
-        Err(error) => Err(error),
-    }
+    let patch = write_threads(alloc, &elf, starts, sites, reserves, name, desk)?;
+    let Patch {
+        private,
+        rows,
+        built: _,
+        writes: _,
+        groups: _,
+    } = patch;
+    Ok(ThreadReport { private, rows })
 }
 
 /// Writes what `rewrite_threads` writes, and returns a report of version 2 that undoes the patch.
@@ -251,12 +128,8 @@ pub fn rewrite_threads_reported<D: Desk>(
     ensures stays { Stays (D.seen desk.old) (D.seen desk.new) }
 {
     let elf = read_elf(alloc, file)?;
-    match write_threads(alloc, &elf, starts, sites, reserves, name, desk) {
-        Ok(patch) => {
-            let origin = origin_of(&elf);
-            let report = patch.into_report(alloc, Action::Count, origin)?;
-            Ok(report)
-        }
-        Err(error) => Err(error),
-    }
+    let patch = write_threads(alloc, &elf, starts, sites, reserves, name, desk)?;
+    let origin = origin_of(&elf);
+    let report = patch.into_report(alloc, Action::Count, origin)?;
+    Ok(report)
 }

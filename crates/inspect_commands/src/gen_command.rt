@@ -6,7 +6,6 @@ ghost use Rattle.command_words.specs.Words.{most_blocks};
 
 use crate::gen_text::gen_text;
 use command_io::ends::{Failure, Told};
-use command_io::site_rows::SiteRows;
 use command_io::summary::done_status;
 use guest_findings::guest_findings::findings;
 use guest_gen::guest::generate;
@@ -34,6 +33,6 @@ fn tell_guest(alloc: Global, seed: u64, blocks: u32) -> Result<Told, AllocError>
     let found = findings(alloc, &guest)?;
     Ok(Told {
         text: gen_text(alloc, seed, blocks, &found)?,
-        status: done_status(&SiteRows::OfReport(&found.report)),
+        status: done_status(found.report.rows()),
     })
 }

@@ -6,7 +6,6 @@ ghost use Rattle.guest_findings.specs.Generating.{findings_of};
 
 use crate::check_text::verdict_text;
 use crate::step_text::{push_count, push_quiet};
-use command_io::site_rows::SiteRows;
 use command_io::summary::summary;
 use guest_findings::guest_findings::Found;
 use std::alloc::{AllocError, Global};
@@ -49,7 +48,7 @@ pub fn gen_text(alloc: Global, seed: u64, blocks: u32, found: &Found) -> Result<
     let mut out = Vec::new(alloc);
     out.extend_from_slice(guest_line(alloc, seed, blocks)?.as_bytes())?;
     push_count(alloc, &mut out, "starts", found.starts as u64)?;
-    out.extend_from_slice(summary(alloc, &SiteRows::OfReport(&found.report))?.as_bytes())?;
+    out.extend_from_slice(summary(alloc, found.report.rows())?.as_bytes())?;
     push_count(alloc, &mut out, "entries", found.entries as u64)?;
     out.extend_from_slice(verdict_text(alloc, found.verdict)?.as_slice())?;
     out.extend_from_slice(runs_line(alloc, found)?.as_bytes())?;

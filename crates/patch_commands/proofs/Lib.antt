@@ -1,7 +1,6 @@
 pub mod DoneStatuses
 pub mod TextVerdicts
 pub mod Rewritings
-pub mod LoaderRewritings
+pub mod InEachForm
 pub mod ThreadRewritings
-pub mod InEitherForm
 pub mod UnpatchVerdicts

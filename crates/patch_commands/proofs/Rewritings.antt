@@ -8,26 +8,23 @@ use Rattle.elf_emit.specs.declared.emit.EmitError.TheVariants as emit
 use Rattle.patch_report.specs.Values.{ReportValue}
 use Rattle.patch_report.specs.Spelling.{report_text}
 use Rattle.rewrite_core.specs.Asked.{Asked}
-use Rattle.rewrite_core.specs.Judging.{Job}
-use Rattle.rewrite_core.specs.Rewrites.{HasJob, file_of, IsRewritten, Rewrites}
-use Rattle.rewrite_core.specs.Followed.{IsFollowed}
+use Rattle.rewrite_core.specs.Rewrites.{RewritesBy}
 use Rattle.rewrite_core.specs.declared.rewrite.RewriteError.{RewriteError}
 use Rattle.rewrite_core.specs.declared.rewrite.RewriteError.TheVariants as rewrite
 use Rattle.command_words.specs.Words.{Names}
-use Rattle.command_io.specs.Refusals as refusals
+use Rattle.command_io.specs.Refusals.{Rewrite}
 use Rattle.command_io.specs.Summary.{summary_text, done_status}
 use Rattle.command_io.specs.ReportModes.{mode_text}
 use Rattle.command_io.specs.declared.report_mode.Mode.{Mode}
-use Rattle.command_io.specs.declared.report_mode.Mode.TheVariants.{Plain}
-use Rattle.command_io.specs.Writing.{Verdict, Refused, Accepted}
-use Rattle.command_io.specs.Verdict.{Patching, Form, plain, IsJudged, Rewriting, rewriting_in, starts_of, sites_of, asked, OfTexts}
-use Rattle.patch_commands.specs.Answers.{form_outputs, ListFollowed, form_writing, patch_writing}
+use Rattle.command_io.specs.Writing.{Verdict, Refused, Accepted, Writing}
+use Rattle.command_io.specs.Verdict.{Patching, Form, IsJudgedAs, Rewriting, rewriting_in, starts_of, sites_of, asked, OfTexts}
+use Rattle.patch_commands.specs.Answers.{form_outputs, ListFollowed, form_writing}
 use Rattle.command_io.specs.Failing.{Failed, Unwritten, NoMemory, Answer, rewrite_failed}
-use Rattle.command_io.specs.Works.{IsOnly, WritesOne, Finishes, Works}
+use Rattle.command_io.specs.Works.{IsOnly, WritesOne, WritesAll, Finishes, Works}
 use Rattle.command_io.proofs.WholeCommands.{if_done, stopped}
 use Rattle.patch_commands.specs.Patching.{patch_texts, AreLists, WritesReport}
 use Rattle.patch_commands.specs.declared.patch.Inputs.{Inputs}
-use Rattle.patch_commands.proofs.TextVerdicts.{IsOnce, one_judged, only_judged}
+use Rattle.patch_commands.proofs.TextVerdicts.{IsOnce, only_judged}
 
 -- What a rewriting is asked is what the texts tell.
 pub record IsGiven {J : Type 0} (w : Rewriting J) (x : Inputs) (a : Asked) : Type 0 where
@@ -93,26 +90,18 @@ reported_in f p once x a g j s u t r judged o h w = inr (
   },
 )
 
--- ---- as `patch` does
+-- ---- a rewriting that doesn't end well, for any command that writes the file of a job first
 
-module _ (p : Patching) (x : Inputs) (a : Asked) (g : IsGiven (rewriting_in plain p) x a) where
-  -- what is judged is to be said of the texts
-  only_this : (v : Verdict Job) → IsJudged a v → IsOnly v (OfTexts (rewriting_in plain p) (patch_texts x))
-  only_this v h = verdict_of (rewriting_in plain p) one_judged x a v g h
-
-  -- the file was rewritten, and its report was written or not
-  pub reported : (report : ReportValue) (s u t : DeskState) (r : Result Answer Failed) → HasJob a (IsRewritten a p.names.out s u report)
-      → WritesReport Plain p.names.report report u t r → Works (patch_writing p) (patch_texts x) s t r
-  reported report s u t r h w =
-      reported_in plain p one_judged x a g h.0 s u t r h.1 h.2.holds
-      (subst (λ (v : ReportValue). IsFollowed a.file a.starts (file_of h.0) v) h.2.report_is h.2.followed)
-      (subst (λ (v : ReportValue). WritesReport Plain p.names.report v u t r) h.2.report_is w)
-
+module _ {J R : Type 0} (Judges : Asked → Result J RewriteError → Type 0) (file : J → List ℕ)
+    (Is : Asked → List ℕ → DeskState → DeskState → R → J → Type 0) (w : Writing J) (texts : List (List ℕ)) (a : Asked) (out : List ℕ)
+    (cut : (j : J) (s t : DeskState) (e : Failed) → WritesOne out (file j) s t (Err e) → WritesAll w.outputs j s t (Err e))
+    (only : (v : Verdict J) → IsJudgedAs Rewrite Judges a v → IsOnly v (w.Judges texts)) where
   -- nothing was rewritten, or OUT isn't whole
-  pub refused : (s t : DeskState) (error : RewriteError) → Rewrites a p.names.out s t (Err error)
-      → Works (patch_writing p) (patch_texts x) s t (Err (rewrite_failed p.names.out error))
-  refused s t (rewrite.Emit emit.WriteFault) h = stopped (patch_writing p) (patch_texts x) s t h.0 (Unwritten p.names.out) (only_this (Accepted h.0) h.1) (inl (refl, h.2))
-  refused s t (rewrite.Emit emit.Memory) h = absurd h.0
-  refused s t rewrite.Memory (inl e) = inl (e, tt)
-  refused s t rewrite.Memory (inr h) = stopped (patch_writing p) (patch_texts x) s t h.0 NoMemory (only_this (Accepted h.0) h.1) (inl (inr h.2))
-  refused s t error h = inl (h.1, only_this (Refused (refusals.Rewrite error)) h.0)
+  pub unfinished : (s t : DeskState) (error : RewriteError) → RewritesBy Judges file Is a out s t (Err error)
+      → Works w texts s t (Err (rewrite_failed out error))
+  unfinished s t (rewrite.Emit emit.WriteFault) h =
+      stopped w texts s t h.0 (Unwritten out) (only (Accepted h.0) h.1) (cut h.0 s t (Unwritten out) (refl, h.2))
+  unfinished s t (rewrite.Emit emit.Memory) h = inl (h.1, tt)
+  unfinished s t rewrite.Memory (inl e) = inl (e, tt)
+  unfinished s t rewrite.Memory (inr h) = stopped w texts s t h.0 NoMemory (only (Accepted h.0) h.1) (cut h.0 s t NoMemory (inr h.2))
+  unfinished s t error h = inl (h.1, only (Refused (Rewrite error)) (error, refl, h.0))

@@ -8,15 +8,24 @@ use Rattle.pun_base.specs.Ranges.{ends}
 use Rattle.pun_base.specs.Limits.{most_sites}
 use Rattle.list_text.specs.declared.refusal.ListError.{ListError}
 use Rattle.list_text.proofs.ListGrammar.{lists_are_grammar}
-use Rattle.rewrite_core.specs.declared.rewrite.RewriteError.{RewriteError}
 use Rattle.rewrite_core.specs.Asked.{Asked, IsInOrder}
-use Rattle.rewrite_core.specs.Judging.{Job, Judged}
-use Rattle.rewrite_core.proofs.OneVerdict.{judged_once}
+use Rattle.rewrite_core.specs.Judging as core
+use Rattle.rewrite_core.specs.Judging.{Job}
+use Rattle.rewrite_core.specs.Laws.{AreJudgedOnce}
+use Rattle.rewrite_core.proofs.OneVerdict as core_verdicts
+use Rattle.rewrite_loader.specs.Judging as loader
+use Rattle.rewrite_loader.specs.Judging.{LoaderJob}
+use Rattle.rewrite_loader.proofs.LoaderVerdicts as loader_verdicts
+use Rattle.guest_threads.specs.ThreadRewriting as threads
+use Rattle.guest_threads.specs.ThreadRewriting.{ThreadJob}
+use Rattle.guest_threads.proofs.ThreadVerdicts as thread_verdicts
 use Rattle.command_io.specs.Refusals.{Refusal, BadList, Rewrite}
 use Rattle.command_io.specs.Inputs.{Gathered, Missing, TooLong, All, gathered}
 use Rattle.command_io.specs.Writing.{Verdict, Refused, Accepted, Writing, OfGathered}
-use Rattle.command_io.specs.Verdict.{Patching, Form, Rewriting, rewriting_in, starts_of, sites_of, asked, IsJudged, OfRewriting, OfLists, OfTexts, HoldsBytes}
+use Rattle.command_io.specs.Verdict.{Patching, Form, Rewriting, rewriting_in, starts_of, sites_of, asked, plain, IsJudgedAs, OfRewriting, OfLists, OfTexts, HoldsBytes}
 use Rattle.patch_commands.specs.Answers.{listed_inputs, HasOneVerdict}
+use Rattle.patch_commands.specs.LoadAnswers.{refusal_told, with_stub}
+use Rattle.patch_commands.specs.ThreadsAnswers.{for_threads}
 use Rattle.command_io.specs.Failing as failing
 use Rattle.command_io.specs.Failing.{Failed, Unread, Unwritten, NoMemory}
 use Rattle.command_io.specs.Works.{IsOnly, EndsEarly}
@@ -51,20 +60,37 @@ same_ranges (x ∷ xs) (y ∷ ys) e =
     let p = first_is (ends x) (ends y) (map ends xs) (map ends ys) e in
     ap₂ (λ (a : Range) (rs : List Range). a ∷ rs) (same_range x y p.0) (same_ranges xs ys p.1)
 
--- an input in order has one verdict at most
-pub one_judged : (a : Asked) (v w : Verdict Job) → IsInOrder a → IsJudged a v → IsJudged a w → v ≡ w
-one_judged a (Accepted i) (Accepted j) o h k =
-    let e : ◌≡◌ {A = Judged} (Ok i) (Ok j) = judged_once a (Ok i) (Ok j) o h k in let f : i ≡ j = cc in ap Accepted f
-one_judged a (Accepted i) (Refused (Rewrite error)) o h k =
-    let e : ◌≡◌ {A = Judged} (Ok i) (Err error) = judged_once a (Ok i) (Err error) o h k in absurd cc
-one_judged a (Refused (Rewrite error)) (Accepted j) o h k =
-    let e : ◌≡◌ {A = Judged} (Err error) (Ok j) = judged_once a (Err error) (Ok j) o h k in absurd cc
-one_judged a (Refused (Rewrite error)) (Refused (Rewrite other)) o h k =
-    let e : ◌≡◌ {A = Judged} (Err error) (Err other) = judged_once a (Err error) (Err other) o h k in
-    let f : error ≡ other = cc in ap (λ (r : RewriteError). Refused (Rewrite r)) f
-one_judged a (Accepted i) w o h k = absurd k
-one_judged a (Refused (Rewrite error)) w o h k = absurd k
-one_judged a v w o h k = absurd h
+-- a result of judging, as a verdict
+abbrev as_verdict : {J E : Type 0} → (E → Refusal) → Result J E → Verdict J
+as_verdict told (Ok job) = Accepted job
+as_verdict told (Err error) = Refused (told error)
+
+-- what is judged so is judged by the rewriting
+of_judged : {J E : Type 0} → (told : E → Refusal) (Judges : Asked → Result J E → Type 0) (a : Asked) (v : Verdict J) → IsJudgedAs told Judges a v
+    → (w : Result J E) × (v ≡ as_verdict told w) × Judges a w
+of_judged told Judges a (Accepted job) h = (Ok job, refl, h)
+of_judged told Judges a (Refused r) h = (Err h.0, ap Refused h.1, h.2)
+of_judged told Judges a other h = absurd h
+
+-- an input in order has one verdict at most, where it is judged in one way at most
+one_judged : {J E : Type 0} → (told : E → Refusal) (Judges : Asked → Result J E → Type 0) → AreJudgedOnce Judges → (a : Asked) (v w : Verdict J)
+    → IsInOrder a → IsJudgedAs told Judges a v → IsJudgedAs told Judges a w → v ≡ w
+one_judged told Judges once a v w o h k =
+    let x = of_judged told Judges a v h in
+    let y = of_judged told Judges a w k in
+    x.1 ∙ ap (as_verdict told) (once a x.0 y.0 o x.2 y.2) ∙ sym y.1
+
+-- an input in order has one verdict at most for `patch`
+pub one_plain : (a : Asked) (v w : Verdict Job) → IsInOrder a → plain.Judged a v → plain.Judged a w → v ≡ w
+one_plain = one_judged Rewrite core.Judges core_verdicts.judged_once
+
+-- an input in order has one verdict at most for `load`
+pub one_with_stub : (a : Asked) (v w : Verdict LoaderJob) → IsInOrder a → with_stub.Judged a v → with_stub.Judged a w → v ≡ w
+one_with_stub = one_judged refusal_told loader.Judges loader_verdicts.judged_once
+
+-- an input in order has one verdict at most for `threads`
+pub one_for_threads : (a : Asked) (v w : Verdict ThreadJob) → IsInOrder a → for_threads.Judged a v → for_threads.Judged a w → v ≡ w
+one_for_threads = one_judged Rewrite threads.Judges thread_verdicts.judged_once
 
 -- Of what is asked in order there is one verdict at most.
 abbrev pub IsOnce : {J : Type 0} → Rewriting J → Type 0

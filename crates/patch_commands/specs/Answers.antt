@@ -84,6 +84,12 @@ pub record FormFollowed {J : Type 0} (f : Form J) (n : Names) (old new : Files) 
   pub listed : starts_of starts ≡ Ok list
   pub followed : f.Follows file list job
 
+-- What patching in a form does, with what it is given.
+pub record PatchesIn {J : Type 0} (f : Form J) (p : Patching) (s t : DeskState) (k l : SinkState) (status : ℕ) : Type 0 where
+  pub writes : Writes (form_writing f p) s t k l status
+  -- what is promised of the patched file and its report
+  pub followed : WhereTold s (λ files. (new : Files) → t.held ≡ Some new → IsDone status → FormFollowed f p.names files new)
+
 -- The headline, of the files before and after a patch. FILE held an original and STARTS the list of
 -- its instructions; OUT holds a patched file and REPORT the text of a report. The patched file
 -- follows the original: it is sound, it starts where the original does, and outside its new code it

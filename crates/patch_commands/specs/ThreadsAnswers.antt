@@ -1,22 +1,18 @@
 -- What `threads` reads, judges, writes, prints and promises, without a report and with one. Theorems cite it. In all of it s and t are what the desk shows before and
 -- after, k and l what the sink shows.
-use Rattle.std.specs.Prelude.{◌≡◌, ℕ, List, [], ◌∷◌, Some, Ok, Err}
+use Rattle.std.specs.Prelude.{◌≡◌, ℕ, List, [], ◌∷◌, Some, Ok}
 use Rattle.pun_base.specs.Shown.{Files, DeskState, SinkState}
 use Rattle.pun_base.specs.declared.action.Action.TheVariants.{Count}
-use Rattle.elf_emit.specs.Layout.{layout}
 use Rattle.patch_report.specs.Grammar.{IsReport}
 use Rattle.patch_report.specs.Values.{ReportValue}
-use Rattle.rewrite_core.specs.Asked.{Asked}
-use Rattle.guest_threads.specs.declared.rewriting.ThreadError.{ThreadError}
-use Rattle.guest_threads.specs.ThreadRewriting.{ThreadJob, Judges, IsFollowedInThreads}
+use Rattle.guest_threads.specs.ThreadRewriting.{ThreadJob, Judges, IsFollowedInThreads, file_of}
 use Rattle.command_words.specs.Words.{Names, ThreadNames}
 use Rattle.command_io.specs.Refusals.{Rewrite}
 use Rattle.command_io.specs.Summary.{summary_text, done_status}
 use Rattle.command_io.specs.Inputs.{Inputs, WhereTold}
-use Rattle.command_io.specs.Writing.{Verdict, Refused, Accepted, Outputs, Writing, IsInputVerdict, Writes}
-use Rattle.command_io.specs.Verdict.{Patching, patching, Form, starts_of, Rewriting, OfTexts, HoldsBytes}
-use Rattle.patch_commands.specs.Answers.{IsDone, listed_inputs, TextsFollowed, form_writing, FormFollowed}
-use Rattle.command_io.specs.Failing.{as_rewriting}
+use Rattle.command_io.specs.Writing.{Verdict, Outputs, Writing, IsInputVerdict, Writes}
+use Rattle.command_io.specs.Verdict.{Patching, patching, Form, IsJudgedAs, starts_of, Rewriting, OfTexts, HoldsBytes}
+use Rattle.patch_commands.specs.Answers.{IsDone, listed_inputs, TextsFollowed, form_writing, PatchesIn}
 use Rattle.command_io.specs.declared.report_mode.Mode.TheVariants.{Threaded}
 
 -- What `threads` is given: names, and the ranges in which no new code stands, each by its ends.
@@ -28,23 +24,13 @@ pub record ThreadPatching : Type 0 where
 abbrev pub thread_patching : ThreadNames → List (ℕ × ℕ) → ThreadPatching
 thread_patching n reserves = record { names = n; reserves = reserves }
 
--- The verdict is what the rewriting for threads is judged to be. Its errors are told as those of a rewriting.
-abbrev pub IsThreadJudged : Asked → Verdict ThreadJob → Type 0
-IsThreadJudged a (Accepted job) = Judges a (Ok job)
-IsThreadJudged a (Refused r) = (error : ThreadError) × (r ≡ Rewrite (as_rewriting error)) × Judges a (Err error)
-IsThreadJudged a other = ⊥
-
 -- Each event counts.
 abbrev pub threads_rewriting : ThreadPatching → Rewriting ThreadJob
-threads_rewriting p = record { action = Count; reserves = p.reserves; Judged = IsThreadJudged }
+threads_rewriting p = record { action = Count; reserves = p.reserves; Judged = IsJudgedAs Rewrite Judges }
 
 -- FILE, STARTS and SITES are read in this order.
 abbrev pub threads_inputs : ThreadNames → Inputs
 threads_inputs n = listed_inputs n.file n.starts n.sites
-
--- The written file of a job.
-abbrev pub file_of : ThreadJob → List ℕ
-file_of job = layout job.emit
 
 -- OUT is written.
 abbrev pub threads_outputs : ThreadNames → Outputs ThreadJob
@@ -110,7 +96,7 @@ pub record FollowsReported (file starts : List ℕ) (job : ThreadJob) : Type 0 w
 -- The form of `threads` with a report: the report is in the mode of threads.
 abbrev pub for_threads : Form ThreadJob
 for_threads = record {
-  Judged = IsThreadJudged;
+  Judged = IsJudgedAs Rewrite Judges;
   file = file_of;
   mode = Threaded;
   report = λ job. job.report;
@@ -126,7 +112,5 @@ abbrev pub reported_writing : Patching → Writing ThreadJob
 reported_writing p = form_writing for_threads p
 
 -- What `threads` does with a report, with what it is given.
-pub record PatchesReported (p : Patching) (s t : DeskState) (k l : SinkState) (status : ℕ) : Type 0 where
-  pub writes : Writes (reported_writing p) s t k l status
-  -- what is promised of the patched file and its report
-  pub followed : WhereTold s (λ files. (new : Files) → t.held ≡ Some new → IsDone status → FormFollowed for_threads p.names files new)
+abbrev pub PatchesReported : Patching → DeskState → DeskState → SinkState → SinkState → ℕ → Type 0
+PatchesReported p s t k l status = PatchesIn for_threads p s t k l status

@@ -33,9 +33,8 @@ pub fn load<'a, D: Desk>(
         (D.seen desk.old) (D.seen desk.new) (seen_as told_of result) }
 {
     let given = Given {
-        form: Form::WithStub,
+        form: Form::WithStub(action),
         names,
-        action,
         reserves,
     };
     patch_in_form(alloc, &given, desk)

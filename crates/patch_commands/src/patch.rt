@@ -4,13 +4,13 @@ ghost use Rattle.std.specs.List.Sorted.{IsStrictlyIncreasing};
 ghost use Rattle.pun_base.specs.Actions.{IsAction};
 ghost use Rattle.pun_base.specs.Limits.{most_sites};
 ghost use Rattle.pun_base.specs.Ranges.{ends};
+ghost use Rattle.patch_report.specs.Values.{row_value};
 ghost use Rattle.command_words.specs.Named.{names_of};
-ghost use Rattle.command_io.specs.SiteRows.{rows_of};
 ghost use Rattle.command_io.specs.Verdict.{patching};
 ghost use Rattle.patch_commands.specs.Answers.{listed_inputs, patch_writing};
 ghost use Rattle.command_io.specs.Failing.{Gathers, seen_as, told_of};
 ghost use Rattle.command_io.specs.Works.{Carries, Works};
-ghost use Rattle.patch_commands.specs.Forms.{asked_of, patching_of, writing_in, RewritesIn};
+ghost use Rattle.patch_commands.specs.Forms.{action_in, asked_of, patching_of, writing_in, RewritesIn};
 ghost use Rattle.patch_commands.specs.Patching.{patch_texts, file_and_lists, ReadsLists, TellsSummary, WritesReport};
 
 use crate::patching::{Form, Given};
@@ -19,11 +19,12 @@ use command_io::failures::{list_failure, loader_failure, rewrite_failure};
 use command_io::inputs::read_input;
 use command_io::outputs::write_output;
 use command_io::report_mode::{Mode, print_report};
-use command_io::site_rows::SiteRows;
 use command_io::summary::{done_status, summary};
 use command_words::words::Names;
+use guest_threads::rewriting::rewrite_threads_reported;
 use list_text::lists::{read_sites, read_starts};
 use patch_report::report::Report;
+use patch_report::row::ReportRow;
 use pun_base::action::Action;
 use pun_base::desk::Desk;
 use pun_base::range::Range;
@@ -63,9 +64,8 @@ pub fn patch<'a, D: Desk>(
         (D.seen desk.old) (D.seen desk.new) (seen_as told_of result) }
 {
     let given = Given {
-        form: Form::Plain,
+        form: Form::Plain(action),
         names,
-        action,
         reserves,
     };
     patch_in_form(alloc, &given, desk)
@@ -77,7 +77,7 @@ pub(crate) fn patch_in_form<'a, D: Desk>(
     given: &Given<'_, 'a>,
     desk: &mut D,
 ) -> Result<Told, Failure<'a>>
-    requires action { IsAction given.now.action }
+    requires action { IsAction (action_in given.now.form) }
     requires nothing { (D.seen desk.old).writing ≡ None }
     ensures { Carries (writing_in given.now.form (patching_of given.now)) (D.seen desk.old)
         (D.seen desk.new) (seen_as told_of result) }
@@ -117,7 +117,7 @@ fn rewrite_inputs<'a, D: Desk>(
     inputs: Inputs,
     desk: &mut D,
 ) -> Result<Told, Failure<'a>>
-    requires action { IsAction given.now.action }
+    requires action { IsAction (action_in given.now.form) }
     requires nothing { (D.seen desk.old).writing ≡ None }
     ensures { Works (writing_in given.now.form (patching_of given.now)) (patch_texts inputs)
         (D.seen desk.old) (D.seen desk.new) (seen_as told_of result) }
@@ -127,7 +127,7 @@ fn rewrite_inputs<'a, D: Desk>(
         Err(failure) => return Err(failure),
     };
     match rewrite_listed(alloc, given, &listed, desk) {
-        Ok(report) => write_report(alloc, Mode::Plain, &report, given.names.report, desk),
+        Ok(report) => write_report(alloc, given.form.mode(), &report, given.names.report, desk),
         Err(failure) => Err(failure),
     }
 }
@@ -142,7 +142,7 @@ fn rewrite_listed<'a, D: Desk>(
     requires starts_ascend { IsStrictlyIncreasing listed.now.starts.items }
     requires sites_ascend { IsStrictlyIncreasing listed.now.sites.items }
     requires few_sites { length listed.now.sites.items ≤ most_sites }
-    requires action { IsAction given.now.action }
+    requires action { IsAction (action_in given.now.form) }
     requires nothing { (D.seen desk.old).writing ≡ None }
     ensures bytes { (k : ℕ) → slice_index listed.now.file.items k < 256 }
     ensures rewrites { RewritesIn given.now.form (asked_of given.now listed.now)
@@ -158,20 +158,27 @@ fn rewrite_listed<'a, D: Desk>(
     let Given {
         form,
         names,
-        action,
         reserves,
     } = given;
     let file = bytes_of(file);
     let out = names.out;
-    match form {
-        Form::Plain => match rewrite(alloc, file, starts, sites, *action, reserves, out, desk) {
-            Ok(report) => Ok(report),
-            Err(error) => Err(rewrite_failure(error, out)),
-        },
-        Form::WithStub => {
-            match rewrite_loader(alloc, file, starts, sites, *action, reserves, out, desk) {
+    match *form {
+        Form::Plain(action) => {
+            match rewrite(alloc, file, starts, sites, action, reserves, out, desk) {
+                Ok(report) => Ok(report),
+                Err(error) => Err(rewrite_failure(error, out)),
+            }
+        }
+        Form::WithStub(action) => {
+            match rewrite_loader(alloc, file, starts, sites, action, reserves, out, desk) {
                 Ok(report) => Ok(report),
                 Err(error) => Err(loader_failure(error, out)),
+            }
+        }
+        Form::ForThreads => {
+            match rewrite_threads_reported(alloc, file, starts, sites, reserves, out, desk) {
+                Ok(report) => Ok(report),
+                Err(error) => Err(rewrite_failure(error, out)),
             }
         }
     }
@@ -225,14 +232,14 @@ pub fn write_report<'a, D: Desk>(
         return Err(Failure::Memory);
     };
     match write_output(alloc, text, name, desk) {
-        Ok(()) => told_summary(alloc, &SiteRows::OfReport(report)),
+        Ok(()) => told_summary(alloc, report.rows()),
         Err(failure) => Err(failure),
     }
 }
 
 /// The summary of these rows, and the status of their patch.
-pub fn told_summary<'a>(alloc: Global, rows: &SiteRows<'_>) -> Result<Told, Failure<'a>>
-    ensures { TellsSummary (rows_of rows.now) (seen_as told_of result) }
+pub fn told_summary<'a>(alloc: Global, rows: &[ReportRow]) -> Result<Told, Failure<'a>>
+    ensures { TellsSummary (map row_value rows.now) (seen_as told_of result) }
 {
     match summary(alloc, rows) {
         Ok(text) => Ok(Told {

@@ -7,13 +7,12 @@ ghost use Rattle.command_io.specs.Failing.{seen_as, told_of};
 ghost use Rattle.command_io.specs.Works.{Works, Carries};
 ghost use Rattle.patch_commands.specs.Patching.{patch_texts};
 
-use crate::patch::{Inputs, bytes_of, judge_lists, read_inputs, told_summary, write_report};
+use crate::patch::{Inputs, bytes_of, judge_lists, patch_in_form, read_inputs, told_summary};
+use crate::patching::{Form, Given};
 use command_io::ends::{Failure, Told};
-use command_io::failures::thread_failure;
-use command_io::report_mode::Mode;
-use command_io::site_rows::SiteRows;
+use command_io::failures::rewrite_failure;
 use command_words::words::{Names, ThreadNames};
-use guest_threads::rewriting::{rewrite_threads, rewrite_threads_reported};
+use guest_threads::rewriting::rewrite_threads;
 use pun_base::desk::Desk;
 use pun_base::range::Range;
 use std::alloc::Global;
@@ -64,8 +63,8 @@ fn rewrite_inputs<'a, D: Desk>(
         names.out,
         desk,
     ) {
-        Ok(report) => told_summary(alloc, &SiteRows::Listed(report.rows.as_slice())),
-        Err(error) => Err(thread_failure(error, names.out)),
+        Ok(report) => told_summary(alloc, report.rows.as_slice()),
+        Err(error) => Err(rewrite_failure(error, names.out)),
     }
 }
 
@@ -82,40 +81,10 @@ pub fn patch_reported<'a, D: Desk>(
     ensures { Carries (reported_writing (reported_patching (names_of names.now)
         (map ends reserves.now))) (D.seen desk.old) (D.seen desk.new) (seen_as told_of result) }
 {
-    match read_inputs(alloc, names.file, names.starts, names.sites, desk) {
-        Ok(inputs) => report_inputs(alloc, inputs, names, reserves, desk),
-        Err(failure) => Err(failure),
-    }
-}
-
-/// Judges the lists, lets go of their texts, writes the patched file and then its report, and answers the summary.
-fn report_inputs<'a, D: Desk>(
-    alloc: Global,
-    inputs: Inputs,
-    names: &Names<'a>,
-    reserves: &[Range],
-    desk: &mut D,
-) -> Result<Told, Failure<'a>>
-    requires { (D.seen desk.old).writing ≡ None }
-    ensures { Works (reported_writing (reported_patching (names_of names.now)
-        (map ends reserves.now))) (patch_texts inputs) (D.seen desk.old) (D.seen desk.new)
-        (seen_as told_of result) }
-{
-    let listed = match judge_lists(alloc, inputs) {
-        Ok(listed) => listed,
-        Err(failure) => return Err(failure),
-    };
-    let file = bytes_of(&listed.file);
-    match rewrite_threads_reported(
-        alloc,
-        file,
-        &listed.starts,
-        &listed.sites,
+    let given = Given {
+        form: Form::ForThreads,
+        names,
         reserves,
-        names.out,
-        desk,
-    ) {
-        Ok(report) => write_report(alloc, Mode::Threaded, &report, names.report, desk),
-        Err(error) => Err(thread_failure(error, names.out)),
-    }
+    };
+    patch_in_form(alloc, &given, desk)
 }

@@ -18,13 +18,11 @@ use Rattle.site_turns.specs.PlannedState.{PlannedState}
 use Rattle.site_turns.specs.Planning.{Request, Turns, IsPlanned}
 use Rattle.site_turns.specs.PlanLaws.{IsAsked, IsReportPage, AreGroups, CanBeWritten, writes_of, job_for, planned_report}
 use Rattle.site_turns.proofs.PlannedReports.{planned_is_report}
-use Rattle.site_turns.proofs.PlannedJobs.{planned_is_job, planned_can_be_written}
+use Rattle.site_turns.proofs.PlannedJobs.{planned_is_job}
 use Rattle.site_turns.proofs.PlannedFiles.{planned_is_written_well}
 use Rattle.rewrite_core.specs.Asked.{Asked, request_of}
 use Rattle.rewrite_core.specs.Followed.{case_for, IsFollowed}
 use Rattle.rewrite_core.specs.Origins.{origin_of}
-use Rattle.rewrite_core.specs.Patching.{IsPatchable}
-use Rattle.rewrite_core.proofs.PlacedCode.{built_placed}
 
 -- pages of a job are pages that a report tells
 told_pages : (lo hi n : ℕ) (homes : List (ℕ × ℕ)) → n < 2 ^ 32 → AllByRecursion (IsPage lo hi n) (pages_of homes)
@@ -74,10 +72,6 @@ emit_asked q p groups size asked w g = record {
 }
 
 module _ (q : Request) (t : Turns) (p : PlannedState) (size : length q.file < 2 ^ 63) (asked : IsAsked q) (planned : IsPlanned q t p) where
-  -- what was planned meets what `emit` asks
-  pub can_emit : (groups : GroupsState) → AreGroups p groups → CanEmit q.file (writes_of p.rows) p.built groups p.private.lo p.private.hi
-  can_emit groups g = emit_asked q p groups size asked (planned_can_be_written q t p asked planned) g
-
   -- the report of the code's values is that of the turns
   pub report_is : (groups : GroupsState) → body_of q.action p.private p.rows groups.homes ≡ planned_report q t groups
   report_is groups i = record {
@@ -93,13 +87,6 @@ module _ (q : Request) (t : Turns) (p : PlannedState) (size : length q.file < 2 
   is_report groups action g =
       let pages = job_pages q p groups (planned_is_job q t p groups asked planned g size) in
       subst (IsBody Two) (sym (report_is groups)) (planned_is_report q t p groups.homes asked action planned pages.0 pages.1)
-
-  -- the code of what was planned can be grouped
-  pub patchable : IsPatchable p
-  patchable = record {
-    placed = built_placed q t p asked planned;
-    disjoint = (planned_can_be_written q t p asked planned).disjoint;
-  }
 
 -- the written file follows the original
 pub file_followed : (a : Asked) (t : Turns) (p : PlannedState) (groups : GroupsState) → length a.file < 2 ^ 63 → IsAsked (request_of a)

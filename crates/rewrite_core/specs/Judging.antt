@@ -1,4 +1,5 @@
--- How an input is judged: its job, or why it is refused. Theorems cite it.
+-- How an input is judged: its job, or why it is refused. A kind of rewriting has jobs of its own: `Is` says which of them a request has, and
+-- `writing` what is to be written of one. Theorems cite it.
 use Rattle.std.specs.Prelude.{◌≡◌, ℕ, ◌<◌, ◌≤◌, Some, None, Result, Ok, Err}
 use Rattle.page_group.specs.Grouping.{GroupsState}
 use Rattle.elf_read.specs.Refusals.{refusal}
@@ -43,44 +44,59 @@ pub record HasStarts (a : Asked) : Type 0 where
   pub none : first_refusal a.file a.starts ≡ None
 
 -- The table of the written file would need this many entries, more than 1,024.
-pub record NeedsTooMany (q : Request) (n : ℕ) : Type 0 where
-  pub job : Job
-  pub is_job : IsJobFor q job
-  pub many : 1024 < count job.emit
-  pub told : n ≡ count job.emit
+pub record NeedsTooMany {J : Type 0} (Is : Request → J → Type 0) (writing : J → written.Job) (q : Request) (n : ℕ) : Type 0 where
+  pub job : J
+  pub is_job : Is q job
+  pub many : 1024 < count (writing job)
+  pub told : n ≡ count (writing job)
 
 -- The input is accepted as a job whose written file needs at most 1,024 entries of the table.
-pub record IsAcceptedAs (q : Request) (j : Job) : Type 0 where
-  pub is_job : IsJobFor q j
-  pub few : count j.emit ≤ 1024
+pub record IsAcceptedAs {J : Type 0} (Is : Request → J → Type 0) (writing : J → written.Job) (q : Request) (j : J) : Type 0 where
+  pub is_job : Is q j
+  pub few : count (writing j) ≤ 1024
+
+-- Why the plan of an input is refused. The first rule that the file breaks comes first, then the
+-- first start that is refused, then the least site that is no start, then that no private range is
+-- left. Want of memory and faults of the desk are no reasons.
+abbrev pub IsPlanRefused : Asked → RewriteError → Type 0
+IsPlanRefused a (rewrite.Elf error) = refusal 0x20000 a.file ≡ Some error
+IsPlanRefused a (rewrite.Start error) =
+    (refusal 0x20000 a.file ≡ None) × (first_refusal a.file a.starts ≡ Some error)
+IsPlanRefused a (rewrite.Turn turn.Memory) = ⊥
+IsPlanRefused a (rewrite.Turn error) = HasStarts a × IsRequestRefused (request_of a) error
+IsPlanRefused a other = ⊥
+
+-- What an input is judged to be before the table of its file is: planned as a job, or refused.
+abbrev pub JudgesPlanBy : {J : Type 0} → (Request → J → Type 0) → Asked → Result J RewriteError → Type 0
+JudgesPlanBy Is a (Err error) = IsPlanRefused a error
+JudgesPlanBy Is a (Ok job) = HasStarts a × Is (request_of a) job
+
+-- What the table of a planned job's file is judged to be.
+abbrev pub JudgesTable : {J : Type 0} → (J → written.Job) → J → Result J RewriteError → Type 0
+JudgesTable writing job (Err (rewrite.Emit (emit.TooManySegments n))) =
+    (1024 < count (writing job)) × (n ≡ count (writing job))
+JudgesTable writing job (Err other) = ⊥
+JudgesTable writing job (Ok other) = (other ≡ job) × (count (writing job) ≤ 1024)
+
+-- What an input is judged to be: first its plan, and then the table of the planned job's file.
+abbrev pub JudgesBy : {J : Type 0} → (Request → J → Type 0) → (J → written.Job) → Asked → Result J RewriteError → Type 0
+JudgesBy Is writing a (Err (rewrite.Emit (emit.TooManySegments n))) =
+    HasStarts a × NeedsTooMany Is writing (request_of a) n
+JudgesBy Is writing a (Err error) = IsPlanRefused a error
+JudgesBy Is writing a (Ok job) = HasStarts a × IsAcceptedAs Is writing (request_of a) job
+
+-- What is to be written of a job of `rewrite`.
+abbrev pub writing_of : Job → written.Job
+writing_of j = j.emit
 
 -- A job, or why there is none.
 abbrev pub Judged : Type 0
 Judged = Result Job RewriteError
 
--- What an input is judged to be before the table of its file is: planned as a job, or refused. The
--- first rule that the file breaks comes first, then the first start that is refused, then the least
--- site that is no start, then that no private range is left. Want of memory and faults of the desk
--- are no verdicts.
+-- What an input of `rewrite` is judged to be before the table of its file is.
 abbrev pub JudgesPlan : Asked → Judged → Type 0
-JudgesPlan a (Err (rewrite.Elf error)) = refusal 0x20000 a.file ≡ Some error
-JudgesPlan a (Err (rewrite.Start error)) =
-    (refusal 0x20000 a.file ≡ None) × (first_refusal a.file a.starts ≡ Some error)
-JudgesPlan a (Err (rewrite.Turn turn.Memory)) = ⊥
-JudgesPlan a (Err (rewrite.Turn error)) = HasStarts a × IsRequestRefused (request_of a) error
-JudgesPlan a (Err other) = ⊥
-JudgesPlan a (Ok job) = HasStarts a × IsJobFor (request_of a) job
+JudgesPlan a v = JudgesPlanBy IsJobFor a v
 
--- What the table of a planned job's file is judged to be.
-abbrev pub JudgesTable : Job → Judged → Type 0
-JudgesTable job (Err (rewrite.Emit (emit.TooManySegments n))) =
-    (1024 < count job.emit) × (n ≡ count job.emit)
-JudgesTable job (Err other) = ⊥
-JudgesTable job (Ok other) = (other ≡ job) × (count job.emit ≤ 1024)
-
--- What an input is judged to be: first its plan, and then the table of the planned job's file.
+-- What an input of `rewrite` is judged to be.
 abbrev pub Judges : Asked → Judged → Type 0
-Judges a (Err (rewrite.Emit (emit.TooManySegments n))) =
-    HasStarts a × NeedsTooMany (request_of a) n
-Judges a (Err error) = JudgesPlan a (Err error)
-Judges a (Ok job) = HasStarts a × IsAcceptedAs (request_of a) job
+Judges a v = JudgesBy IsJobFor writing_of a v

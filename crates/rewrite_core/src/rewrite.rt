@@ -4,13 +4,12 @@ ghost use Rattle.std.specs.List.Sorted.{IsStrictlyIncreasing};
 ghost use Rattle.pun_base.specs.Actions.{IsAction};
 ghost use Rattle.pun_base.specs.Desk.{Stays};
 ghost use Rattle.pun_base.specs.Limits.{most_sites};
-ghost use Rattle.rewrite_core.specs.Asked.{Asked};
 ghost use Rattle.elf_read.specs.Refusals.{refusal};
-ghost use Rattle.rewrite_core.specs.Patching.{IsPlannedFor, WasPlanned, Plans};
+ghost use Rattle.rewrite_core.specs.Patching.{IsWritable, Plans, WritesPatch};
 ghost use Rattle.rewrite_core.specs.Rewrites.{Rewrites};
 
 use crate::original::origin_of;
-use crate::patching::patch_of;
+use crate::patching::{Patch, patch_of};
 use elf_emit::emit::{EmitError, emit};
 use elf_read::elf::{Elf, read_elf};
 use elf_read::refusal::ElfError;
@@ -136,19 +135,18 @@ pub fn plan_file(
     Ok(planned)
 }
 
-/// Writes the file of what was planned, and answers its report.
-fn write_planned<D: Desk>(
+/// Writes the file of what was planned, and answers its patch.
+pub fn write_patch<D: Desk>(
     alloc: Global,
     elf: &Elf<'_>,
     planned: Planned,
-    action: Action,
     name: &str,
     desk: &mut D,
-) -> Result<Report, RewriteError>
-    requires planned { WasPlanned elf.now.bytes action planned }
+) -> Result<Patch, RewriteError>
+    requires writable { IsWritable elf.now.bytes planned }
     requires nothing { (D.seen desk.old).writing ≡ None }
-    ensures writes { (a : Asked) → IsPlannedFor elf.now.bytes action planned a
-        → Rewrites a name.now (D.seen desk.old) (D.seen desk.new) result }
+    ensures writes { WritesPatch elf.now.bytes planned name.now
+        (D.seen desk.old) (D.seen desk.new) result }
     ensures stays { Stays (D.seen desk.old) (D.seen desk.new) }
 {
     let patch = patch_of(alloc, planned)?;
@@ -162,9 +160,7 @@ fn write_planned<D: Desk>(
         name,
         desk,
     )?;
-    let origin = origin_of(elf);
-    let report = patch.into_report(alloc, action, origin)?;
-    Ok(report)
+    Ok(patch)
 }
 
 /// Writes the patched file under a name, in pieces of 4,096 bytes, and answers the report.
@@ -196,8 +192,9 @@ pub fn rewrite<D: Desk>(
     ensures stays { Stays (D.seen desk.old) (D.seen desk.new) }
 {
     let elf = read_elf(alloc, file)?;
-    match plan_file(alloc, &elf, starts, sites, action, reserves) {
-        Ok(planned) => write_planned(alloc, &elf, planned, action, name, desk),
-        Err(error) => Err(error),
-    }
+    let planned = plan_file(alloc, &elf, starts, sites, action, reserves)?;
+    let patch = write_patch(alloc, &elf, planned, name, desk)?;
+    let origin = origin_of(&elf);
+    let report = patch.into_report(alloc, action, origin)?;
+    Ok(report)
 }

@@ -1,12 +1,10 @@
 -- What a call knows once the sites are planned and the stub is laid, and what its answers then say.
 use Rattle.std.proofs.Common.{◌≡◌, inl, inr, ℕ, ◌≤◌, List, [], ◌∷◌, ◌++◌, map, Result, Ok, Err, refl, sym, ap, ◌∙◌, subst}
-use Rattle.std.specs.List.{AllByRecursion}
 use Rattle.pun_base.specs.Shown.{DeskState}
 use Rattle.pun_base.specs.Desk.{Stays}
 use Rattle.pun_base.proofs.CallFrames.{stays_same, stays_filled}
 use Rattle.pun_base.specs.declared.desk.PutError.TheVariants as put
 use Rattle.pun_base.specs.declared.action.Action.{Action}
-use Rattle.pun_base.specs.declared.range.Range.{Range}
 use Rattle.address_space.specs.declared.extent.Extent.{Extent}
 use Rattle.address_space.specs.Free.{extent_of}
 use Rattle.page_group.specs.Grouping.{GroupsState, IsGrouping}
@@ -33,23 +31,21 @@ use Rattle.rewrite_core.specs.Asked.{Asked, request_of}
 use Rattle.rewrite_core.specs.Causes.{emit_error}
 use Rattle.rewrite_core.specs.Judging.{Job, JudgesPlan, job_of}
 use Rattle.rewrite_core.specs.Origins.{origin_of}
-use Rattle.rewrite_core.specs.Patching.{IsCall, IsPatchable, Plans}
-use Rattle.rewrite_core.proofs.PlannedCalls.{may_patch, written_whole, same_asked, for_input}
+use Rattle.rewrite_core.specs.Patching.{IsCall, IsPatchable, IsWritable, Plans}
+use Rattle.rewrite_core.proofs.PlannedCalls.{groupable, written_whole}
 use Rattle.rewrite_core.proofs.WrittenPlans.{report_is, is_report}
 use Rattle.loader_form.specs.declared.error.LoadError.{LoadError}
 use Rattle.loader_form.specs.declared.error.LoadError.TheVariants as load
 use Rattle.loader_form.specs.LoaderState.{LoaderState}
 use Rattle.loader_form.specs.Laid.{LaidLoads, loader_frame}
 use Rattle.loader_form.specs.Lay as lay
-use Rattle.loader_form.specs.Lay.{code_extent, EndsLow, taken_after, IsLoader, Lays, laid_of}
-use Rattle.loader_form.specs.Loading.{load_job, IsLoading}
-use Rattle.loader_form.proofs.LaidPages.{planned_ends_low}
+use Rattle.loader_form.specs.Lay.{code_extent, taken_after, IsLoader, Lays, laid_of}
+use Rattle.loader_form.specs.Loading.{IsLoading}
 use Rattle.loader_form.proofs.PlannedLoader.{planned_loader_followed}
 use Rattle.rewrite_loader.specs.declared.error.LoaderError.TheVariants.{Rewrite}
 use Rattle.rewrite_loader.specs.Causes.{load_error}
 use Rattle.rewrite_loader.specs.Judging.{file_of, extent_at, taken_by, run_count, with_loader, Judges}
 use Rattle.rewrite_loader.specs.Followed.{IsLoaderFollowed}
-use Rattle.rewrite_loader.specs.Placing.{IsPlannedOf, WasPlanned}
 use Rattle.rewrite_loader.specs.Rewrites.{Rewrites}
 
 -- the addresses of code, by its bytes
@@ -80,8 +76,12 @@ module _ (a : Asked) (t : Turns) (p : PlannedState) (call : IsCall a t p) (group
       → Lays (taken_by job.emit a.reserves) (run_count job.emit) r
   by_job r h = subst (λ (es : List Extent). Lays es (lay.run_count groups) r) (taken_told (request_of a) p groups) h
 
+  -- a report can tell what was planned
+  pub may_report : IsBody Two (told_of a.action p groups)
+  may_report = is_report (request_of a) t p call.size call.asked call.planned groups call.action g
+
   -- nothing is laid
-  unlaid : (name : List ℕ) (s : DeskState) (error : LoadError) → Lays (taken_after a.file a.reserves p) (lay.run_count groups) (Err error)
+  pub unlaid : (name : List ℕ) (s : DeskState) (error : LoadError) → Lays (taken_after a.file a.reserves p) (lay.run_count groups) (Err error)
       → Rewrites a name s s (Err (load_error error))
   unlaid name s load.Memory h = inl refl
   unlaid name s (load.TooManyRuns n) h = ((job, is_planned, by_job (Err (load.TooManyRuns n)) h), refl)
@@ -91,12 +91,19 @@ module _ (a : Asked) (t : Turns) (p : PlannedState) (call : IsCall a t p) (group
     abbrev frame : written_job.Frame
     frame = loader_frame job.emit (laid_of l)
 
+    -- what was planned and laid is what `emit_loader` asks
+    pub loading : (q : Request) × IsLoading a.file p groups l q
+    loading = (
+      request_of a,
+      record { file_is = refl; turns = t; asked = call.asked; planned = call.planned; groups_are = g; laid = laid },
+    )
+
     -- the table isn't too long
     accepted : frames.count frame ≤ 1024 → Judges a (Ok (with_loader job l))
     accepted few = (job, is_planned, (l, by_job (Ok l) laid, refl, few))
 
     -- the file wasn't written whole
-    answered : (name : List ℕ) (s u : DeskState) (error : EmitError) → EmitsFrame frame name s u (Err error)
+    pub answered : (name : List ℕ) (s u : DeskState) (error : EmitError) → EmitsFrame frame name s u (Err error)
         → Rewrites a name s u (Err (Rewrite (emit_error error)))
     answered name s u (emit.TooManySegments n) x = ((job, is_planned, (l, by_job (Ok l) laid, x.1, x.0)), x.2)
     answered name s u emit.WriteFault x = (with_loader job l, accepted x.0, x.1)
@@ -104,7 +111,7 @@ module _ (a : Asked) (t : Turns) (p : PlannedState) (call : IsCall a t p) (group
     answered name s u emit.Memory (inr x) = inr (with_loader job l, accepted x.0, x.1)
 
     -- where the file was written and memory ran out after it, that is an answer
-    not_told : (name : List ℕ) (s u : DeskState) → EmitsFrame frame name s u (Ok tt) → Rewrites a name s u (Err (Rewrite rewrite.Memory))
+    pub not_told : (name : List ℕ) (s u : DeskState) → EmitsFrame frame name s u (Ok tt) → Rewrites a name s u (Err (Rewrite rewrite.Memory))
     not_told name s u x = inr (with_loader job l, accepted x.0, written_whole name (file_of (with_loader job l)) s u x.1)
 
     -- where the file was written, it follows the original
@@ -122,7 +129,7 @@ module _ (a : Asked) (t : Turns) (p : PlannedState) (call : IsCall a t p) (group
         }
 
     -- where the file was written, this is its report
-    rewritten : (name : List ℕ) (s u : DeskState) (report : ReportValue) (origin : Origin) → EmitsFrame frame name s u (Ok tt)
+    pub rewritten : (name : List ℕ) (s u : DeskState) (report : ReportValue) (origin : Origin) → EmitsFrame frame name s u (Ok tt)
         → LaidLoads job.emit (laid_of l) → origin ≡ origin_of a.file → OriginFits origin → report ≡ written (told_of a.action p groups) origin
         → Rewrites a name s u (Ok report)
     rewritten name s u report origin x loads o fits r =
@@ -139,102 +146,17 @@ module _ (a : Asked) (t : Turns) (p : PlannedState) (call : IsCall a t p) (group
           },
         )
 
--- What a plan's writing knows of what was asked.
-module _ (file : List ℕ) (action : Action) (reserves : List Range) (p : PlannedState) where
-  -- the code that was planned can be grouped: each piece is placed, and no two meet
-  pub may_group : WasPlanned file action reserves p → IsPatchable p
-  may_group x = may_patch x.0 x.1.for.turns p x.1.for.call
-
-  -- each code that was planned has bytes and ends among addresses of 32 bits
-  pub ends_low : WasPlanned file action reserves p → AllByRecursion EndsLow p.built
-  ends_low x = planned_ends_low (request_of x.0) x.1.for.turns p x.1.for.call.asked x.1.for.call.planned
-
-  module _ (groups : GroupsState) (g : AreGroups p groups) where
-    -- what was laid was laid for the request
-    laid_for : (a : Asked) → IsPlannedOf file action reserves p a → (r : Result LoaderState LoadError)
-        → Lays (taken_after file reserves p) (lay.run_count groups) r → Lays (taken_after a.file a.reserves p) (lay.run_count groups) r
-    laid_for a f r h =
-        subst (λ (z : List ℕ). Lays (taken_after z a.reserves p) (lay.run_count groups) r) (sym f.for.file_is)
-        (subst (λ (z : List Range). Lays (taken_after file z p) (lay.run_count groups) r) (sym f.reserves_are) h)
-
-    -- where nothing was laid, the reason is the answer to the request
-    pub not_laid : (a : Asked) → IsPlannedOf file action reserves p a → (name : List ℕ) (s : DeskState) (error : LoadError)
-        → Lays (taken_after file reserves p) (lay.run_count groups) (Err error) → Rewrites a name s s (Err (load_error error))
-    not_laid a f name s error h = unlaid a f.for.turns p f.for.call groups g name s error (laid_for a f (Err error) h)
-
-    -- a report can tell what was planned
-    pub report_planned : WasPlanned file action reserves p → IsBody Two (told_of action p groups)
-    report_planned x =
-        let c = x.1.for.call in
-        subst (λ (z : Action). IsBody Two (told_of z p groups)) x.1.for.action_is
-        (is_report (request_of x.0) x.1.for.turns p c.size c.asked c.planned groups c.action g)
-
-    module _ (l : LoaderState) (laid : Lays (taken_after file reserves p) (lay.run_count groups) (Ok l)) where
-      -- what was planned and laid is what `emit_loader` asks
-      pub loading : WasPlanned file action reserves p → (q : Request) × IsLoading file p groups l q
-      loading x = (
-        request_of x.0,
-        record {
-          file_is = x.1.for.file_is;
-          turns = x.1.for.turns;
-          asked = x.1.for.call.asked;
-          planned = x.1.for.call.planned;
-          groups_are = g;
-          laid = laid_for x.0 x.1 (Ok l) laid;
-        },
-      )
-
-      module _ (a : Asked) (f : IsPlannedOf file action reserves p a) (name : List ℕ) (s u : DeskState) where
-        -- what was written was written of the request's file
-        of_file : (r : Result (Unit {0}) EmitError) → EmitsFrame (loader_frame (load_job file p groups) (laid_of l)) name s u r
-            → EmitsFrame (loader_frame (load_job a.file p groups) (laid_of l)) name s u r
-        of_file r x =
-            subst (λ (z : List ℕ). EmitsFrame (loader_frame (load_job z p groups) (laid_of l)) name s u r) (sym f.for.file_is) x
-
-        -- where the file wasn't written whole, the error is the answer to the request
-        pub unwritten : (error : EmitError) → EmitsFrame (loader_frame (load_job file p groups) (laid_of l)) name s u (Err error)
-            → Rewrites a name s u (Err (Rewrite (emit_error error)))
-        unwritten error x =
-            answered a f.for.turns p f.for.call groups g l (laid_for a f (Ok l) laid) name s u error (of_file (Err error) x)
-
-        -- where it was, want of memory after it is an answer to the request
-        pub untold : EmitsFrame (loader_frame (load_job file p groups) (laid_of l)) name s u (Ok tt)
-            → Rewrites a name s u (Err (Rewrite rewrite.Memory))
-        untold x = not_told a f.for.turns p f.for.call groups g l (laid_for a f (Ok l) laid) name s u (of_file (Ok tt) x)
-
-        -- where it was, its report is the answer to the request
-        pub written_as_planned : EmitsFrame (loader_frame (load_job file p groups) (laid_of l)) name s u (Ok tt)
-            → LaidLoads (load_job file p groups) (laid_of l) → (report : ReportValue) (origin : Origin) → origin ≡ origin_of file
-            → OriginFits origin → report ≡ written (told_of action p groups) origin → Rewrites a name s u (Ok report)
-        written_as_planned x loads report origin o fits r =
-            rewritten a f.for.turns p f.for.call groups g l (laid_for a f (Ok l) laid) name s u report origin (of_file (Ok tt) x)
-            (subst (λ (z : List ℕ). LaidLoads (load_job z p groups) (laid_of l)) (sym f.for.file_is) loads)
-            (o ∙ ap origin_of (sym f.for.file_is)) fits
-            (r ∙ ap (λ (z : Action). written (told_of z p groups) origin) (sym f.for.action_is))
-
--- what was planned of a file that was read was planned of the input
-pub of_input : (a : Asked) (bytes : List ℕ) (p : PlannedState) → bytes ≡ a.file → Plans (record a { file = bytes }) (Ok p)
-    → IsPlannedOf bytes a.action a.reserves p a
-of_input a bytes p e x = record { for = for_input a bytes p e x; reserves_are = refl }
-
 -- nothing was planned, so the input is refused, or memory ran out
-refused : (a : Asked) (name : List ℕ) (s : DeskState) (error : RewriteError) → Plans a (Err error) → Rewrites a name s s (Err (Rewrite error))
-refused a name s rewrite.Memory x = inl refl
-refused a name s (rewrite.Elf error) x = (x, refl)
-refused a name s (rewrite.Start error) x = (x, refl)
-refused a name s (rewrite.Turn error) x = (x, refl)
-refused a name s (rewrite.Emit error) x = absurd x
-
--- where nothing was planned of the file that was read, the input is refused, or memory ran out
-pub unplanned : (a : Asked) (bytes name : List ℕ) (s : DeskState) (error : RewriteError) → bytes ≡ a.file
-    → Plans (record a { file = bytes }) (Err error) → Rewrites a name s s (Err (Rewrite error))
-unplanned a bytes name s error e x =
-    refused a name s error (subst (λ (z : Asked). Plans z (Err error)) (same_asked a bytes e) x)
+pub unplanned : (a : Asked) (name : List ℕ) (s : DeskState) (error : RewriteError) → Plans a (Err error) → Rewrites a name s s (Err (Rewrite error))
+unplanned a name s rewrite.Memory x = inl refl
+unplanned a name s (rewrite.Elf error) x = (x, refl)
+unplanned a name s (rewrite.Start error) x = (x, refl)
+unplanned a name s (rewrite.Turn error) x = (x, refl)
+unplanned a name s (rewrite.Emit error) x = absurd x
 
 -- code that was planned, as it is borrowed, can be grouped
-pub may_group_built : (file : List ℕ) (action : Action) (reserves : List Range) (p : PlannedState) (built : List Built) → built ≡ p.built
-    → WasPlanned file action reserves p → IsPatchable (record p { built = built })
-may_group_built file action reserves p built e x = subst (λ (z : List Built). IsPatchable (record p { built = z })) (sym e) (may_group file action reserves p x)
+pub may_group_built : (file : List ℕ) (p : PlannedState) (built : List Built) → built ≡ p.built → IsWritable file p → IsPatchable (record p { built = built })
+may_group_built file p built e x = subst (λ (z : List Built). IsPatchable (record p { built = z })) (sym e) (groupable file p x)
 
 -- a grouping of the planned code as it is borrowed is one of what was planned
 pub same_groups : (p : PlannedState) (groups : GroupsState) (built : List Built) → built ≡ p.built → groups.pieces ≡ map range_of built

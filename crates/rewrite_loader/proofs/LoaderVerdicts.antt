@@ -11,6 +11,7 @@ use Rattle.rewrite_core.specs.declared.rewrite.RewriteError.TheVariants as rewri
 use Rattle.rewrite_core.specs.Asked.{Asked, IsInOrder}
 use Rattle.rewrite_core.specs.Judging as planning
 use Rattle.rewrite_core.specs.Judging.{Job, JudgesPlan}
+use Rattle.rewrite_core.specs.Laws.{AreJudgedOnce}
 use Rattle.rewrite_core.proofs.OneVerdict.{planned_once}
 use Rattle.loader_form.specs.declared.error.LoadError.{LoadError}
 use Rattle.loader_form.specs.declared.error.LoadError.TheVariants as load
@@ -18,7 +19,6 @@ use Rattle.loader_form.specs.LoaderState.{LoaderState}
 use Rattle.loader_form.specs.Lay.{stub_count, laid_of, IsLoader, HasNoPlace, Lays}
 use Rattle.rewrite_loader.specs.declared.error.LoaderError.TheVariants.{Rewrite, Load}
 use Rattle.rewrite_loader.specs.Judging.{LoaderJob, entry_count, taken_by, run_count, IsLaidFor, with_loader, Judged, JudgesLaid, JudgesPlanned, Judges}
-use Rattle.rewrite_loader.specs.Laws.{JudgedOnce}
 
 -- ---- there is one place for stub and save page
 
@@ -146,5 +146,5 @@ turn_once a v w o (inr x) (inr y) =
     (laid_so a.reserves y.0 w y.2)
 
 -- an input is judged in one way at most: one job, or one refusal
-pub judged_once : JudgedOnce
+pub judged_once : AreJudgedOnce Judges
 judged_once a v w o x y = turn_once a v w o (in_turn a v x) (in_turn a w y)

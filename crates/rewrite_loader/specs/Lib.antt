@@ -2,5 +2,3 @@ pub mod Causes
 pub mod Judging
 pub mod Followed
 pub mod Rewrites
-pub mod Placing
-pub mod Laws

@@ -1,20 +1,17 @@
 -- What `rewrite_loader` answers, and what it does to the desk. Theorems cite it.
 use Rattle.std.specs.Prelude.{◌≡◌, ℕ, ◌⊎◌, List, Result, Ok, Err}
 use Rattle.pun_base.specs.Shown.{DeskState}
-use Rattle.pun_base.specs.Desk.{PutResult, Fills}
+use Rattle.pun_base.specs.Desk.{Fills}
 use Rattle.pun_base.specs.declared.desk.PutError.TheVariants as put
 use Rattle.elf_emit.specs.declared.emit.EmitError.TheVariants as emit
 use Rattle.patch_report.specs.Values.{ReportValue}
 use Rattle.rewrite_core.specs.declared.rewrite.RewriteError.TheVariants as rewrite
 use Rattle.rewrite_core.specs.Asked.{Asked}
+use Rattle.rewrite_core.specs.Rewrites.{HasJob, IsCutOff}
 use Rattle.rewrite_loader.specs.declared.error.LoaderError.{LoaderError}
 use Rattle.rewrite_loader.specs.declared.error.LoaderError.TheVariants.{Rewrite}
 use Rattle.rewrite_loader.specs.Judging.{LoaderJob, file_of, Judges}
 use Rattle.rewrite_loader.specs.Followed.{IsLoaderFollowed}
-
--- The input is judged to be a job for which P holds.
-abbrev pub HasJob : Asked → (LoaderJob → Type 0) → Type 0
-HasJob a P = (j : LoaderJob) × Judges a (Ok j) × P j
 
 -- The answer is the report of a job, and the name holds its file, which follows the original.
 pub record IsRewritten (a : Asked) (name : List ℕ) (s t : DeskState) (report : ReportValue) (j : LoaderJob) : Type 0 where
@@ -22,16 +19,12 @@ pub record IsRewritten (a : Asked) (name : List ℕ) (s t : DeskState) (report :
   pub holds : Fills name (file_of j) s t (Ok tt)
   pub followed : IsLoaderFollowed a.file a.starts j report
 
--- The name holds a prefix of the job's file, or what it held before.
-abbrev pub IsCutOff : Asked → List ℕ → DeskState → DeskState → PutResult → Type 0
-IsCutOff a name s t cause = HasJob a (λ j. Fills name (file_of j) s t cause)
-
 -- What each answer of `rewrite_loader` says. A refusal is the one that the input is judged to be,
 -- and changes nothing. After a write fault or want of memory the name holds a prefix of the file or
 -- what it held before; want of memory may come in place of any answer, and may have changed
 -- nothing.
 abbrev pub Rewrites : Asked → List ℕ → DeskState → DeskState → Result ReportValue LoaderError → Type 0
-Rewrites a name s t (Ok report) = HasJob a (IsRewritten a name s t report)
-Rewrites a name s t (Err (Rewrite (rewrite.Emit emit.WriteFault))) = IsCutOff a name s t (Err put.Failed)
-Rewrites a name s t (Err (Rewrite rewrite.Memory)) = (t ≡ s) ⊎ IsCutOff a name s t (Err put.Memory)
+Rewrites a name s t (Ok report) = HasJob (Judges a) (IsRewritten a name s t report)
+Rewrites a name s t (Err (Rewrite (rewrite.Emit emit.WriteFault))) = IsCutOff (Judges a) file_of name s t (Err put.Failed)
+Rewrites a name s t (Err (Rewrite rewrite.Memory)) = (t ≡ s) ⊎ IsCutOff (Judges a) file_of name s t (Err put.Memory)
 Rewrites a name s t (Err refusal) = Judges a (Err refusal) × (t ≡ s)

@@ -6,12 +6,10 @@ ghost use Rattle.pun_base.specs.Desk.{Stays};
 ghost use Rattle.pun_base.specs.Limits.{most_sites};
 ghost use Rattle.patch_report.specs.Grammar.{IsReport};
 ghost use Rattle.patch_report.specs.Values.{body_of, written};
-ghost use Rattle.rewrite_core.specs.Asked.{Asked};
-ghost use Rattle.rewrite_loader.specs.Placing.{IsPlannedOf, WasPlanned};
 ghost use Rattle.rewrite_loader.specs.Rewrites.{Rewrites};
 
 use crate::error::LoaderError;
-use elf_read::elf::{Elf, read_elf};
+use elf_read::elf::read_elf;
 use loader_form::emit::emit_loader;
 use loader_form::lay::lay;
 use page_group::groups::Groups;
@@ -45,30 +43,6 @@ fn report_planned(
     report_of(alloc, private, rows, groups, action, origin)
 }
 
-/// Lays the stub of what was planned, writes the file, and answers the report.
-fn write_planned<D: Desk>(
-    alloc: Global,
-    elf: &Elf<'_>,
-    planned: Planned,
-    action: Action,
-    reserves: &[Range],
-    name: &str,
-    desk: &mut D,
-) -> Result<Report, LoaderError>
-    requires planned { WasPlanned elf.now.bytes action reserves.now planned }
-    requires nothing { (D.seen desk.old).writing ≡ None }
-    ensures writes { (a : Asked) → IsPlannedOf elf.now.bytes action reserves.now planned a
-        → Rewrites a name.now (D.seen desk.old) (D.seen desk.new) result }
-    ensures stays { Stays (D.seen desk.old) (D.seen desk.new) }
-{
-    let groups = code_groups(alloc, planned.built())?;
-    let loader = lay(alloc, elf, &planned, &groups, reserves)?;
-    emit_loader(alloc, elf, &planned, &groups, &loader, name, desk)?;
-    let origin = origin_of(elf);
-    let report = report_planned(alloc, planned, groups, action, origin)?;
-    Ok(report)
-}
-
 /// Writes the loader form of the patched file under a name, in pieces of 4,096 bytes, and answers the report.
 ///
 /// `file` is the original, `starts` and `sites` are addresses in ascending order, and neither new code nor the stub stands in
@@ -98,8 +72,11 @@ pub fn rewrite_loader<D: Desk>(
     ensures stays { Stays (D.seen desk.old) (D.seen desk.new) }
 {
     let elf = read_elf(alloc, file)?;
-    match plan_file(alloc, &elf, starts, sites, action, reserves) {
-        Ok(planned) => write_planned(alloc, &elf, planned, action, reserves, name, desk),
-        Err(error) => Err(LoaderError::Rewrite(error)),
-    }
+    let planned = plan_file(alloc, &elf, starts, sites, action, reserves)?;
+    let groups = code_groups(alloc, planned.built())?;
+    let loader = lay(alloc, &elf, &planned, &groups, reserves)?;
+    emit_loader(alloc, &elf, &planned, &groups, &loader, name, desk)?;
+    let origin = origin_of(&elf);
+    let report = report_planned(alloc, planned, groups, action, origin)?;
+    Ok(report)
 }

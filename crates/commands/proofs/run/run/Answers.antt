@@ -1,39 +1,53 @@
-use Rattle.std.proofs.Common.{◌≡◌, map, string_bytes, refl, ap, ◌∙◌}
+use Rattle.std.proofs.Common.{◌≡◌, ℕ, List, map, string_bytes, refl, ap, ◌∙◌, subst}
+use Rattle.pun_base.specs.Shown.{DeskState, SinkState}
 use Rattle.pun_base.specs.Ranges.{ends}
 use Rattle.command_words.specs.Named.{names_of, check_names_of, step_names_of, thread_names_of, unpatch_names_of}
-use Rattle.command_words.specs.Words.{Patch, Load, Threads, ThreadsReported, command_of}
+use Rattle.command_words.specs.Words.{Command, Patch, Step, Gen, Load, Threads, ThreadsReported, Unpatch, command_of}
 use Rattle.command_io.specs.Failing.{seen_as, told_of}
-use Rattle.commands.proofs.PatchRuns.{ran}
-use Rattle.commands.proofs.LoadRuns.{load_ran}
-use Rattle.commands.proofs.ThreadsRuns.{threads_ran, reported_ran}
+use Rattle.command_io.specs.Verdict.{patching}
+use Rattle.patch_commands.specs.LoadAnswers.{with_stub}
+use Rattle.patch_commands.specs.ThreadsAnswers.{for_threads, thread_patching, reported_patching}
+use Rattle.commands.specs.Commands.{Does}
+use Rattle.commands.proofs.PatchRuns.{form_ended, patch_ended}
+use Rattle.commands.proofs.ThreadsRuns.{threads_ended}
 use Rattle.commands.proofs.GenRuns.{gen_ran}
 use Rattle.commands.proofs.InspectingRuns.{check_ran, step_ran}
-use Rattle.commands.proofs.PatchReversal.{unpatch_ran}
-use Rattle.command_words.proofs.CommandForms.{patch_action, load_action, step_few, gen_few}
+use Rattle.commands.proofs.PatchReversal.{unpatch_ended}
+use Rattle.command_words.proofs.CommandForms.{known_of}
 use Rattle.commands.proofs.LostWords.{words_lost}
 use Rattle.commands.proofs.run.run.Goals as goal
 
+-- what a command does is what the words do that it is of
+of_words : (words : List (List ℕ)) (x : Command) (s t : DeskState) (k l : SinkState) (status : ℕ) → x ≡ command_of words → Does x s t k l status
+    → Does (command_of words) s t k l status
+of_words words x s t k l status q d = subst (λ (y : Command). Does y s t k l status) q d
+
 pub patch-requires-clause-action : goal.patch-requires-clause-action
 patch-requires-clause-action g c =
-    patch_action (map string_bytes c.args.words.now) (names_of c.in-Ok-Patch.names) c.in-Ok-Patch.action
-    (map ends c.in-Ok-Patch.reserves.items) (rw c.in-Ok-Patch.field-0-is at c.in-Ok-Patch.ensures)
+    let n = names_of c.in-Ok-Patch.names in
+    let pairs = map ends c.in-Ok-Patch.reserves.items in
+    (known_of (map string_bytes c.args.words.now) (Patch n c.in-Ok-Patch.action pairs) (rw c.in-Ok-Patch.field-0-is at c.in-Ok-Patch.ensures)).1
 
 pub step-requires : goal.step-requires
 step-requires g c =
-    step_few (map string_bytes c.args.words.now) (step_names_of c.in-Ok-Step.names) c.in-Ok-Step.count (rw c.in-Ok-Step.field-0-is at c.in-Ok-Step.ensures)
+    known_of (map string_bytes c.args.words.now) (Step (step_names_of c.in-Ok-Step.names) c.in-Ok-Step.count)
+    (rw c.in-Ok-Step.field-0-is at c.in-Ok-Step.ensures)
 
 pub find-requires : goal.find-requires
 find-requires g c =
-    let h = gen_few (map string_bytes c.args.words.now) _ _ (rw c.in-Ok-Gen.field-0-is at c.in-Ok-Gen.ensures) in
+    let h = known_of (map string_bytes c.args.words.now) (Gen c.in-Ok-Gen.seed c.in-Ok-Gen.blocks) (rw c.in-Ok-Gen.field-0-is at c.in-Ok-Gen.ensures) in
     record { some = h.0; most = h.1 }
 
 pub returns-in-Ok-Patch-clause-does : goal.returns-in-Ok-Patch-clause-does
 returns-in-Ok-Patch-clause-does g c =
+    let words = map string_bytes c.args.words.now in
     let n = names_of c.in-Ok-Patch.names in
-    let q : Patch n c.in-Ok-Patch.action (map ends c.in-Ok-Patch.reserves.items) ≡ command_of (map string_bytes c.args.words.now) =
-    rw c.in-Ok-Patch.field-0-is at c.in-Ok-Patch.ensures in
-    ran (map string_bytes c.args.words.now) n c.in-Ok-Patch.action (map ends c.deref.result.now) _ _ _ _ (seen_as told_of c.patch.result) _
-    (ap (λ rs. Patch n c.in-Ok-Patch.action (map ends rs)) c.deref.ensures.value ∙ q) c.patch.ensures c.tell.ensures.printed
+    let pairs = map ends c.deref.result.now in
+    let q : Patch n c.in-Ok-Patch.action (map ends c.in-Ok-Patch.reserves.items) ≡ command_of words = rw c.in-Ok-Patch.field-0-is at c.in-Ok-Patch.ensures in
+    let r : Patch n c.in-Ok-Patch.action pairs ≡ command_of words = ap (λ rs. Patch n c.in-Ok-Patch.action (map ends rs)) c.deref.ensures.value ∙ q in
+    of_words words (Patch n c.in-Ok-Patch.action pairs) _ _ _ _ _ r
+    (patch_ended (patching n c.in-Ok-Patch.action pairs) (known_of words (Patch n c.in-Ok-Patch.action pairs) r).0 _ _ _ _ (seen_as told_of c.patch.result) _
+    c.patch.ensures.rest c.patch.ensures.ends c.tell.ensures.printed)
 
 pub returns-in-Ok-Step-clause-does : goal.returns-in-Ok-Step-clause-does
 returns-in-Ok-Step-clause-does g c =
@@ -52,38 +66,48 @@ returns-in-Ok-Gen-clause-does g c =
 
 pub load-requires-clause-action : goal.load-requires-clause-action
 load-requires-clause-action g c =
-    load_action (map string_bytes c.args.words.now) (names_of c.in-Ok-Load.names) c.in-Ok-Load.action
-    (map ends c.in-Ok-Load.reserves.items) (rw c.in-Ok-Load.field-0-is at c.in-Ok-Load.ensures)
+    let n = names_of c.in-Ok-Load.names in
+    let pairs = map ends c.in-Ok-Load.reserves.items in
+    (known_of (map string_bytes c.args.words.now) (Load n c.in-Ok-Load.action pairs) (rw c.in-Ok-Load.field-0-is at c.in-Ok-Load.ensures)).1
 
 pub returns-in-Ok-Load-clause-does : goal.returns-in-Ok-Load-clause-does
 returns-in-Ok-Load-clause-does g c =
+    let words = map string_bytes c.args.words.now in
     let n = names_of c.in-Ok-Load.names in
-    let q : Load n c.in-Ok-Load.action (map ends c.in-Ok-Load.reserves.items) ≡ command_of (map string_bytes c.args.words.now) =
-    rw c.in-Ok-Load.field-0-is at c.in-Ok-Load.ensures in
-    load_ran (map string_bytes c.args.words.now) n c.in-Ok-Load.action (map ends c.deref-in-Ok-Load.result.now) _ _ _ _ (seen_as told_of c.load.result) _
-    (ap (λ rs. Load n c.in-Ok-Load.action (map ends rs)) c.deref-in-Ok-Load.ensures.value ∙ q) c.load.ensures c.tell-in-Ok-Load.ensures.printed
+    let pairs = map ends c.deref-in-Ok-Load.result.now in
+    let q : Load n c.in-Ok-Load.action (map ends c.in-Ok-Load.reserves.items) ≡ command_of words = rw c.in-Ok-Load.field-0-is at c.in-Ok-Load.ensures in
+    let r : Load n c.in-Ok-Load.action pairs ≡ command_of words = ap (λ rs. Load n c.in-Ok-Load.action (map ends rs)) c.deref-in-Ok-Load.ensures.value ∙ q in
+    of_words words (Load n c.in-Ok-Load.action pairs) _ _ _ _ _ r
+    (form_ended with_stub (patching n c.in-Ok-Load.action pairs) (known_of words (Load n c.in-Ok-Load.action pairs) r).0 _ _ _ _ (seen_as told_of c.load.result) _
+    c.load.ensures.rest c.load.ensures.ends c.tell-in-Ok-Load.ensures.printed)
 
 pub returns-in-Ok-Threads-clause-does : goal.returns-in-Ok-Threads-clause-does
 returns-in-Ok-Threads-clause-does g c =
+    let words = map string_bytes c.args.words.now in
     let n = thread_names_of c.in-Ok-Threads.names in
-    let q : Threads n (map ends c.in-Ok-Threads.reserves.items) ≡ command_of (map string_bytes c.args.words.now) =
-    rw c.in-Ok-Threads.field-0-is at c.in-Ok-Threads.ensures in
-    threads_ran (map string_bytes c.args.words.now) n (map ends c.deref-in-Ok-Threads.result.now) _ _ _ _ (seen_as told_of c.patch_threads.result) _
-    (ap (λ rs. Threads n (map ends rs)) c.deref-in-Ok-Threads.ensures.value ∙ q) c.patch_threads.ensures c.tell-in-Ok-Threads.ensures.printed
+    let pairs = map ends c.deref-in-Ok-Threads.result.now in
+    let q : Threads n (map ends c.in-Ok-Threads.reserves.items) ≡ command_of words = rw c.in-Ok-Threads.field-0-is at c.in-Ok-Threads.ensures in
+    let r : Threads n pairs ≡ command_of words = ap (λ rs. Threads n (map ends rs)) c.deref-in-Ok-Threads.ensures.value ∙ q in
+    of_words words (Threads n pairs) _ _ _ _ _ r
+    (threads_ended (thread_patching n pairs) _ _ _ _ (seen_as told_of c.patch_threads.result) _
+    c.patch_threads.ensures.rest c.patch_threads.ensures.ends c.tell-in-Ok-Threads.ensures.printed)
 
 pub returns-in-Ok-ThreadsReported-clause-does : goal.returns-in-Ok-ThreadsReported-clause-does
 returns-in-Ok-ThreadsReported-clause-does g c =
+    let words = map string_bytes c.args.words.now in
     let n = names_of c.in-Ok-ThreadsReported.names in
-    let q : ThreadsReported n (map ends c.in-Ok-ThreadsReported.reserves.items) ≡ command_of (map string_bytes c.args.words.now) =
-    rw c.in-Ok-ThreadsReported.field-0-is at c.in-Ok-ThreadsReported.ensures in
-    reported_ran (map string_bytes c.args.words.now) n (map ends c.deref-in-Ok-ThreadsReported.result.now) _ _ _ _ (seen_as told_of c.patch_reported.result) _
-    (ap (λ rs. ThreadsReported n (map ends rs)) c.deref-in-Ok-ThreadsReported.ensures.value ∙ q) c.patch_reported.ensures
-    c.tell-in-Ok-ThreadsReported.ensures.printed
+    let pairs = map ends c.deref-in-Ok-ThreadsReported.result.now in
+    let q : ThreadsReported n (map ends c.in-Ok-ThreadsReported.reserves.items) ≡ command_of words = rw c.in-Ok-ThreadsReported.field-0-is at c.in-Ok-ThreadsReported.ensures in
+    let r : ThreadsReported n pairs ≡ command_of words = ap (λ rs. ThreadsReported n (map ends rs)) c.deref-in-Ok-ThreadsReported.ensures.value ∙ q in
+    of_words words (ThreadsReported n pairs) _ _ _ _ _ r
+    (form_ended for_threads (reported_patching n pairs) (known_of words (ThreadsReported n pairs) r) _ _ _ _ (seen_as told_of c.patch_reported.result) _
+    c.patch_reported.ensures.rest c.patch_reported.ensures.ends c.tell-in-Ok-ThreadsReported.ensures.printed)
 
 pub returns-in-Ok-Unpatch-clause-does : goal.returns-in-Ok-Unpatch-clause-does
 returns-in-Ok-Unpatch-clause-does g c =
-    unpatch_ran (map string_bytes c.args.words.now) (unpatch_names_of c.in-Ok-Unpatch.names) _ _ _ _ (seen_as told_of c.undo.result) _
-    (rw c.in-Ok-Unpatch.field-0-is at c.in-Ok-Unpatch.ensures) c.undo.ensures c.tell-in-Ok-Unpatch.ensures.printed
+    let n = unpatch_names_of c.in-Ok-Unpatch.names in
+    of_words (map string_bytes c.args.words.now) (Unpatch n) _ _ _ _ _ (rw c.in-Ok-Unpatch.field-0-is at c.in-Ok-Unpatch.ensures)
+    (unpatch_ended n _ _ _ _ (seen_as told_of c.undo.result) _ c.undo.ensures.rest c.undo.ensures.ends c.tell-in-Ok-Unpatch.ensures.printed)
 
 pub returns-in-Err-clause-does : goal.returns-in-Err-clause-does
 returns-in-Err-clause-does g c = words_lost (map string_bytes c.args.words.now) (command_of (map string_bytes c.args.words.now)) _ _ refl

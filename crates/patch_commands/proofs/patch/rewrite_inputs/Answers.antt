@@ -1,9 +1,11 @@
-use Rattle.std.proofs.Common.{inl, refl}
+use Rattle.std.proofs.Common.{inl, refl, subst}
 use Rattle.command_io.specs.Verdict.{rewriting_in}
 use Rattle.command_io.specs.Failing.{seen_as, told_of, failed_of}
+use Rattle.command_io.specs.declared.report_mode.Mode.{Mode}
+use Rattle.patch_commands.specs.Patching.{WritesReport}
 use Rattle.patch_commands.specs.Forms.{form_in, patching_of, writing_in}
 use Rattle.patch_commands.proofs.TextVerdicts.{only_lists, lists_end}
-use Rattle.patch_commands.proofs.InEitherForm.{reported_in, refused_in}
+use Rattle.patch_commands.proofs.InEachForm.{reported, not_rewritten}
 use Rattle.patch_commands.proofs.patch.rewrite_inputs.Goals as goal
 
 pub returns-in-Err : goal.returns-in-Err
@@ -17,13 +19,15 @@ pub returns-in-Ok-rewrite_listed : goal.returns-in-Ok-rewrite_listed
 returns-in-Ok-rewrite_listed g c =
     let given = c.args.given.now in
     let l = c.in-Ok.listed in
-    reported_in (patching_of given) given.reserves.now c.args.inputs l.file.items l.starts.items l.sites.items refl c.in-Ok.ensures
-    c.rewrite_listed.ensures.bytes given.form c.in-Ok-rewrite_listed.report _ _ _ (seen_as told_of c.write_report.result)
-    c.in-Ok-rewrite_listed.ensures.rewrites c.write_report.ensures
+    reported given.form (patching_of given) given.reserves.now c.args.inputs l.file.items l.starts.items l.sites.items refl c.in-Ok.ensures
+    c.rewrite_listed.ensures.bytes c.in-Ok-rewrite_listed.report _ _ _ (seen_as told_of c.write_report.result)
+    c.in-Ok-rewrite_listed.ensures.rewrites
+    (subst (λ (m : Mode). WritesReport m given.names.now.report.now c.in-Ok-rewrite_listed.report (g.D.Desk.seen c.rewrite_listed.new.desk)
+    (g.D.Desk.seen c.write_report.new.desk) (seen_as told_of c.write_report.result)) c.mode.ensures c.write_report.ensures)
 
 pub returns : goal.returns
 returns g c =
     let given = c.args.given.now in
     let l = c.in-Ok.listed in
-    refused_in (patching_of given) given.reserves.now c.args.inputs l.file.items l.starts.items l.sites.items refl c.in-Ok.ensures
-    c.rewrite_listed.ensures.bytes given.form _ _ (failed_of c.in-Err-rewrite_listed.failure) c.in-Err-rewrite_listed.ensures.rewrites
+    not_rewritten given.form (patching_of given) given.reserves.now c.args.inputs l.file.items l.starts.items l.sites.items refl c.in-Ok.ensures
+    c.rewrite_listed.ensures.bytes _ _ (failed_of c.in-Err-rewrite_listed.failure) c.in-Err-rewrite_listed.ensures.rewrites

@@ -1,8 +1,9 @@
-use Rattle.std.proofs.Common.{ℕ, ◌<◌, List, slice_index, Ok, ◌∙◌, subst}
+use Rattle.std.proofs.Common.{ℕ, ◌<◌, List, slice_index, Ok, sym, ◌∙◌, subst}
+use Rattle.pun_base.specs.declared.action.Action.TheVariants.{Count}
 use Rattle.command_io.specs.Verdict.{asked}
-use Rattle.patch_commands.specs.Forms.{asked_of}
-use Rattle.patch_commands.specs.declared.patching.Form.TheVariants.{WithStub}
-use Rattle.patch_commands.proofs.InEitherForm.{in_form}
+use Rattle.patch_commands.specs.Forms.{action_in, asked_of}
+use Rattle.patch_commands.specs.declared.patching.Form.TheVariants.{WithStub, ForThreads}
+use Rattle.patch_commands.proofs.InEachForm.{in_form}
 use Rattle.patch_commands.proofs.patch.rewrite_listed.Goals as goal
 
 pub returns-in-Ok-rewrite_loader-clause-bytes : goal.returns-in-Ok-rewrite_loader-clause-bytes
@@ -15,7 +16,22 @@ returns-in-Ok-rewrite_loader-clause-rewrites g c =
     let file = c.bytes_of-file.ensures.value ∙ c.deref.ensures.value in
     let starts = c.deref-in-WithStub.ensures.value in
     let sites = c.deref-in-WithStub-2.ensures.value in
-    in_form x.form WithStub (asked_of x c.args.listed.now)
-    (asked x.action x.reserves.now c.bytes_of-file.result.now c.deref-in-WithStub.result.now c.deref-in-WithStub-2.result.now)
+    in_form x.form (WithStub c.in-WithStub.action) (asked_of x c.args.listed.now)
+    (asked c.in-WithStub.action x.reserves.now c.bytes_of-file.result.now c.deref-in-WithStub.result.now c.deref-in-WithStub-2.result.now)
     x.names.now.out.now (g.D.Desk.seen c.args.desk.now) (g.D.Desk.seen c.rewrite_loader.new.desk) (Ok c.in-Ok-rewrite_loader.report)
-    c.in-WithStub.is (λ i. asked x.action x.reserves.now (file i) (starts i) (sites i)) c.in-Ok-rewrite_loader.ensures.rewrites
+    c.in-WithStub.is (λ i. asked (action_in (sym c.in-WithStub.is i)) x.reserves.now (file i) (starts i) (sites i)) c.in-Ok-rewrite_loader.ensures.rewrites
+
+pub returns-in-Ok-rewrite_threads_reported-clause-bytes : goal.returns-in-Ok-rewrite_threads_reported-clause-bytes
+returns-in-Ok-rewrite_threads_reported-clause-bytes g c k =
+    subst (λ (z : List ℕ). slice_index z k < 256) (c.bytes_of-file.ensures.value ∙ c.deref.ensures.value) (c.bytes_of-file.ensures.bytes k)
+
+pub returns-in-Ok-rewrite_threads_reported-clause-rewrites : goal.returns-in-Ok-rewrite_threads_reported-clause-rewrites
+returns-in-Ok-rewrite_threads_reported-clause-rewrites g c =
+    let x = c.args.given.now in
+    let file = c.bytes_of-file.ensures.value ∙ c.deref.ensures.value in
+    let starts = c.deref-in-ForThreads.ensures.value in
+    let sites = c.deref-in-ForThreads-2.ensures.value in
+    in_form x.form ForThreads (asked_of x c.args.listed.now)
+    (asked Count x.reserves.now c.bytes_of-file.result.now c.deref-in-ForThreads.result.now c.deref-in-ForThreads-2.result.now)
+    x.names.now.out.now (g.D.Desk.seen c.args.desk.now) (g.D.Desk.seen c.rewrite_threads_reported.new.desk) (Ok c.in-Ok-rewrite_threads_reported.report)
+    c.in-ForThreads.is (λ i. asked (action_in (sym c.in-ForThreads.is i)) x.reserves.now (file i) (starts i) (sites i)) c.in-Ok-rewrite_threads_reported.ensures.rewrites

@@ -21,13 +21,13 @@ returns-in-Ok-rewrite_threads g c =
     rewrote p c.args.inputs _
     (given (threads_rewriting p) c.args.reserves.now c.args.inputs c.bytes_of-file.result.now c.deref-2.result.now c.deref-3.result.now _ _ _ refl c.in-Ok.ensures
     (c.bytes_of-file.ensures.value ∙ c.deref.ensures.value) c.deref-2.ensures.value c.deref-3.ensures.value c.bytes_of-file.ensures.bytes)
-    c.in-Ok-rewrite_threads.report c.as_slice.result.now _ _ (seen_as told_of c.told_summary.result) c.as_slice.ensures
+    c.in-Ok-rewrite_threads.report c.as_slice.result.now _ _ (seen_as told_of c.told_summary.result) c.as_slice.ensures.value
     c.in-Ok-rewrite_threads.ensures.rewrites c.told_summary.ensures
 
 pub returns : goal.returns
 returns g c =
     let p = thread_patching (thread_names_of c.args.names.now) (map ends c.args.reserves.now) in
-    works_as (threads_writing p) (patch_texts c.args.inputs) _ _ _ _ c.thread_failure.ensures
+    works_as (threads_writing p) (patch_texts c.args.inputs) _ _ _ _ c.rewrite_failure.ensures
     (refused p c.args.inputs _
     (given (threads_rewriting p) c.args.reserves.now c.args.inputs c.bytes_of-file.result.now c.deref-2.result.now c.deref-3.result.now _ _ _ refl c.in-Ok.ensures
     (c.bytes_of-file.ensures.value ∙ c.deref.ensures.value) c.deref-2.ensures.value c.deref-3.ensures.value c.bytes_of-file.ensures.bytes)

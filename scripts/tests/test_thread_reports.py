@@ -5,10 +5,13 @@ import struct
 
 import pytest
 
-from tests.calls import SOURCES, match, run
+from tests.calls import SOURCES, match, patch, path_of, run
 from tests.command import call
 from tests.programs import Programs, compile_text
+from tests.test_texts import NEIGHBOURS, build_text
+from vaknuhol.program.listing import Listing
 from vaknuhol.program.program_file import Program, read_bytes, read_text
+from vaknuhol.recording.code_support import Support
 from vaknuhol.recording.patch_report import LEFT, Report
 from vaknuhol.recording.record_file import Record
 
@@ -117,3 +120,18 @@ def test_each_left_site_has_its_own_outcome():
     hidden = int(match("([0-9a-f]+) t hidden", run("nm", "leaving"))[1], 16)
     assert left[stop] == "NotRelocatable" and left[hidden - 4] == "NoPlan", left
     assert sorted(map(LEFT.index, left.values())) == [0, 1, 2, 2, 2], left
+
+
+@pytest.mark.parametrize("name", NEIGHBOURS)
+def test_no_neighbour_that_lacks_support_is_displaced_for_threads(name):
+    """Although e9tool, asked for the same blocks, displaces one; the blocks are left, and that is told."""
+    build_text(name)
+    told = patch(name, "--blocks", "--count", "--threads", status=(1,))
+    assert "beside what may be no code" in told, told
+    kept, support = [path_of(name, "threads", it) for it in ("starts", "sites", "report")], Support(Listing(name))
+    assert not support.sites_without(read_text(kept[2]))
+    lefts = re.findall("(?m)^[0-9a-f]{8} [0-9a-f]{8} ([0-9a-f]{8})$", read_text(path_of(name, "threads", "blocks")))
+    with open("sites", "w", encoding="ascii") as file:
+        file.write("".join(f"{it}\n" for it in sorted(lefts)))
+    run(os.environ["E9TOOL"], "threads", name, kept[0], "sites", "out", "report:report", status=(0, 1))
+    assert support.sites_without(read_text("report"))

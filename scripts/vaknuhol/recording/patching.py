@@ -214,7 +214,3 @@ class ThreadPatching(Patching):
 
     def words(self, starts: str, files: RunFiles) -> list[str]:
         return [self.program, starts, files.sites, files.patched, f"report:{files.report}"]
-
-    def without_support(self, files: RunFiles) -> set[int]:
-        """None: for threads no neighbour is displaced."""
-        return set()

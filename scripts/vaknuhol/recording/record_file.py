@@ -3,7 +3,7 @@
     vakrecord 1
     action count
     program HASH            of the original's code, or - where patch_program.py didn't write the report
-    report HASH             of the report; of a patch for threads, which has none, of the patched file
+    report HASH             of the report
     for threads             where it was a patch for threads; else there is no such line
     state ended             or `running`: what was recorded until then
     processes 3 threads 0 execs 1

@@ -1,0 +1,145 @@
+#!/usr/bin/env python3
+"""thread_counts.py E9TOOL [PROGRAM..]: counts of programs of several threads against counters that are compiled in.
+
+The programs of guests/ (all, or those that are named) are patched at all blocks, or at what an option says. Each runs
+20 times, with eight threads: it prints what the original prints, and each counter that it wrote to a file is the sum of the counts of
+the blocks in which an instruction adds to it. `check` says yes of the patched file, and no after each of the changes that are planted
+in file and report; `unpatch` gives the original byte for byte."""
+import argparse
+import bisect
+import collections
+import os
+import random
+import re
+import subprocess
+import sys
+import tempfile
+
+BENCH = os.path.dirname(os.path.realpath(__file__))
+sys.path.insert(0, os.path.join(BENCH, "..", "scripts"))
+from vaknuhol.program.program_file import Program, read_bytes, read_text  # noqa: E402
+from vaknuhol.recording.patch_report import WRITES  # noqa: E402
+from vaknuhol.recording.record_file import Record, Row  # noqa: E402
+
+VAKNUHOL = os.path.join(BENCH, "..", "bin", "vaknuhol")
+FLAGS = {"cloned": [], "queue": ["-pthread"], "openmp": ["-fopenmp"], "atomics": ["-pthread"]}
+ADDS = re.compile(r"(?m)^ +([0-9a-f]+):\tlock (?:add|inc|sub)\w? .*<counters(?:\+0x([0-9a-f]+))?>$")
+
+
+def call(*words: str) -> str:
+    done = subprocess.run(words, capture_output=True, text=True)
+    if done.returncode:
+        sys.exit(f"{' '.join(words)} ended with {done.returncode}: {done.stdout}{done.stderr}")
+    return done.stdout
+
+
+def vaknuhol(*words: str) -> str:
+    return call(sys.executable, VAKNUHOL, *words)
+
+
+def adding(program: str) -> dict[int, list[int]]:
+    """By each counter's number the instructions that add to it."""
+    found = collections.defaultdict(list)
+    for addr, place in ADDS.findall(call("objdump", "-d", "--no-show-raw-insn", program)):
+        found[int(place or "0", 16) // 8].append(int(addr, 16))
+    return found
+
+
+def row_at(rows: list[Row], firsts: list[int], addr: int) -> Row | None:
+    row = rows[bisect.bisect_right(firsts, addr) - 1]
+    return row if row.first <= addr < row.end else None
+
+
+def compare(name: str, run: int, places: dict[int, list[int]]) -> tuple[int, int]:
+    """How many counters of a run equal counts, and how many have a place that was left; all others end it."""
+    rows, counters = Record("record").rows, [int(line) for line in read_text("counters").splitlines()]
+    firsts, equal = [row.first for row in rows], 0
+    for number, addresses in places.items():
+        found = [row and row.count for row in (row_at(rows, firsts, addr) for addr in addresses)]
+        if None not in found:
+            if sum(found) != counters[number]:
+                sys.exit(f"{name}, run {run}: counter {number} is {counters[number]}, and {found} were counted")
+            equal += 1
+    return equal, len(places) - equal
+
+
+def verdict(tool: str, program: str, stem: str, patched: str, report: str) -> str:
+    return subprocess.run([tool, "check", program, patched, f"{stem}.starts", report], capture_output=True, text=True).stdout.strip()
+
+
+def changed(stem: str, number: int) -> tuple[str, str]:
+    """File and report, one of them changed: a bit of what was written for the patch, or a digit of a line that says what was."""
+    random.seed(number)
+    text, data = read_text(f"{stem}.report"), bytearray(read_bytes(f"{stem}.patched"))
+    if number % 2:
+        lines = [found.start() for found in re.finditer(r"(?m)^(?:tramp|write|pun) .*$", text)]
+        at = text.index(" ", random.choice(lines)) + random.randrange(1, 9)
+        text = text[:at] + f"{int(text[at], 16) ^ 1:x}" + text[at + 1:]
+    else:
+        tramp = int(random.choice(re.findall(r"(?m)^tramp ([0-9a-f]+)", text)), 16) if number % 4 else None
+        place = tramp or int(random.choice(WRITES.found("report", text))[0], 16)
+        offset = next(offset + place - start for offset, start, length in segments(data) if start <= place < start + length)
+        data[offset] ^= 1 << random.randrange(8)
+    with open("report", "w", encoding="ascii") as file:
+        file.write(text)
+    with open("patched", "wb") as file:
+        file.write(data)
+    return "patched", "report"
+
+
+def segments(data: bytes) -> list[tuple[int, int, int]]:
+    """Of each part that is loaded the place in the file, the address and the length."""
+    table, count = int.from_bytes(data[32:40], "little"), int.from_bytes(data[56:58], "little")
+    rows = [data[at:at + 56] for at in range(table, table + 56 * count, 56)]
+    return [(int.from_bytes(row[8:16], "little"), int.from_bytes(row[16:24], "little"), int.from_bytes(row[32:40], "little"))
+            for row in rows if row[0] == 1]
+
+
+def judge(tool: str, name: str, stem: str, changes: int) -> str:
+    """What `check` says of the file and of changed ones, and whether the original comes back."""
+    said = verdict(tool, name, stem, f"{stem}.patched", f"{stem}.report")
+    refused = [verdict(tool, name, stem, *changed(stem, number)) for number in range(changes)]
+    vaknuhol("unpatch", f"{stem}.patched", "back")
+    is_back = read_bytes("back") == read_bytes(name)
+    if said != "check yes" or "check yes" in refused or not is_back:
+        sys.exit(f"{name}: {said}; changed: {refused}; {'the' if is_back else 'not the'} original comes back")
+    return f"{said}; {len(refused)} changes are refused; the original comes back"
+
+
+def measure(tool: str, name: str, words: argparse.Namespace) -> None:
+    choice, runs = words.choice, words.runs
+    call(words.compiler, "-O2", "-g", "-static", "-no-pie", *FLAGS[name], "-o", name, os.path.join(BENCH, "guests", f"{name}.c"))
+    places, original = adding(name), call(f"./{name}", "counters")
+    (path,) = vaknuhol("count", choice, "--threads", "--patch-only", name).split()
+    equal = left = 0
+    for run in range(runs):
+        printed = vaknuhol("count", choice, "--threads", "--quiet", "--record", "record", name, "--", "counters")
+        if printed != original:
+            sys.exit(f"{name}, run {run}: it prints {printed!r}, and the original {original!r}")
+        some, others = compare(name, run, places)
+        equal, left = equal + some, left + others
+    rows = Record("record").rows
+    unknown = collections.Counter(row.outcome for row in rows if row.count is None)
+    print(f"{name}: left {unknown.total()} of {len(rows)} ({100 * unknown.total() / len(rows):.2f} %): {dict(unknown)}; "
+          f"{runs} runs: {equal} counters equal, {left} left; {judge(tool, name, path.removesuffix('.patched'), words.changes)}", flush=True)
+
+
+def main() -> None:
+    parser = argparse.ArgumentParser(description=__doc__)
+    parser.add_argument("tool")
+    for choice in ("blocks", "jumps", "functions", "own"):
+        parser.add_argument(f"--{choice}", dest="choice", action="store_const", const=f"--{choice}", default="--blocks")
+    parser.add_argument("--compiler", default="gcc")
+    parser.add_argument("--runs", type=int, default=20)
+    parser.add_argument("--changes", type=int, default=12, help="how many changes are planted")
+    parser.add_argument("programs", nargs="*")
+    words = parser.parse_intermixed_args()
+    os.environ["E9TOOL"] = tool = os.path.realpath(words.tool)
+    with tempfile.TemporaryDirectory() as folder:
+        os.chdir(folder)
+        for name in words.programs or FLAGS:
+            measure(tool, name, words)
+
+
+if __name__ == "__main__":
+    main()

@@ -8,6 +8,7 @@ from vaknuhol.arguments import Refusal
 from vaknuhol.recording.actions import action_of
 from vaknuhol.recording.record_file import Record, Row, counted, remembered, write_record
 from vaknuhol.recording.record_sum import Sum
+from vaknuhol.recording.run_file import left_line
 
 SEEN = {"processes": 1, "threads": 0, "execs": 0}
 HASH, OTHER = "a" * 64, "b" * 64
@@ -47,6 +48,16 @@ def test_each_block_has_the_count_of_its_site():
     ]
     assert record.left == 1 and record.left_text() == "1 was left (Shared 1)"
     assert record.program_hash == OTHER and record.report_hash == HASH and record.is_plain() and record.state == "ended"
+
+
+@pytest.mark.parametrize("action", ["count", "ring:3"])
+def test_reasons_add_up_to_the_blocks_that_were_left(action):
+    """Also where a block has no site, since none of its instructions could be one."""
+    report = report_of(action, {0x401004: 0}, {0x40100C: "Shared"})
+    rows = remembered(report, RUN, []) if report.action.is_ring else counted(report, RUN, array.array("Q", [7]))
+    record = written("record", list(rows), action=action)
+    assert record.left_text() == "2 were left (Shared 1, 1 without a site)"
+    assert left_line(report, RUN) == "2 Shared 1, 1 without a site"
 
 
 def test_the_events_of_each_process_are_in_their_order():

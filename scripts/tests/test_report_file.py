@@ -45,6 +45,11 @@ def test_outcomes_are_told_in_the_order_of_the_summary():
     assert outcome_counts(["Shared", "NoPlan", "NoPlan"]) == "NoPlan 2 Shared 1" and outcome_counts([]) == ""
 
 
+def test_blocks_without_a_site_are_told_beside_outcomes():
+    """Of records that tell no outcomes nothing is."""
+    assert outcome_counts([None, "NoPlan", None]) == "NoPlan 1, 2 without a site" and outcome_counts([None]) == ""
+
+
 @pytest.mark.parametrize(
     "change",
     [

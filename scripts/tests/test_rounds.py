@@ -42,7 +42,7 @@ def listing_of(blocks):
         kind=bytes([FALLS]) * count,
         marks=bytes(count),
         ranges=lambda kind: [],
-        write_starts=lambda path: write_whole({path: "starts"}),
+        starts_text=lambda: b"starts",
     )
 
 

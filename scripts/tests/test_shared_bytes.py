@@ -1,14 +1,18 @@
 """Instructions that share bytes: both starts of a jump past a prefix are listed, and what shares bytes is left and
 told."""
+import os
 import re
+import subprocess
 
 import pytest
 
-from tests.calls import patch, path_of, record, rows_of, run, script
+from tests.calls import patch, path_of, record, rows_of, run, script, words_of
 from tests.command import call
 from tests.programs import Programs
 from tests.stepping import visits_of
+from vaknuhol.program import listing_file
 from vaknuhol.program.listing import Listing
+from vaknuhol.program.program_file import read_text
 from vaknuhol.recording.patch_report import Report
 
 ENDED = 115
@@ -43,6 +47,25 @@ def test_both_starts_of_each_jump_are_listed():
     assert printed.startswith("23 starts, 2 of them inside other instructions, where jumps lead; 14 sites"), printed
     with open("starts", encoding="ascii") as file:
         assert [int(line, 16) for line in file] == [it.addr for it in listing.instructions]
+    words = words_of("starts_and_sites", "sharing", "-", "again", "--blocks")
+    done = subprocess.run(words, capture_output=True, text=True, check=True)
+    assert done.stdout == read_text("starts") and done.stderr == printed and read_text("again") == read_text("sites")
+    assert not os.path.exists("-")
+
+
+def test_a_list_that_another_process_has_kept_meanwhile_stays(monkeypatch):
+    """That process may just read it."""
+
+    def write_late(program, path, write=listing_file.write_list):
+        write(program, path)
+        monkeypatch.setattr(listing_file, "write_list", write)
+        listing_file.list_of(program, "sharing.vak")
+
+    os.mkdir("sharing.vak")
+    removed: list[str] = []
+    monkeypatch.setattr(listing_file, "write_list", write_late)
+    monkeypatch.setattr(os, "remove", removed.append)
+    assert len(Listing("sharing").addr) == 23 and removed == []
 
 
 def counted(shared, locked, visits):

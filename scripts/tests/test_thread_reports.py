@@ -1,14 +1,17 @@
 """Reports of patches for threads: what `check` and `unpatch` do by them, and the outcome of each left site."""
 import os
 import re
+import shutil
 import struct
+import subprocess
 
 import pytest
 
 from tests.calls import SOURCES, match, patch, path_of, run
-from tests.command import call
+from tests.command import call, known
 from tests.programs import Programs, compile_text
-from tests.test_texts import NEIGHBOURS, build_text
+from tests.test_texts import END, FRAME, NEIGHBOURS, TEXTS, TIGHT, build_text
+from vaknuhol.program.kernel import entry_of
 from vaknuhol.program.listing import Listing
 from vaknuhol.program.program_file import Program, read_bytes, read_text
 from vaknuhol.recording.code_support import Support
@@ -18,6 +21,17 @@ from vaknuhol.recording.record_file import Record
 pytestmark = pytest.mark.xdist_group("thread reports")
 COUNTS = bytes.fromhex("F0 48 FF 04 25")  # lock inc of the counter, whose address follows
 PATCHED = r"site ([0-9a-f]+) ([0-9]+) B1\ntramp ([0-9a-f]+) \1 event\nwrite \1 ([0-9a-f]+) (e9[0-9a-f]+)\n"
+# Two programs, each patched with one neighbour displaced: the next instruction (T2), and one that lies further on (T3), to whose
+# second jump a short one leads. Beside them changed bytes, of jumps and of the code of site and neighbour, and the rule that each breaks.
+DISPLACING = {
+    "T2": (TEXTS["one_zero"], {0x401026: 2, 0x401027: 2, 0x40102A: 2, 0x2102D: 4, 0x40F96B: 4}),
+    "T3": (
+        TIGHT.format("")
+        + END
+        + ".type far, @function\nfar: lea 0x11223344(%rdi), %eax\n    movabs $0x1122334455, %rcx\n    ret\n",
+        {0x401029: 2, 0x401045: 2, 0x401047: 2, 0x401048: 2, 0x2104C: 4, 0x40F94A: 4},
+    ),
+}
 
 
 @pytest.fixture
@@ -84,6 +98,45 @@ def test_a_changed_line_of_written_bytes_is_refused(stem, which):
         file.write(text[: end - 1] + f"{int(text[end - 1], 16) ^ 1:x}" + text[end:])
     last = int(found[1], 16) + len(found[4]) // 2 - 1
     assert checked(stem, 1) == f"check no {last:08x} 2"
+
+
+def test_a_changed_entry_point_of_a_file_for_threads_is_refused(stem):
+    """As e9tool refuses it: for threads there is no loader form, whose entry point is another."""
+    entry = entry_of("threads")
+    with open(f"{stem}.patched", "r+b") as file:
+        file.seek(24)
+        file.write((entry + 1).to_bytes(8, "little"))
+    assert checked(stem, 1) == f"check no {entry + 1:08x} 6"
+
+
+@pytest.mark.parametrize("scheme", DISPLACING)
+def test_a_file_for_threads_with_a_displaced_neighbour_is_judged_and_taken_back(scheme):
+    text, places = DISPLACING[scheme]
+    compile_text("near", "near.s", FRAME + text + ".section .note.GNU-stack\n", "-nostdlib")
+    (path,) = call("count", "near", "--blocks", "--threads", "--patch-only")[0].split()
+    kept = path.removesuffix(".patched")
+    assert re.search(f"\nsite [0-9a-f]+ [0-9]+ {scheme}\n(?:.+\n)*?tramp [0-9a-f]+ [0-9a-f]+ plain\n", read_text(f"{kept}.report"))
+    words = ["near", f"{kept}.starts", f"{kept}.report"]
+    judged = [os.environ["E9TOOL"], "check", words[0], "changed", *words[1:]]
+    call("check", "near")
+    for at, rule in places.items():
+        shutil.copy(path, "changed")
+        change("changed", at)
+        assert run(*judged, status=(7,)) == f"check no {at:08x} {rule}\n"
+    call("unpatch", path, "again")
+    assert read_bytes("again") == read_bytes("near")
+
+
+@pytest.mark.parametrize("scheme", DISPLACING)
+def test_a_displaced_neighbour_counts_nothing_for_threads(scheme):
+    """And the counts are those of `patch`."""
+    compile_text("near", "near.s", FRAME + DISPLACING[scheme][0] + ".section .note.GNU-stack\n", "-nostdlib")
+    ended = subprocess.run("./near", check=False).returncode
+    call("count", "near", "--blocks", "--threads", "--record", "ours", status=ended)
+    call("count", "near", "--blocks", "--record", "theirs", status=ended)
+    ours, theirs = known("ours"), known("theirs")
+    both = ours.keys() & theirs.keys()
+    assert len(both) > 6 and all(ours[first] == theirs[first] for first in both), (ours, theirs)
 
 
 def test_a_report_without_its_first_line_is_judged_by_the_other_rules(stem):

@@ -101,7 +101,7 @@ class Progress:
     def go_on(self, ended: threading.Event) -> None:
         begun = time.monotonic()
         while not ended.wait(SELDOM):
-            say(f"{self.text}, {time.monotonic() - begun:.0f} s")
+            say(f"{self.text.rstrip()}, {time.monotonic() - begun:.0f} s")
 
 
 progress = Progress()

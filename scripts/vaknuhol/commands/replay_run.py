@@ -51,8 +51,8 @@ def parse() -> argparse.Namespace:
 def list_starts(words: argparse.Namespace, folder: str) -> frozenset[int]:
     """Writes the starts and the chosen sites; the starts."""
     _, listing, blocks = read_program(words, words.action)
-    write_whole({f"{folder}/sites": list_text(sorted(block.site for block in blocks))})
-    listing.write_starts(f"{folder}/starts")
+    write_whole({f"{folder}/sites": list_text(sorted(block.site for block in blocks)),
+                 f"{folder}/starts": listing.starts_text()})
     return listing.starts
 
 

@@ -83,11 +83,19 @@ def refuse_what_it_lacks(coverage: Coverage, words: argparse.Namespace) -> None:
                       "(--all)?")
 
 
+def refuse_beside_runs(words: argparse.Namespace) -> None:
+    """With --per-run nothing else is shown or written."""
+    others = [f"--{name}" for name in (*OUTPUTS, "source", "all", "table") if getattr(words, name)]
+    if words.per_run and others:
+        raise Refusal(f"{others[0]}: not allowed with argument --per-run")
+
+
 def do(words: argparse.Namespace) -> int:
     if words.all and words.source:
         raise Refusal("--all: not allowed with argument --source")
     if words.table and STANDARD in (words.lcov, words.cobertura, words.json, words.drcov, words.callgrind):
         raise Refusal("--table: it is printed on standard output, and so is what goes to -")
+    refuse_beside_runs(words)
     if words.per_run:
         print_runs([Record(path) for path in paths_of(words)])
         return 0

@@ -6,8 +6,10 @@ SITES has an instruction of each block that --functions, --blocks, --jumps or --
 most surely, since all instructions of a block are executed equally often. With --ring and --when it stands at the
 block's front, where nothing can have faulted yet, and no register of the condition have changed.
 """
-from vaknuhol.arguments import Words, file_name, output_name
-from vaknuhol.outputs import write_whole
+import sys
+
+from vaknuhol.arguments import STANDARD, Words, file_name, output_name
+from vaknuhol.outputs import write_outputs
 from vaknuhol.recording.action_options import action_of_words, add_action
 from vaknuhol.recording.block_choice import add_choices, read_program
 from vaknuhol.recording.patching import list_text
@@ -24,6 +26,6 @@ def main() -> None:
     action = action_of_words(parser, words)
     _, listing, blocks = read_program(words, action)
     sites = sorted(block.site for block in blocks)
-    write_whole({words.sites: list_text(sites)})
-    listing.write_starts(words.starts)
-    print(f"{listing.summary()}; {len(sites)} sites")
+    write_outputs([(words.sites, list_text(sites)), (words.starts, listing.starts_text())])
+    told = sys.stderr if STANDARD in (words.starts, words.sites) else sys.stdout
+    print(f"{listing.summary()}; {len(sites)} sites", file=told)

@@ -13,7 +13,7 @@ from typing import Optional
 
 from vaknuhol.program.listing_file import (BRANCH, CALL, CALL_INDIRECT, DOUBTFUL, END, FALLS, IS_CALLED, JUMP,
                                            JUMP_INDIRECT, KERNEL, NOTHING, RETURN, SHARED, TRAP, Range, list_of,
-                                           write_starts)
+                                           starts_of)
 from vaknuhol.program.program_file import Program
 
 NOT_FALLING = frozenset((JUMP, RETURN, JUMP_INDIRECT, END))
@@ -146,9 +146,9 @@ class Listing:
         """The addresses of all instructions."""
         return frozenset(self.addr)
 
-    def write_starts(self, path: str) -> None:
-        """Writes the list STARTS of e9tool."""
-        write_starts(self.path, self.folder, path)
+    def starts_text(self) -> bytes:
+        """The list STARTS of e9tool."""
+        return starts_of(self.path, self.folder)
 
     def function_of(self, addr: int) -> Optional[str]:
         """The function of an instruction; a section's name is none."""

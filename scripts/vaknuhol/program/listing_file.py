@@ -9,7 +9,6 @@ import glob
 import hashlib
 import mmap
 import os
-import shutil
 import struct
 import subprocess
 import tempfile
@@ -128,7 +127,7 @@ def kept_or_made(program: str, folder: str) -> Iterator[str]:
     if not os.path.isfile(path) or not os.path.isfile(path + STARTS):
         with tempfile.TemporaryDirectory(prefix="part.", dir=folder) as part:
             write_list(program, os.path.join(part, "list"))
-            for old in glob.glob(f"{glob.escape(folder)}/listing-*"):
+            for old in set(glob.glob(f"{glob.escape(folder)}/listing-*")) - {path, path + STARTS}:
                 with contextlib.suppress(FileNotFoundError):  # another process may have been first
                     os.remove(old)
             os.replace(os.path.join(part, "list") + STARTS, path + STARTS)
@@ -141,7 +140,7 @@ def list_of(program: str, folder: str) -> ListFile:
         return ListFile(path)
 
 
-def write_starts(program: str, folder: str, to: str) -> None:
-    """Writes the list STARTS of e9tool."""
-    with kept_or_made(program, folder) as path:
-        shutil.copyfile(path + STARTS, to)
+def starts_of(program: str, folder: str) -> bytes:
+    """The list STARTS of e9tool."""
+    with kept_or_made(program, folder) as path, open(path + STARTS, "rb") as file:
+        return file.read()

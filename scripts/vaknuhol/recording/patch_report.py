@@ -27,9 +27,10 @@ def text_hash(path: str, text: str) -> str:
 
 def outcome_counts(outcomes: Iterable[str | None]) -> str:
     """How many of these outcomes of left sites are of which name, as the summary of `patch` has them, but for those
-    that don't occur."""
+    that don't occur; and how many blocks have no site, where others have an outcome."""
     counts = collections.Counter(outcomes)
-    return " ".join(f"{name} {counts[name]}" for name in LEFT if counts[name])
+    named, without = " ".join(f"{name} {counts[name]}" for name in LEFT if counts[name]), counts[None]
+    return f"{named}, {without} without a site" if named and without else named
 
 
 class Lines:

@@ -137,7 +137,7 @@ class Patching:
         try:
             with tempfile.TemporaryDirectory(prefix="part.", dir=folder) as part:
                 kept = RunFiles(f"{part}/kept")
-                listing.write_starts(kept.starts)
+                write_whole({kept.starts: listing.starts_text()})
                 for number in range(1, ROUNDS + 1):
                     if not self.go_round(number, RunFiles(f"{part}/{number}"), kept):
                         break

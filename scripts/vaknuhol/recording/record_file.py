@@ -118,7 +118,7 @@ def remembered(report: Report, run: Run, spaces: Iterable[Space]) -> Iterator[st
     """What the rings of address spaces have, in the order in which they ended."""
     blocks = {site: f"{first:08x} {end:08x} {site:08x}" for first, end, site in run.blocks}
     of_number = {number: blocks[site] for site, number in report.patched.items()}
-    why = outcome_counts(report.left[site] for site in blocks if site in report.left)
+    why = outcome_counts(report.left.get(site) for site in blocks if site not in report.patched)
     yield f"left {len(blocks) - len(of_number)} {why}".rstrip()
     for space in spaces:
         yield f"process {space.number} {space.ended}"

@@ -85,12 +85,18 @@ def of_hottest(coverage: Coverage, places: list[tuple[Row, Place]], names: Calla
         yield f"{count:>12}  {text}"
 
 
+def last_of(events: int) -> str:
+    """Which of so many events are shown."""
+    if events > TEN:
+        return f"the last {TEN} of {events} events"
+    return f"all {events} events" if events > 1 else "its only event" if events else "no event"
+
+
 def of_ring(coverage: Coverage, names: Callable[[str], str]) -> Iterator[str]:
     """The last events of each process, the last one last; where a signal ended some, of these alone."""
     histories = coverage.record.histories
     for history in [history for history in histories if history.is_crash()] or histories:
-        last = min(TEN, len(history.rows))
-        yield f"process {history.number}, {history.text()}: the last {last} of {counted(len(history.rows), 'event')}"
+        yield f"process {history.number}, {history.text()}: {last_of(len(history.rows))}"
         for row in history.rows[-TEN:]:
             yield "    " + (coverage.place_of_site(row).text(names) if row else "something else wrote there")
     if coverage.record.left:

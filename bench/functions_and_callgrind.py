@@ -20,9 +20,11 @@ TOP = os.path.dirname(os.path.dirname(os.path.realpath(__file__)))
 NAMED = re.compile(r"c?fn=\((\d+)\)(?: (.+))?")
 
 
-def calls_of(text: str) -> collections.Counter:
+def calls_of(text: str) -> collections.Counter[str]:
     """The calls of each function in callgrind's file, whose names stand where they first occur."""
-    names, calls, called = {}, collections.Counter(), ""
+    names: dict[str, str] = {}
+    calls: collections.Counter[str] = collections.Counter()
+    called = ""
     for line in text.splitlines():
         named = NAMED.fullmatch(line)
         if named:
@@ -33,7 +35,7 @@ def calls_of(text: str) -> collections.Counter:
     return calls
 
 
-def of_callgrind(folder: str, words: argparse.Namespace) -> collections.Counter:
+def of_callgrind(folder: str, words: argparse.Namespace) -> collections.Counter[str]:
     with tempfile.TemporaryDirectory() as other, open(words.input or os.devnull, "rb") as given:
         command = ["valgrind", "--tool=callgrind", "--demangle=no", f"--callgrind-out-file={other}/out", f"{folder}/program"]
         subprocess.run([*command, *shlex.split(words.words)], stdin=given, capture_output=True, check=False)
@@ -49,10 +51,10 @@ def of_ours(folder: str) -> dict[str, int]:
     return {it["symbol"]: it["execution_count"] for file in json.loads(done.stdout)["files"] for it in file["functions"]}
 
 
-def by_source(counts: dict[str, int]) -> collections.Counter:
+def by_source(counts: dict[str, int]) -> collections.Counter[str]:
     """The counts by names as the source has them, without parameters: callgrind has one of a constructor's symbols."""
     told = subprocess.run(["c++filt", "-p"], input="\n".join(counts), capture_output=True, text=True, check=True).stdout.splitlines()
-    found = collections.Counter()
+    found: collections.Counter[str] = collections.Counter()
     for name, count in zip(told, counts.values()):
         found[name] += count
     return found

@@ -15,17 +15,17 @@ PLAIN = {
 }
 
 
-def guest(seed, blocks):
+def guest(seed: int, blocks: int) -> tuple[bytes, list[int], list[int]]:
     """The file of a guest, its starts and its sites."""
     x = seed
     text, starts, sites = bytearray(b"\xc3"), [0x401000], []
 
-    def draw():
+    def draw() -> int:
         nonlocal x
         x = (x * 6364136223846793005 + 1442695040888963407) % 2**64
         return x >> 32
 
-    def put(insn):
+    def put(insn: bytes) -> None:
         starts.append(0x401000 + len(text))
         text.extend(insn)
 
@@ -53,12 +53,12 @@ def guest(seed, blocks):
     return header.ljust(0x1000, b"\0") + bytes(text), starts, sites
 
 
-def call(tool, *words):
+def call(tool: str, *words: str) -> tuple[int, str]:
     done = subprocess.run([tool, *words], capture_output=True, text=True)
     return done.returncode, done.stdout
 
 
-def is_taken_back(tool, file, form, action):
+def is_taken_back(tool: str, file: bytes, form: str, action: str) -> bool:
     for name in ("out", "report", "new"):
         if os.path.exists(name):
             os.unlink(name)
@@ -72,7 +72,7 @@ def is_taken_back(tool, file, form, action):
         return new.read() == file
 
 
-def main():
+def main() -> bool:
     tool = os.path.realpath(sys.argv[1])
     assert guest(0, 1)[0][0x1000:] == bytes.fromhex("c3488d4c0104e9f6ffffff") and guest(0, 1)[2] == [0x401001]
     tried = back = 0
@@ -80,10 +80,10 @@ def main():
         os.chdir(folder)
         for seed in range(100):
             file, starts, sites = guest(seed * 7919 + 1, (1, 7, 40, 200, 900, 3000, 20000)[seed % 7])
-            with open("file", "wb") as out:
-                out.write(file)
+            with open("file", "wb") as whole:
+                whole.write(file)
             for name, addresses in (("starts", starts), ("sites", sites)):
-                with open(name, "w") as out:
+                with open(name, "w", encoding="ascii") as out:
                     out.writelines(f"{it:x}\n" for it in addresses)
             for form in ("patch", "load"):
                 for action in ACTIONS:

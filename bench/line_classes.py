@@ -13,7 +13,8 @@ import collections
 from typing import Callable
 
 from gcov_blocks import EXIT, FAKE, is_fork
-from line_evidence import OUTSIDE, Difference, Program, sums
+from line_evidence import Difference, Program, sums
+from vaknuhol.program.flow_graph import OUTSIDE
 
 Others = list[Difference]  # the program's other lines that differ
 

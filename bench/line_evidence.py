@@ -4,7 +4,7 @@ import itertools
 import os
 import sys
 from types import SimpleNamespace
-from typing import Iterable, Mapping
+from typing import Iterable, Mapping, cast
 
 import capstone
 
@@ -15,6 +15,7 @@ from vaknuhol.program.loops import body_of  # noqa: E402
 from vaknuhol.recording.record_file import Record  # noqa: E402
 from vaknuhol.views.coverage import Coverage  # noqa: E402
 from vaknuhol.views.cycles import cycle_count  # noqa: E402, its place is known only now
+from vaknuhol.views.flow_solving import Flow  # noqa: E402
 from vaknuhol.views.line_counts import LineCounts  # noqa: E402
 from gcov_blocks import ENTRY, FAKE, FIRST, Function, Key, Way, functions_of, grown, has_own, is_fork  # noqa: E402
 from lines_and_gcov import gcov  # noqa: E402
@@ -39,7 +40,7 @@ class Program:
         self.line_counts = LineCounts(self.told.copies, self.told.flow, self.told.instances)
         theirs, _, _ = gcov(counted)
         self.theirs = {key: count for key, count in theirs.items() if not key[0].startswith("/usr/")}
-        self.ours = {(os.path.realpath(file), number): line.count for file, lines in self.told.files.items()
+        self.ours = {(os.path.realpath(file), number): line.count or 0 for file, lines in self.told.files.items()
                      for number, line in lines.items() if line.is_known()}
         self.numbers = {os.path.realpath(name): number for number, name in enumerate(self.told.info.files)}
         self.blocks: dict[Key, dict[Function, list[int]]] = {}
@@ -64,12 +65,12 @@ class Program:
 
 
 @functools.lru_cache(maxsize=None)
-def flow_of(function: Function) -> SimpleNamespace:
+def flow_of(function: Function) -> Flow:
     """gcov's blocks in the form that rounds are counted in."""
     graph = Graph(max(it for way in function.ways for it in (way.source, way.target)) + 1)
     for way in function.ways:
         graph.add(way.source, way.target, 0)
-    return SimpleNamespace(graph=graph, edges=[way.count for way in function.ways])
+    return cast(Flow, SimpleNamespace(graph=graph, edges=[way.count for way in function.ways]))
 
 
 class Difference:
@@ -303,5 +304,5 @@ def loops_of(function: Function) -> list[set[int]]:
 
 def lines_of_loop(function: Function, block: int) -> set[Key]:
     """The lines of the smallest loop around one of gcov's blocks."""
-    found = next((body for body in loops_of(function) if block in body), set())
+    found: set[int] = next((body for body in loops_of(function) if block in body), set())
     return {line for it in found for line in function.lines.get(it, [])}

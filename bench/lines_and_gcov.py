@@ -18,18 +18,27 @@ import subprocess
 import sys
 import tempfile
 from collections.abc import Iterator
+from typing import Any
 
 TOP = os.path.dirname(os.path.dirname(os.path.realpath(__file__)))
 
+Lines = dict[tuple[str, int], int]
+Calls = dict[tuple[str, str], int]
+Ways = dict[tuple[str, int], list[int]]
 
-def call(words: list[str], **how) -> str:
-    done = subprocess.run(words, capture_output=True, text=True, errors="replace", check=False, **how)
-    return done.stdout if done.returncode == 0 else sys.exit(f"{shlex.join(words)}: {done.returncode}: {done.stderr[-800:]}")
+
+def call(words: list[str]) -> str:
+    done = subprocess.run(words, capture_output=True, text=True, errors="replace", check=False)
+    if done.returncode:
+        sys.exit(f"{shlex.join(words)}: {done.returncode}: {done.stderr[-800:]}")
+    return done.stdout
 
 
-def gcov(folder: str) -> tuple[dict, dict, dict]:
+def gcov(folder: str) -> tuple[Lines, Calls, Ways]:
     """gcov's lines, functions and branches; lines of several units are added up."""
-    lines, functions, branches = {}, {}, {}
+    lines: Lines = {}
+    functions: Calls = {}
+    branches: Ways = {}
     decoder, text, at = json.JSONDecoder(), call(["gcov", "-b", "--json-format", "--stdout", *glob.glob(f"{folder}/*.gcda")]), 0
     while at < len(text):
         if text[at].isspace():
@@ -64,11 +73,13 @@ def build_and_run(folder: str, words: argparse.Namespace, flags: list[str]) -> N
         subprocess.run([*command, *(["--", *own_words] if own_words else [])], stdin=given, stdout=subprocess.DEVNULL, check=False)
 
 
-def ours(folder: str) -> tuple[dict, dict, dict, list]:
+def ours(folder: str) -> tuple[Lines, Calls, Ways, list[dict[str, Any]]]:
     call([f"{TOP}/bin/vaknuhol", "report", f"{folder}/program", f"{folder}/last.record", "--json", f"{folder}/told.json"])
     with open(f"{folder}/told.json", encoding="utf-8") as file:
         told = json.load(file)
-    lines, functions, branches = {}, {}, {}
+    lines: Lines = {}
+    functions: Calls = {}
+    branches: Ways = {}
     for it in told["files"]:
         name = os.path.realpath(it["file"])
         for line in it["lines"]:
@@ -92,7 +103,7 @@ def folder_of(words: argparse.Namespace) -> Iterator[str]:
         yield folder
 
 
-def equal(left: dict, right: dict, both: set) -> int:
+def equal(left: dict[Any, int], right: dict[Any, int], both: set[Any]) -> int:
     return sum(left[it] == right[it] for it in both)
 
 
@@ -130,9 +141,9 @@ def main() -> None:
         for title, those in (("only gcov", sorted(lines.keys() - mine.keys())), ("only ours", sorted(mine.keys() - lines.keys()))):
             counts = lines if title == "only gcov" else mine
             print(f"    {title}:", " ".join(f"{os.path.basename(name)}:{line}={counts[name, line]}" for name, line in those[:80]))
-        for it in sorted(called):
-            if functions[it] != my_functions[it]:
-                print(f"    {it[0]} gcov {functions[it]}, ours {my_functions[it]}")
+        for called_one in sorted(called):
+            if functions[called_one] != my_functions[called_one]:
+                print(f"    {called_one[0]} gcov {functions[called_one]}, ours {my_functions[called_one]}")
 
 
 if __name__ == "__main__":

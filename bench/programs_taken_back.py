@@ -13,15 +13,16 @@ SCRIPTS = os.path.join(os.path.dirname(os.path.realpath(__file__)), "..", "scrip
 sys.path.insert(0, SCRIPTS)
 from vaknuhol.recording.patching import RESERVES  # noqa: E402
 
+Way = tuple[str, str, list[str]]  # which sites, the file that lists them, and the RESERVE
 ACTIONS = ("cover", "count", "ring:64", "count when rdi == 2")
 
 
-def call(tool, *words):
+def call(tool: str, *words: str) -> tuple[int, str]:
     done = subprocess.run([tool, *words], capture_output=True, text=True)
     return done.returncode, done.stdout + done.stderr
 
 
-def list_sites(program, kind):
+def list_sites(program: str, kind: str) -> bool:
     """Writes `starts`, and the sites of a kind as a file of that name; whether they are as few as a list may have."""
     words = [sys.executable, os.path.join(SCRIPTS, "starts_and_sites.py"), program, "starts", kind, f"--{kind}"]
     done = subprocess.run(words, capture_output=True, text=True)
@@ -30,14 +31,14 @@ def list_sites(program, kind):
     return done.returncode == 0
 
 
-def ways(form, few):
+def ways(form: str, few: bool) -> list[Way]:
     """What is tried one after the other: which sites, the file that lists them, and the RESERVE."""
     kinds = [("functions", "functions"), ("every eighth function", "eighth")]
     kinds = [("jumps", "jumps"), *kinds] if few else kinds
     return [(what, sites, reserve) for what, sites in kinds for reserve in (RESERVES if form == "patch" else RESERVES[:1])]
 
 
-def is_back(tool, program):
+def is_back(tool: str, program: str) -> bool:
     """Whether undoing `out` by `report` gives the program."""
     with open(program, "rb") as file:
         original = file.read()
@@ -49,7 +50,7 @@ def is_back(tool, program):
         return file.read() == original
 
 
-def take_back(tool, program, form, action, left_ways):
+def take_back(tool: str, program: str, form: str, action: str, left_ways: list[Way]) -> tuple[bool, str]:
     """Writes a file by the first way whose table isn't too long, and takes it back: whether that is the program, and how it was.
     The ways before that one are dropped."""
     while left_ways:
@@ -58,8 +59,9 @@ def take_back(tool, program, form, action, left_ways):
             if os.path.exists(name):
                 os.unlink(name)
         status, text = call(tool, form, program, "starts", sites, action, "out", "report", *reserve)
-        if status in (0, 1):
-            patched, left = re.search(r"patched (\d+) left (\d+)", text).groups()
+        counts = re.search(r"patched (\d+) left (\d+)", text)
+        if status in (0, 1) and counts:
+            patched, left = counts.groups()
             return is_back(tool, program), f"{what}, {patched} patched, {left} left{''.join(f', RESERVE {it}' for it in reserve)}"
         if " TooManySegments " not in text:
             break
@@ -67,7 +69,7 @@ def take_back(tool, program, form, action, left_ways):
     return False, f"{status} {text.strip()}"
 
 
-def take_all_back(tool, program):
+def take_all_back(tool: str, program: str) -> tuple[int, int]:
     """How many files of a program were written and taken back, of how many."""
     few = list_sites(program, "jumps")
     list_sites(program, "functions")
@@ -83,7 +85,7 @@ def take_all_back(tool, program):
     return back, 2 * len(ACTIONS)
 
 
-def main():
+def main() -> bool:
     tool, programs = os.path.realpath(sys.argv[1]), [os.path.realpath(it) for it in sys.argv[2:]]
     tried = back = 0
     with tempfile.TemporaryDirectory() as folder:

@@ -9,6 +9,7 @@ import subprocess
 import sys
 import tempfile
 from collections import Counter
+from typing import Any
 
 HERE = os.path.dirname(os.path.realpath(__file__))
 sys.path.insert(0, os.path.join(HERE, "..", "tests"))
@@ -38,8 +39,12 @@ void *aligned_alloc(size_t a, size_t n) { return memalign(a, n); }
 int posix_memalign(void **to, size_t a, size_t n) { return (*to = memalign(a, n)) ? 0 : ENOMEM; }
 """
 
+Row = Any  # of tests/rows.py
+Files = dict[str, bytes]
+Answer = tuple[int, bytes, bytes]
 
-def run(tool, library, row, before, at):
+
+def run(tool: str, library: str, row: Row, before: Files, at: int) -> tuple[Answer, Files, bool]:
     """What a run with its at-th request refused answers, what it leaves, and whether there was such a request."""
     with tempfile.TemporaryDirectory() as folder:
         work, told = os.path.join(folder, "work"), os.path.join(folder, "told")
@@ -56,7 +61,7 @@ def run(tool, library, row, before, at):
         return (done.returncode, done.stdout, done.stderr), files, os.path.exists(told)
 
 
-def kind(row, before, answer, files):
+def kind(row: Row, before: Files, answer: Answer, files: Files) -> str | None:
     """Which of the allowed ends a run came to; none where it came to another one."""
     status, text, errors = answer
     if errors or any(files.get(name) != data for name, data in before.items() if name not in row.outputs):
@@ -81,10 +86,11 @@ def kind(row, before, answer, files):
     return "6, " + (", ".join(told) or "nothing begun")
 
 
-def try_row(tool, library, row, stood):
+def try_row(tool: str, library: str, row: Row, stood: bool) -> Counter[str] | None:
     """How often each end came, over all requests; none where another one did."""
     before = {**{name: STOOD for name in row.outputs if stood}, **row.inputs}
-    ends, at = Counter(), 0
+    ends: Counter[str] = Counter()
+    at = 0
     while True:
         at += 1
         answer, files, was_refused = run(tool, library, row, before, at)
@@ -97,7 +103,7 @@ def try_row(tool, library, row, stood):
         ends[end] += 1
 
 
-def main():
+def main() -> bool:
     tool = os.path.realpath(sys.argv[1])
     names = sys.argv[2:] or sorted(it for it in os.listdir(os.path.join(TESTS, "rows")) if it.startswith("unpatch"))
     bad = 0

@@ -22,7 +22,7 @@ from vaknuhol.recording.patch_report import WRITES  # noqa: E402
 from vaknuhol.recording.record_file import Record, Row  # noqa: E402
 
 VAKNUHOL = os.path.join(BENCH, "..", "bin", "vaknuhol")
-FLAGS = {"cloned": [], "queue": ["-pthread"], "openmp": ["-fopenmp"], "atomics": ["-pthread"]}
+FLAGS: dict[str, list[str]] = {"cloned": [], "queue": ["-pthread"], "openmp": ["-fopenmp"], "atomics": ["-pthread"]}
 ADDS = re.compile(r"(?m)^ +([0-9a-f]+):\tlock (?:add|inc|sub)\w? .*<counters(?:\+0x([0-9a-f]+))?>$")
 
 
@@ -55,8 +55,9 @@ def compare(name: str, run: int, places: dict[int, list[int]]) -> tuple[int, int
     rows, counters = Record("record").rows, [int(line) for line in read_text("counters").splitlines()]
     firsts, equal = [row.first for row in rows], 0
     for number, addresses in places.items():
-        found = [row and row.count for row in (row_at(rows, firsts, addr) for addr in addresses)]
-        if None not in found:
+        blocks = [row_at(rows, firsts, addr) for addr in addresses]
+        found = [row.count for row in blocks if row and row.count is not None]
+        if len(found) == len(addresses):
             if sum(found) != counters[number]:
                 sys.exit(f"{name}, run {run}: counter {number} is {counters[number]}, and {found} were counted")
             equal += 1

@@ -21,8 +21,9 @@ from vaknuhol.recording.record_file import Record
 pytestmark = pytest.mark.xdist_group("thread reports")
 COUNTS = bytes.fromhex("F0 48 FF 04 25")  # lock inc of the counter, whose address follows
 PATCHED = r"site ([0-9a-f]+) ([0-9]+) B1\ntramp ([0-9a-f]+) \1 event\nwrite \1 ([0-9a-f]+) (e9[0-9a-f]+)\n"
-# Two programs, each patched with one neighbour displaced: the next instruction (T2), and one that lies further on (T3), to whose
-# second jump a short one leads. Beside them changed bytes, of jumps and of the code of site and neighbour, and the rule that each breaks.
+# Two programs, each patched with one neighbour displaced: the next instruction (T2), and one that lies further on (T3),
+# to whose second jump a short one leads. Beside them bytes to change, of jumps and of the code of site and neighbour,
+# and the rule that each then breaks.
 DISPLACING = {
     "T2": (TEXTS["one_zero"], {0x401026: 2, 0x401027: 2, 0x40102A: 2, 0x2102D: 4, 0x40F96B: 4}),
     "T3": (
@@ -115,7 +116,7 @@ def test_a_file_for_threads_with_a_displaced_neighbour_is_judged_and_taken_back(
     compile_text("near", "near.s", FRAME + text + ".section .note.GNU-stack\n", "-nostdlib")
     (path,) = call("count", "near", "--blocks", "--threads", "--patch-only")[0].split()
     kept = path.removesuffix(".patched")
-    assert re.search(f"\nsite [0-9a-f]+ [0-9]+ {scheme}\n(?:.+\n)*?tramp [0-9a-f]+ [0-9a-f]+ plain\n", read_text(f"{kept}.report"))
+    assert re.search(rf"\nsite \w+ \w+ {scheme}\ntramp .+\ntramp \w+ \w+ plain\n", read_text(f"{kept}.report"))
     words = ["near", f"{kept}.starts", f"{kept}.report"]
     judged = [os.environ["E9TOOL"], "check", words[0], "changed", *words[1:]]
     call("check", "near")

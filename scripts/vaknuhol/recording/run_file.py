@@ -76,8 +76,8 @@ def rows_of(report: Report, run: Run) -> tuple[bytes, str]:
 
 def left_line(report: Report, run: Run) -> str:
     """How many blocks were left, and why."""
-    left = sum(site not in report.patched for _, _, site in run.blocks)
-    return f"{left} {outcome_counts(report.left.get(site) for _, _, site in run.blocks if site not in report.patched)}".rstrip()
+    outcomes = [report.left.get(site) for _, _, site in run.blocks if site not in report.patched]
+    return f"{len(outcomes)} {outcome_counts(outcomes)}".rstrip()
 
 
 def comparisons_of(action: Action) -> list[tuple[int, int, int]]:

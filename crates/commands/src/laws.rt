@@ -5,7 +5,6 @@ ghost use Rattle.commands.specs.Reversal.{PatchIsReversed, LoadIsReversed, Threa
 /// What is written for an original can be loaded, and a report that tells it undoes it, whatever follows the private
 /// range. The report of what was planned for a file tells it; so what is written for the plan, as a patched file or in the
 /// loader form, is undone by its report.
-#[tactic(auto, using(crate::proofs::ReversedPlans::frame_is_reversed, crate::proofs::ReversedPlans::planned_is_told, crate::proofs::ReversedPlans::planned_is_reversed, crate::proofs::ReversedPlans::planned_loader_is_reversed))]
 pub fn planned_is_reversed()
     ensures frame { FrameIsReversed }
     ensures told { PlannedIsTold }
@@ -14,31 +13,26 @@ pub fn planned_is_reversed()
 {}
 
 /// What is written for each job that an input is judged to be is undone by its report.
-#[tactic(auto, using(crate::proofs::ReversedPlans::judged_is_reversed))]
 pub fn judged_is_reversed()
     ensures { JudgedIsReversed }
 {}
 
 /// What is written for each job for threads that an input is judged to be is undone by its report.
-#[tactic(auto, using(crate::proofs::ReversedThreads::judged_threads_are_reversed))]
 pub fn judged_threads_are_reversed()
     ensures { JudgedThreadsAreReversed }
 {}
 
 /// What a patch leaves under OUT and REPORT gives FILE back, where it is within the limit of a read.
-#[tactic(auto, using(crate::proofs::PatchReversal::patch_is_reversed))]
 pub fn patch_is_reversed()
     ensures { PatchIsReversed }
 {}
 
 /// What `load` leaves under OUT and REPORT gives FILE back, where it is within the limit of a read.
-#[tactic(auto, using(crate::proofs::LoadReversal::load_is_reversed))]
 pub fn load_is_reversed()
     ensures { LoadIsReversed }
 {}
 
 /// What `threads` leaves under OUT and REPORT gives FILE back, where it is within the limit of a read.
-#[tactic(auto, using(crate::proofs::ReversedThreads::threads_are_reversed))]
 pub fn threads_are_reversed()
     ensures { ThreadsAreReversed }
 {}

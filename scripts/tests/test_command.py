@@ -11,9 +11,7 @@ import pytest
 from tests.calls import TOP, run
 from tests.command import COMMAND, LAST, PARTS, STEP, alike, call, changed, count_of, counts, known
 from tests.programs import inside
-from vaknuhol import messages
 from vaknuhol.main import MODULES, command_parser, modules_for
-from vaknuhol.views.summary import last_of
 
 NAMES = [name for names in MODULES.values() for name in names]
 WALKED = "sum 4950\n"
@@ -233,24 +231,6 @@ def test_on_a_pipe_long_work_is_told_of(tour):
     _, told = changed(EACH_SAID, "count", "tour", "--into", "told", "--", "walk", "1", status=4, has_progress=True)
     lines = re.findall(r"^vaknuhol: patching [0-9]+ blocks, round [0-9]+.*, [0-9]+ s$", told, re.M)
     assert lines and re.search(r"^vaknuhol: reading tour, [0-9]+ s$", told, re.M), told
-
-
-def test_a_line_of_progress_is_whole_where_its_text_ends_a_line(capsys, monkeypatch):
-    """As that of a recorded run does, since on a terminal what the program prints follows."""
-    monkeypatch.setattr(messages, "SELDOM", 0.001)
-    progress, seen = messages.Progress(), ""
-    progress("recording\n")
-    while not seen:
-        seen = capsys.readouterr().err
-    progress("")
-    assert re.fullmatch(r"[^ ]+: recording, [0-9]+ s", seen.splitlines()[0]), seen
-
-
-@pytest.mark.parametrize(
-    "events, text", [(0, "no event"), (1, "its only event"), (10, "all 10 events"), (11, "the last 10 of 11 events")]
-)
-def test_which_events_of_a_ring_are_shown_is_told(events, text):
-    assert last_of(events) == text
 
 
 def test_colours_are_for_terminals_and_for_those_who_ask(counted_tour):

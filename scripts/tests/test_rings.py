@@ -10,6 +10,7 @@ from tests.stepping import single_steps
 from tests.tracing import RIP, register
 from vaknuhol.recording.patch_report import Report
 from vaknuhol.recording.record_file import Record
+from vaknuhol.views.summary import last_of
 
 pytestmark = pytest.mark.xdist_group("rings")
 SOURCE = f"{TOP}/examples/crash.c"
@@ -107,3 +108,10 @@ def test_a_child_that_crashes_has_a_table_of_its_own(crashed):
     assert "signal ended: 1 (--all" in shown and "it is of 2 processes\n" in shown, shown
     shown = script("show_coverage", "crash", "record", "--all")
     assert "process 1, which ended with status 3: its last 5" in shown, shown
+
+
+@pytest.mark.parametrize(
+    "events, text", [(0, "no event"), (1, "its only event"), (10, "all 10 events"), (11, "the last 10 of 11 events")]
+)
+def test_which_events_of_a_ring_are_shown_is_told(events, text):
+    assert last_of(events) == text

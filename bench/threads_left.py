@@ -12,6 +12,14 @@ which shows what the loader form would give, by `e9tool load` with `count`. A li
 
 Below it stand the N (4) most frequent kinds of what is left: outcome, mnemonic, operands (a register, a number, memory, memory relative to
 the next instruction), length. Needs python3-capstone; $E9TOOL names the program that patches.
+
+How the programs of guests/ are built for it:
+    atomics.c, queue.c: gcc -O2 -g -static -no-pie -pthread; cloned.c: the same without -pthread; openmp.c: with -fopenmp instead
+    channels.rs, echo.rs: rustc -O -C target-feature=+crt-static -C relocation-model=static
+    served.go: CGO_ENABLED=0 go build
+    sorted.cc: g++ -O2 -static -no-pie -pthread
+Others that were measured: gofmt of Debian's golang-go 1.19; Debian's memcached 1.6.18, configured with CFLAGS="-O2 -fno-pie" and
+LDFLAGS="-static -no-pie".
 """
 import argparse
 import collections
@@ -37,7 +45,7 @@ from vaknuhol.recording.site_choice import with_sites  # noqa: E402
 
 SCHEMES, COUNT = ("B1", "B2", "T1", "T2", "T3"), action_of("count")
 OUTCOMES = re.compile(r"\nsite ([0-9a-f]+) [0-9]+ (\w+)(?=\n)")
-FORMS = {
+FORMS: dict[str, Callable[[str, str, str], list[str]]] = {
     "threads": lambda program, starts, sites: ["threads", program, starts, sites, "out", "report:report"],
     "load": lambda program, starts, sites: ["load", program, starts, sites, "count", "out", "report"],
 }
@@ -105,7 +113,8 @@ def kinds(left: Iterable[tuple[int, str]], listing: Listing, most: int) -> str:
 def show(program: str, leaders: bool, most: int) -> None:
     """Prints the rows of a program."""
     listing = Listing(program, os.getcwd())
-    listing.write_starts("starts")
+    with open("starts", "wb") as file:
+        file.write(listing.starts_text())
     for name, sites in site_lists(listing, leaders).items():
         for command in FORMS:
             found, near = [], 0
@@ -127,7 +136,7 @@ def main() -> None:
     parser.add_argument("--kinds", type=int, default=4, metavar="N", help="how many kinds are shown of what is left (4)")
     parser.add_argument("programs", nargs="+", metavar="PROGRAM")
     words = parser.parse_args()
-    for program in map(os.path.realpath, words.programs):
+    for program in [os.path.realpath(path) for path in words.programs]:
         with tempfile.TemporaryDirectory() as folder:
             os.chdir(folder)
             show(program, words.leaders, words.kinds)

@@ -87,7 +87,9 @@ static void part(const struct evidence *it, const struct leaders *by, struct blo
     }
 }
 
-/* Whether a block only fills the room after what doesn't return, and nothing leads to it. */
+static int is_int3(const struct instruction *one) { return one->kind == TRAP && one->marks & NOTHING; }
+
+/* Whether a block only fills the room after what doesn't return, or is an int3 behind another one, and nothing leads to it. */
 static int is_padding(const struct evidence *it, const struct leaders *by, const struct block *block) {
     const struct instruction *first = it->found + block->first, *last = first + block->size - 1;
     const struct instruction *before = block->first ? first - 1 : NULL;
@@ -98,6 +100,8 @@ static int is_padding(const struct evidence *it, const struct leaders *by, const
             return 0;
     int goes_on = block->first + block->size < it->count && last[1].addr == last->addr + last->length &&
                   !(it->names[last[1].addr - it->program->lo] & NAMED);
+    if (before && is_int3(before) && is_int3(first))
+        return 1;
     return !before || ends(before->kind) || before->addr + before->length != first->addr || !goes_on;
 }
 

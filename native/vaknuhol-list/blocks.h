@@ -4,7 +4,8 @@
    kernel, which may return twice or be made anew. It ends after an instruction that shares bytes with another one, since both of
    them come to what follows. Where an indirect jump or call leads isn't known; so a block begins, too, at each instruction whose
    address the program holds: a word of its data, a number in an instruction, or a distance in a table of distances from the table
-   itself, as compilers write them for `switch`. What only fills room is no block. */
+   itself, as compilers write them for `switch`. What only fills room is no block: nops after what doesn't
+   return, and each int3 behind another one, or behind a jump or a return, if nothing leads to it and no symbol names it. */
 #ifndef BLOCKS_H
 #define BLOCKS_H
 #include "evidence.h"

@@ -4,6 +4,7 @@ from typing import Any
 
 import pytest
 
+from tests.calls import run
 from tests.doubles import double
 from tests.programs import compile_text
 from vaknuhol.arguments import Refusal
@@ -130,3 +131,58 @@ def test_a_table_of_distances_ends_where_one_leads_to_no_instruction(listing, la
     table = double(read=lambda addr, size: b"".join(step.to_bytes(4, "little", signed=True) for step in steps))
     assert list(distances(table, 0x402000, listing)) == [labels["work"], labels["last"]]
     assert Program("small").is_code(labels["work"])
+
+
+# After a return and after a jump int3 fills the room up to `next`; `trap` is led to by a jump, `named` has a name, and
+# `back` is what a call returns to; an int3 behind it is no block.
+FILLED = """
+.globl _start, next, named, last
+.text
+_start:
+    call next
+back:
+    int3
+    int3
+    test %eax, %eax
+    jz trap
+    jmp next
+    .rept 5
+    int3
+    .endr
+    .size _start, . - _start
+next:
+    mov $1, %eax
+    ret
+    int3
+    int3
+trap:
+    int3
+    int3
+    mov $2, %eax
+    ret
+    int3
+named:
+    int3
+    int3
+    .size next, . - next
+last:
+    ret
+    .size last, . - last
+.section .note.GNU-stack
+"""
+INT3 = b"\xcc"
+
+
+def test_an_int3_is_no_block_where_it_fills_room():
+    """It stays a start, and one that may be come to is a block."""
+    types = "".join(f".type {name}, @function\n" for name in ("_start", "next", "last"))
+    compile_text("filled", "filled.s", types + FILLED, "-nostdlib", "-Wl,--build-id=none")
+    listing = Listing("filled")
+    lines = run("nm", "filled").splitlines()
+    places = {name: int(addr, 16) for addr, _, name in map(str.split, lines)}
+    traps = [it.addr for it in listing.instructions if it.code == INT3]
+    assert len(traps) == 2 + 5 + 2 + 2 + 1 + 2, [hex(it) for it in traps]
+    chosen = [block.first for block in blocks_of(listing) if block.first in traps]
+    assert chosen == [places[name] for name in ("back", "trap", "named")], [hex(it) for it in chosen]
+    sites = [site for block in blocks_of(listing) for site in candidates(block, action_of("count"))]
+    assert set(sites) & set(traps) <= set(chosen), "a site stands at an int3 that is no block"

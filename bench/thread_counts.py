@@ -1,7 +1,7 @@
 #!/usr/bin/env python3
 """thread_counts.py E9TOOL [PROGRAM..]: counts of programs of several threads against counters that are compiled in.
 
-The programs of guests/ (all, or those that are named) are patched at all blocks, or at what an option says. Each runs
+The C programs of guests/ (all, or those that are named) are patched at all blocks, or at what an option says. Each runs
 20 times, with eight threads: it prints what the original prints, and each counter that it wrote to a file is the sum of the counts of
 the blocks in which an instruction adds to it. `check` says yes of the patched file, and no after each of the changes that are planted
 in file and report; `unpatch` gives the original byte for byte."""

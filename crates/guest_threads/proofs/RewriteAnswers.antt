@@ -2,7 +2,7 @@
 use Rattle.std.proofs.Common.{◌≡◌, inl, inr, ℕ, ◌^◌, ◌≤◌, ◌<◌, List, map, length, slice_index, None, Result, Ok, Err, refl, sym, ap, ◌∙◌, subst, arith}
 use Rattle.pun_base.specs.Shown.{DeskState}
 use Rattle.pun_base.specs.Actions.{IsAction}
-use Rattle.pun_base.specs.declared.action.Action.TheVariants.{Count}
+use Rattle.pun_base.specs.declared.action.Base.{Base}
 use Rattle.pun_base.specs.declared.plan.Write.{Write}
 use Rattle.pun_base.specs.declared.range.Range.{Range}
 use Rattle.pun_base.specs.Limits.{most_sites}
@@ -29,7 +29,7 @@ use Rattle.start_entries.specs.Refusals.{first_refusal}
 use Rattle.start_entries.specs.Laws.{IsBuilt}
 use Rattle.site_turns.specs.declared.error.TurnError.{TurnError}
 use Rattle.site_turns.specs.declared.error.TurnError.TheVariants as turn
-use Rattle.site_turns.specs.Modes.{thread_rules}
+use Rattle.site_turns.specs.Modes.{thread_rules, thread_action, thread_base, IsShared}
 use Rattle.site_turns.specs.PlannedState.{PlannedState}
 use Rattle.site_turns.specs.Planning.{Request, Turns, IsRequestRefused}
 use Rattle.site_turns.specs.PlanLaws.{AreGroups, CanBeWritten, report_under}
@@ -50,19 +50,19 @@ use Rattle.guest_threads.specs.ThreadCalls.{IsCall, IsPlannedFor, WasPlanned, Is
 use Rattle.guest_threads.specs.ThreadCauses.{turn_error, emit_error}
 use Rattle.guest_threads.specs.ThreadPlanning.{IsThreadPlanned}
 use Rattle.guest_threads.specs.ThreadRewriting.{ThreadJob, job_of, IsThreadJobFor, Judges, IsFollowedInThreads, RewritesThreads, ReportsThreads}
-use Rattle.guest_threads.proofs.ThreadPlans.{writable, fitting, threaded}
+use Rattle.guest_threads.proofs.ThreadPlans.{shared_action, writable, fitting, threaded}
 
 -- what is asked by the values of a call
-abbrev pub asked : List ℕ → List ℕ → List ℕ → List Range → Asked
-asked file starts sites reserves =
-    record { file = file; starts = starts; sites = sites; action = Count; reserves = reserves }
+abbrev pub asked : List ℕ → List ℕ → List ℕ → Base → List Range → Asked
+asked file starts sites base reserves =
+    record { file = file; starts = starts; sites = sites; action = thread_action base; reserves = reserves }
 
 -- the request with the entries of an input's starts is the request of the input
 same_request : (a : Asked) (es : List StartEntry) → es ≡ entries_of a.file a.starts → request_with a a.file es ≡ request_of a
 same_request a es e i = request_with a a.file (e i)
 
 -- what is planned of an accepted file with its entries is planned of the input
-pub planned_for : (a : Asked) (es : List StartEntry) (p : PlannedState) → a.action ≡ Count → length a.sites ≤ most_sites
+pub planned_for : (a : Asked) (es : List StartEntry) (p : PlannedState) → IsShared a.action → length a.sites ≤ most_sites
     → ((k : ℕ) → slice_index a.file k < 256) → length a.file < 2 ^ 63 → refusal 0x20000 a.file ≡ None → es ≡ entries_of a.file a.starts
     → first_refusal a.file a.starts ≡ None → IsBuilt a.file es → (x : (t : Turns) × IsThreadPlanned (request_with a a.file es) t p)
     → IsPlannedFor a.file p a
@@ -126,20 +126,20 @@ module _ (a : Asked) (t : Turns) (p : PlannedState) (call : IsCall a t p) where
     same_rows = ap (map row_value) of.rows ∙ call.planned.turned.rows
 
     -- what is told of the patch is the body of the job's report
-    told : told_of Count patch ≡ report_under thread_rules (request_of a) t patch.groups
+    told : told_of a.action patch ≡ report_under (thread_rules (thread_base a.action)) (request_of a) t patch.groups
     told i = record {
-      action = sym call.action i;
+      action = a.action;
       private = ((same_range i).lo, (same_range i).hi);
       rows = same_rows i;
       pages = patch.groups.homes;
     }
 
     -- a report can tell what was patched
-    may_report : IsBody Two (told_of Count patch)
+    may_report : IsBody Two (told_of a.action patch)
     may_report =
         let pages = job_pages (request_of a) p patch.groups writes_job in
         subst (IsBody Two) (sym told)
-        (turned_is_report thread_rules five_lead (request_of a) t patch.groups.homes call.asked (subst IsAction (sym call.action) tt)
+        (turned_is_report (thread_rules (thread_base a.action)) five_lead (request_of a) t patch.groups.homes call.asked (subst IsAction call.action (shared_action (thread_base a.action)))
         call.planned.turned.turns call.planned.turned.few pages.0 pages.1)
 
     -- where `emit` failed, its error is an answer
@@ -206,7 +206,7 @@ module _ (a : Asked) (name : List ℕ) (s u : DeskState) (patch : Patch) (w : Is
   accepted = (w.call.starts, record { is_job = is_job a w.turns w.planned w.call patch w.patch_for; few = w.emitted.0 })
 
   -- its file follows the original
-  followed : IsFollowedInThreads a.file a.starts (layout job_written.emit) job_written.private job_written.rows
+  followed : IsFollowedInThreads (thread_base a.action) a.file a.starts (layout job_written.emit) job_written.private job_written.rows
   followed =
       let is = writes_job a w.turns w.planned w.call patch w.patch_for in
       let th = threaded (request_of a) w.turns w.planned w.call.asked w.call.planned patch.groups w.call.action is (image_of (layout job_written.emit))
@@ -227,12 +227,12 @@ module _ (a : Asked) (name : List ℕ) (s u : DeskState) (patch : Patch) (w : Is
   )
 
   -- a report can tell it
-  pub can_report : IsBody Two (told_of Count patch)
+  pub can_report : IsBody Two (told_of a.action patch)
   can_report = may_report a w.turns w.planned w.call patch w.patch_for
 
   -- the report of it is an answer of `rewrite_threads_reported`
   pub reported : (report : ReportValue) (origin : Origin) → origin ≡ origin_of a.file → OriginFits origin
-      → report ≡ written (told_of Count patch) origin → ReportsThreads a name s u (Ok report)
+      → report ≡ written (told_of a.action patch) origin → ReportsThreads a name s u (Ok report)
   reported report origin o fits r =
       let body = told a w.turns w.planned w.call patch w.patch_for in
       let same : report ≡ job_written.report = r ∙ (λ i. written (body i) (o i)) in (
@@ -241,7 +241,7 @@ module _ (a : Asked) (name : List ℕ) (s u : DeskState) (patch : Patch) (w : Is
         record {
           report_is = same;
           told = subst IsReport (sym r) (record { origin = fits; body = can_report });
-          action_is = ap (λ (z : ReportValue). z.body.action) same ∙ w.call.action;
+          action_is = ap (λ (z : ReportValue). z.body.action) same;
           private_is = ap (λ (z : ReportValue). z.body.private) same;
           rows_are = ap (λ (z : ReportValue). z.body.rows) same;
           holds = w.emitted.1;

@@ -1,8 +1,8 @@
 -- What a call of `rewrite_threads` or `rewrite_threads_reported` knows once the sites are planned, and once the file is written. Contracts of private functions alone cite it.
 use Rattle.std.specs.Prelude.{◌≡◌, ℕ, ◌^◌, ◌<◌, List, length, Result, Ok, Err}
 use Rattle.pun_base.specs.Shown.{DeskState}
-use Rattle.pun_base.specs.declared.action.Action.TheVariants.{Count}
 use Rattle.elf_emit.specs.Emits.{Emits}
+use Rattle.site_turns.specs.Modes.{IsShared}
 use Rattle.site_turns.specs.PlannedState.{PlannedState}
 use Rattle.site_turns.specs.Planning.{Turns}
 use Rattle.site_turns.specs.PlanLaws.{IsAsked, job_for}
@@ -19,7 +19,7 @@ pub record IsCall (a : Asked) (t : Turns) (p : PlannedState) : Type 0 where
   pub starts : HasStarts a
   pub size : length a.file < 2 ^ 63
   pub asked : IsAsked (request_of a)
-  pub action : a.action ≡ Count
+  pub action : IsShared a.action
   pub planned : IsThreadPlanned (request_of a) t p
 
 -- The request has this file, and p was planned of it.

@@ -2,10 +2,10 @@
 ghost use Rattle.std.specs.Prelude.{◌≡◌, ℕ, ◌^◌, ◌<◌, ◌≤◌, None, length, slice_index};
 ghost use Rattle.std.specs.List.Sorted.{IsStrictlyIncreasing};
 ghost use Rattle.pun_base.specs.Desk.{Stays};
-ghost use Rattle.pun_base.specs.declared.action.Action.TheVariants.{Count};
 ghost use Rattle.pun_base.specs.Limits.{most_sites};
 ghost use Rattle.elf_read.specs.Refusals.{refusal};
 ghost use Rattle.rewrite_core.specs.Asked.{Asked};
+ghost use Rattle.site_turns.specs.Modes.{thread_action};
 ghost use Rattle.guest_threads.specs.ThreadCalls.{IsPlannedFor, WasPlanned, WritesThreads};
 ghost use Rattle.guest_threads.specs.ThreadRewriting.{RewritesThreads, ReportsThreads};
 
@@ -15,12 +15,13 @@ use elf_emit::emit::{EmitError, emit};
 use elf_read::elf::{Elf, read_elf};
 use elf_read::refusal::ElfError;
 use patch_report::report::Report;
-use pun_base::action::Action;
+use pun_base::action::Base;
 use pun_base::desk::Desk;
 use pun_base::range::Range;
 use rewrite_core::original::origin_of;
 use rewrite_core::patching::{Patch, patch_of};
 use site_turns::error::TurnError;
+use site_turns::mode::Mode;
 use site_turns::planned::Planned;
 use start_entries::refusal::StartError;
 use start_entries::starts::Starts;
@@ -36,7 +37,7 @@ pub enum ThreadError {
     /// A start breaks a rule.
     #[error("the starts can't be those of the file")]
     Start(StartError),
-    /// A site is no start, or there is no place for the counters.
+    /// A site is no start, or there is no place for what events mark.
     #[error("the sites can't be patched")]
     Turn(TurnError),
     /// The patched file wasn't written.
@@ -46,8 +47,8 @@ pub enum ThreadError {
     Memory,
 }
 
-/// What was patched: the private range, in which the counters stand from offset 64 on, and what
-/// became of each site.
+/// What was patched: the private range, in which the counters or bytes stand from offset 64 on, and
+/// what became of each site.
 #[derive(Drop)]
 pub struct ThreadReport {
     pub private: Range,
@@ -151,6 +152,7 @@ fn write_threads<D: Desk>(
     elf: &Elf<'_>,
     starts: &[u32],
     sites: &[u32],
+    base: Base,
     reserves: &[Range],
     name: &str,
     desk: &mut D,
@@ -166,19 +168,19 @@ fn write_threads<D: Desk>(
       file = elf.now.bytes;
       starts = starts.now;
       sites = sites.now;
-      action = Count;
+      action = thread_action base;
       reserves = reserves.now;
     }) name.now (D.seen desk.old) (D.seen desk.new) result }
     ensures stays { Stays (D.seen desk.old) (D.seen desk.new) }
 {
     let listed = Starts::build(alloc, elf, starts)?;
-    let planned = plan_threads(alloc, elf, &listed, sites, reserves)?;
+    let planned = plan_threads(alloc, elf, &listed, sites, base, reserves)?;
     drop(listed);
     write_planned(alloc, elf, planned, name, desk)
 }
 
 /// Writes the file that is patched for a guest of several threads under a name, in pieces of 4,096
-/// bytes: each patched site counts, and no thread's count is lost.
+/// bytes: each patched site counts, and no thread's count is lost, or covers.
 ///
 /// `file` is the original, `starts` and `sites` are addresses in ascending order, and no new code
 /// stands in the reserved ranges.
@@ -187,6 +189,7 @@ pub fn rewrite_threads<D: Desk>(
     file: &[u8],
     starts: &[u32],
     sites: &[u32],
+    base: Base,
     reserves: &[Range],
     name: &str,
     desk: &mut D,
@@ -199,13 +202,13 @@ pub fn rewrite_threads<D: Desk>(
       file = file.now;
       starts = starts.now;
       sites = sites.now;
-      action = Count;
+      action = thread_action base;
       reserves = reserves.now;
     }) name.now (D.seen desk.old) (D.seen desk.new) result }
     ensures stays { Stays (D.seen desk.old) (D.seen desk.new) }
 {
     let elf = read_elf(alloc, file)?;
-    match write_threads(alloc, &elf, starts, sites, reserves, name, desk) {
+    match write_threads(alloc, &elf, starts, sites, base, reserves, name, desk) {
         Ok(patch) => {
             let Patch {
                 private,
@@ -233,6 +236,7 @@ pub fn rewrite_threads_reported<D: Desk>(
     file: &[u8],
     starts: &[u32],
     sites: &[u32],
+    base: Base,
     reserves: &[Range],
     name: &str,
     desk: &mut D,
@@ -245,16 +249,17 @@ pub fn rewrite_threads_reported<D: Desk>(
       file = file.now;
       starts = starts.now;
       sites = sites.now;
-      action = Count;
+      action = thread_action base;
       reserves = reserves.now;
     }) name.now (D.seen desk.old) (D.seen desk.new) result }
     ensures stays { Stays (D.seen desk.old) (D.seen desk.new) }
 {
     let elf = read_elf(alloc, file)?;
-    match write_threads(alloc, &elf, starts, sites, reserves, name, desk) {
+    match write_threads(alloc, &elf, starts, sites, base, reserves, name, desk) {
         Ok(patch) => {
             let origin = origin_of(&elf);
-            let report = patch.into_report(alloc, Action::Count, origin)?;
+            let action = Mode::Threads(base).action();
+            let report = patch.into_report(alloc, action, origin)?;
             Ok(report)
         }
         Err(error) => Err(error),

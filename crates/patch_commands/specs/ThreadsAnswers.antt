@@ -3,6 +3,7 @@
 use Rattle.std.specs.Prelude.{◌≡◌, ℕ, List, [], ◌∷◌, Some, Ok, Err}
 use Rattle.pun_base.specs.Shown.{Files, DeskState, SinkState}
 use Rattle.pun_base.specs.declared.action.Action.TheVariants.{Count}
+use Rattle.pun_base.specs.declared.action.Base.TheVariants as base
 use Rattle.elf_emit.specs.Layout.{layout}
 use Rattle.patch_report.specs.Grammar.{IsReport}
 use Rattle.patch_report.specs.Values.{ReportValue}
@@ -53,7 +54,7 @@ threads_outputs n = (n.out, file_of) ∷ []
 -- What is promised of FILE's bytes, the addresses of STARTS and the job: with any number of threads, in each run that meets the premises, the
 -- patched file runs as the original does, and each counter tells how often its site was run.
 abbrev pub FollowsInThreads : List ℕ → List ℕ → ThreadJob → Type 0
-FollowsInThreads file starts job = IsFollowedInThreads file starts (file_of job) job.private job.rows
+FollowsInThreads file starts job = IsFollowedInThreads base.Count file starts (file_of job) job.private job.rows
 
 -- `threads`, with what it is given.
 abbrev pub threads_writing : ThreadPatching → Writing ThreadJob

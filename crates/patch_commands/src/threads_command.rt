@@ -14,6 +14,7 @@ use command_io::report_mode::Mode;
 use command_io::site_rows::SiteRows;
 use command_words::words::{Names, ThreadNames};
 use guest_threads::rewriting::{rewrite_threads, rewrite_threads_reported};
+use pun_base::action::Base;
 use pun_base::desk::Desk;
 use pun_base::range::Range;
 use std::alloc::Global;
@@ -60,6 +61,7 @@ fn rewrite_inputs<'a, D: Desk>(
         file,
         &listed.starts,
         &listed.sites,
+        Base::Count,
         reserves,
         names.out,
         desk,
@@ -111,6 +113,7 @@ fn report_inputs<'a, D: Desk>(
         file,
         &listed.starts,
         &listed.sites,
+        Base::Count,
         reserves,
         names.out,
         desk,

@@ -14,6 +14,7 @@ use elf_read::elf::Elf;
 use image_check::jumps::jump_at;
 use image_check::verdict::Verdict;
 use patch_report::report::Report;
+use site_turns::mode::{thread_base, thread_event_of};
 use start_entries::starts::Starts;
 use thread_runs::thread_trampoline;
 
@@ -38,7 +39,7 @@ fn code_of(orig: &Elf<'_>, starts: &Starts, report: &Report, line: &ThreadLine) 
     let private = report.private().lo;
     let bytes = &orig.window(entry.addr)[..usize::from(entry.len)];
     match thread_trampoline(
-        line.tramp.event,
+        thread_event_of(thread_base(report.action()), line.tramp.event),
         &insn,
         bytes,
         entry.addr,

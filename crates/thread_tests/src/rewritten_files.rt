@@ -8,7 +8,7 @@ use guest_threads::rewriting::{
 use patch_report::origin::Origin;
 use patch_report::report::Report;
 use patch_report::row::ReportRow;
-use pun_base::action::Action;
+use pun_base::action::{Action, Base};
 use pun_base::byte_list::ByteList;
 use pun_base::desk::Desk;
 use pun_base::memory_desk::MemDesk;
@@ -34,7 +34,7 @@ pub(crate) fn rewritten<D: Desk>(
     if !ascend(starts) || !ascend(sites) || sites.len() > 65536 {
         return None;
     }
-    Some(rewrite_threads(alloc, &file, starts, sites, &[], "O", desk))
+    Some(rewrite_threads(alloc, &file, starts, sites, Base::Count, &[], "O", desk))
 }
 
 /// The report of such a patch, if it was written.
@@ -53,7 +53,7 @@ pub(crate) fn reported<D: Desk>(
     if !ascend(starts) || !ascend(sites) || sites.len() > 65536 {
         return None;
     }
-    rewrite_threads_reported(alloc, &file, starts, sites, &[], "O", desk).ok()
+    rewrite_threads_reported(alloc, &file, starts, sites, Base::Count, &[], "O", desk).ok()
 }
 
 /// The place of the only row's only trampoline, and its site's number.

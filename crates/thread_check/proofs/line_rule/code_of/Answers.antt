@@ -1,4 +1,5 @@
-use Rattle.std.proofs.Common.{ap, sym, refl}
+use Rattle.std.proofs.Common.{ap, sym, refl, ◌∙◌}
+use Rattle.site_turns.specs.Modes.{thread_base, thread_event_of}
 use Rattle.image_check.specs.Verdict.{case_of}
 use Rattle.site_turns.proofs.TrampolineCodes.{IsTaken, within, spells, low}
 use Rattle.thread_check.specs.LineParts.{line_of}
@@ -28,8 +29,9 @@ thread_trampoline-requires-clause-from c = low _ _ _ _ _ _ _ (taken (goal.at.thr
 
 pub returns-in-Ok : goal.returns-in-Ok
 returns-in-Ok c = λ p.
-    built (case_of c.args.orig.now.bytes p c.args.starts.now c.args.report.now.body) (line_of c.args.line.now) c.args.orig.now.bytes c.in-Some.entry.now
-    c.in-Some-form.insn c.from.result c.window.result.now c.in-Ok.code.bytes c.private-private.result.lo refl
+    built c.thread_event_of.result (case_of c.args.orig.now.bytes p c.args.starts.now c.args.report.now.body) (line_of c.args.line.now) c.args.orig.now.bytes c.in-Some.entry.now
+    c.in-Some-form.insn c.from.result c.window.result.now c.in-Ok.code.bytes c.private-private.result.lo
+    (c.thread_event_of.ensures ∙ ap (λ b. thread_event_of b c.args.line.now.tramp.event) (c.thread_base.ensures ∙ ap thread_base c.action.ensures)) refl
     (taken (goal.at.returns-in-Ok c).After-from) c.if-entry.false (ap (λ x. x.0) c.private-private.ensures)
     c.in-Ok.ensures.code c.in-Ok.ensures.size
 

@@ -34,10 +34,10 @@ thread_trampoline-requires-clause-from c = low _ _ _ _ _ _ _ (taken (goal.at.thr
 pub unwrap-requires : goal.unwrap-requires
 unwrap-requires c =
     let t = taken (goal.at.unwrap-requires c).After-from in
-    built_ok c.args.tramp.now.event c.unwrap-entry.result.now c.unwrap-insn.result.now _ c.thread_trampoline.result (c.requires.can c.unwrap-entry.result.now t.at) t.form
+    built_ok c.thread_event_of.result c.unwrap-entry.result.now c.unwrap-insn.result.now _ c.thread_trampoline.result (c.requires.can c.unwrap-entry.result.now t.at) t.form
     (sym (within _ _ _ _ _ _ _ t) ∙ t.len) c.thread_trampoline.ensures.size
 
 pub returns-clause-code : goal.returns-clause-code
 returns-clause-code c =
-    has_code _ _ _ _ _ _ (line_at c.args.number c.args.tramp.now) c.args.self.now.private.lo c.unwrap.result c.thread_trampoline.result
-    (taken (goal.at.returns-clause-code c).After-from) c.unwrap.ensures c.thread_trampoline.ensures.code
+    has_code c.args.self.now.base c.thread_event_of.result _ _ _ _ _ _ (line_at c.args.number c.args.tramp.now) c.args.self.now.private.lo c.unwrap.result c.thread_trampoline.result
+    (taken (goal.at.returns-clause-code c).After-from) c.thread_event_of.ensures c.unwrap.ensures c.thread_trampoline.ensures.code

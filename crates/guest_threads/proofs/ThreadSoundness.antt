@@ -32,7 +32,7 @@ use Rattle.site_turns.proofs.CodeSizes.{one_standing}
 use Rattle.guest_threads.proofs.LineSize.{Known as KnownLine, instruction as line_instruction, code_with as line_code, size_is as line_size, in_line as line_in, one as line_one}
 
 -- the only element of a list made of an option
-one_of : {X Y : Type 0} (f : X → Y) (o : Option X) (y : Y) → In (option_to_list (option_map f o)) y → (x : X) × (o ≡ Some x) × (f x ≡ y)
+pub one_of : {X Y : Type 0} (f : X → Y) (o : Option X) (y : Y) → In (option_to_list (option_map f o)) y → (x : X) × (o ≡ Some x) × (f x ≡ y)
 one_of f None y c = absurd (none c.0 c.1)
   where
     none : (i : ℕ) → slice_get [] i ≡ Some y → ⊥

@@ -3,6 +3,7 @@ use Rattle.std.proofs.Common.{◌≡◌, ℕ, ◌+◌, List, [], ◌∷◌, ◌+
 use Rattle.std.proofs.lemmas.List.{map-append}
 use Rattle.std.proofs.lemmas.List.Concat.{flat_map-cons}
 use Rattle.pun_base.specs.declared.plan.Write.{Write}
+use Rattle.pun_base.specs.Outcomes.{outcome_writes}
 use Rattle.pun_base.specs.declared.outcome.Outcome.{Outcome}
 use Rattle.pun_base.specs.declared.outcome.Outcome.TheVariants.{Patched, NotRelocatable, NoPlan, Shared}
 use Rattle.address_space.specs.Free.{extent_of}
@@ -18,7 +19,7 @@ use Rattle.image_check.specs.Reports.{runs_of}
 use Rattle.site_turns.specs.Jobs as jobs
 use Rattle.site_turns.specs.PlannedState.{PlannedState}
 use Rattle.site_turns.specs.Planning.{Request, Turns, IsPlanned}
-use Rattle.site_turns.specs.PlanLaws.{IsAsked, AreGroups, outcome_writes, writes_of, job_for, planned_report}
+use Rattle.site_turns.specs.PlanLaws.{IsAsked, AreGroups, writes_of, job_for, planned_report}
 use Rattle.site_turns.proofs.CourseOfTurns.{turns_are_one, codes_are_one}
 use Rattle.rewrite_core.specs.Origins.{origin_of}
 use Rattle.rewrite_core.specs.Judging.{Job, job_of, IsJobFor}

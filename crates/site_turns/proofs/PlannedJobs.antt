@@ -6,8 +6,7 @@ use Rattle.std.specs.List.{AllByRecursion, list_any, flat_map}
 use Rattle.std.proofs.lemmas.Bool.{and_parts, and_from, or_cases, or_left, or_right, cases_lt, leb-true, ltb-true, le-leb, lt-ltb, false_from_ne_true, true≢false, false≢true}
 use Rattle.std.proofs.lemmas.List.{map-append}
 use Rattle.pun_base.specs.declared.plan.Write.{Write}
-use Rattle.pun_base.specs.declared.outcome.Outcome.{Outcome}
-use Rattle.pun_base.specs.declared.outcome.Outcome.TheVariants.{Patched}
+use Rattle.pun_base.specs.Outcomes.{outcome_writes}
 use Rattle.elf_read.specs.declared.segment.Segment.{Segment}
 use Rattle.elf_read.specs.Entries.{segments, loads, is_load}
 use Rattle.elf_read.specs.Code.{is_code, is_backed, is_exec_in, is_exec}
@@ -24,7 +23,8 @@ use Rattle.elf_emit.proofs.JobConditions.{job_is}
 use Rattle.elf_emit.specs.Laws.{IsBacked, is_on, IsJob}
 use Rattle.elf_emit.proofs.WrittenTable.{all_mapped}
 use Rattle.patch_report.specs.declared.row.ReportRow.{ReportRow}
-use Rattle.patch_report.specs.Values.{RowValue, write_value, outcome_value, row_value}
+use Rattle.patch_report.specs.Values.{RowValue, write_value, row_value}
+use Rattle.patch_report.proofs.OutcomeRuns.{runs_written}
 use Rattle.patch_report.proofs.ListPlaces.{In, found, all_in, all_from, in_map, from_map, any_at, contains_at, place_of}
 use Rattle.start_entries.specs.declared.entry.StartEntry.{StartEntry}
 use Rattle.start_entries.specs.Finding.{addresses}
@@ -41,7 +41,7 @@ use Rattle.site_turns.specs.PrivateRange as private
 use Rattle.site_turns.specs.Modes.{TurnRules, event_rules}
 use Rattle.site_turns.specs.Laws.{SchemeLeads}
 use Rattle.site_turns.specs.Planning.{Request, Turns, IsTurned, IsPlanned, scene_in, end_of, scene_under, end_under, taken_at_first}
-use Rattle.site_turns.specs.PlanLaws.{IsAsked, outcome_writes, writes_of, job_for, AreGroups, CanBeWritten, PlannedCanBeWritten, PlannedIsJob}
+use Rattle.site_turns.specs.PlanLaws.{IsAsked, writes_of, job_for, AreGroups, CanBeWritten, PlannedCanBeWritten, PlannedIsJob}
 use Rattle.site_turns.proofs.CodePages.{whole_shut, new_page, loaded_taken, taken_left, nothing}
 use Rattle.site_turns.proofs.PrivateRoom.{private_has_room}
 use Rattle.pun_base.proofs.PrivateLengths.{has_front}
@@ -50,17 +50,12 @@ use Rattle.site_turns.proofs.LoadedJobs.{five_lead}
 use Rattle.site_turns.proofs.RequestScene.{starts_are, entries_are, folded}
 use Rattle.site_turns.proofs.CodeAddresses.{AreSized, sized, covered_in, pieces_apart}
 
--- a row's runs are its writes, as a report has them
-runs_in : (o : Outcome) → runs_of (outcome_value o) ≡ map write_value (outcome_writes o)
-runs_in (Patched p) = refl
-runs_in outcome = refl
-
 -- the runs of rows, as a report has them, are their writes
 pub runs_are : (rows : List ReportRow)
     → flat_map (λ (r : RowValue). runs_of r.outcome) (map row_value rows) ≡ map write_value (writes_of rows)
 runs_are [] = refl
 runs_are (r ∷ rows) =
-    (λ i. runs_in r.outcome i ++ runs_are rows i)
+    (let told = sym (runs_written r.outcome) in λ i. told i ++ runs_are rows i)
     ∙ sym (map-append write_value (outcome_writes r.outcome) (writes_of rows))
 
 -- bytes that can be executed are backed by a segment that is loaded

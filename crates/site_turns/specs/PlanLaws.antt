@@ -1,10 +1,9 @@
 -- What follows from what was planned: the rules give one plan at most, a report tells it, and its file can be written. Theorems cite it.
-use Rattle.std.specs.Prelude.{◌≡◌, ℕ, ◌^◌, ◌<◌, ◌≤◌, ◌%◌, List, [], length, map, slice_index, None}
+use Rattle.std.specs.Prelude.{◌≡◌, ℕ, ◌^◌, ◌<◌, ◌≤◌, ◌%◌, List, length, map, slice_index, None}
 use Rattle.std.specs.List.{AllByRecursion, flat_map}
 use Rattle.pun_base.specs.Actions.{IsAction}
 use Rattle.pun_base.specs.declared.plan.Write.{Write}
-use Rattle.pun_base.specs.declared.outcome.Outcome.{Outcome}
-use Rattle.pun_base.specs.declared.outcome.Outcome.TheVariants.{Patched}
+use Rattle.pun_base.specs.Outcomes.{outcome_writes}
 use Rattle.elf_read.specs.Entries.{entry_of}
 use Rattle.elf_read.specs.Image.{image_of}
 use Rattle.elf_read.specs.Refusals.{refusal}
@@ -62,11 +61,6 @@ PlannedIsReport =
     (q : Request) (t : Turns) (p : PlannedState) (pages : List (ℕ × ℕ)) → IsAsked q
     → IsAction q.action → IsPlanned q t p → AllByRecursion IsReportPage pages → AscendFrom 0 pages
     → IsBody Two (report_of (scene_in q t) (end_of q t) pages)
-
--- The writes of an outcome.
-abbrev pub outcome_writes : Outcome → List Write
-outcome_writes (Patched plan) = plan.writes
-outcome_writes outcome = []
 
 -- The writes of rows, in their order.
 abbrev pub writes_of : List ReportRow → List Write

@@ -1,8 +1,7 @@
 //! The code of trampolines, and that with the events of an action.
 ghost use Rattle.std.specs.Prelude.{◌≡◌, ℕ, false, List, map, IfOk, OnOk};
 ghost use Rattle.std.specs.List.{AllByRecursion};
-ghost use Rattle.patch_report.specs.Values.{outcome_value};
-ghost use Rattle.image_check.specs.Reports.{Line, event_of, tramps_of};
+ghost use Rattle.image_check.specs.Reports.{Line, event_of};
 ghost use Rattle.image_check.specs.Rules.{HasCode};
 ghost use Rattle.site_turns.specs.Planning.{lines_of, AreCodesBy};
 ghost use Rattle.site_turns.specs.Turned.{events_case, line_at, CanBuild, AddsCodes};
@@ -12,7 +11,6 @@ use elf_emit::built::Built;
 use elf_read::elf::Elf;
 use patch_report::row::ReportRow;
 use pun_base::action::Action;
-use pun_base::outcome::Outcome;
 use pun_base::range::Range;
 use pun_base::tramp::Tramp;
 use start_entries::starts::Starts;
@@ -68,16 +66,6 @@ impl Coding for EventSetting<'_> {
     }
 }
 
-/// The trampolines of a site.
-fn trampolines(outcome: &Outcome) -> &[Tramp]
-    ensures { result.now ≡ tramps_of (outcome_value outcome.now) }
-{
-    match outcome {
-        Outcome::Patched(plan) => plan.tramps.as_slice(),
-        Outcome::NotRelocatable | Outcome::NoPlan | Outcome::Shared => &[],
-    }
-}
-
 /// Appends the code of trampolines of the site with a number.
 fn push_codes<C: Coding>(
     coding: &C,
@@ -110,7 +98,7 @@ pub fn build_all<C: Coding>(
 {
     let mut built = Vec::with_capacity(alloc, rows.len())?;
     for row in rows {
-        push_codes(coding, row.number, trampolines(&row.outcome), &mut built)?;
+        push_codes(coding, row.number, row.outcome.tramps(), &mut built)?;
     }
     Ok(built)
 }

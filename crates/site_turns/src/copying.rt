@@ -1,21 +1,10 @@
 //! Copies of what is written at the sites.
 ghost use Rattle.std.specs.Prelude.{◌≡◌, ◌++◌, IfOk, OnOk};
-ghost use Rattle.site_turns.specs.PlanLaws.{outcome_writes, writes_of};
+ghost use Rattle.site_turns.specs.PlanLaws.{writes_of};
 
 use patch_report::row::ReportRow;
-use pun_base::outcome::Outcome;
 use pun_base::plan::Write;
 use std::alloc::{AllocError, Global};
-
-/// What is written at a site.
-fn written(outcome: &Outcome) -> &[Write]
-    ensures { result.now ≡ outcome_writes outcome.now }
-{
-    match outcome {
-        Outcome::Patched(plan) => plan.writes.as_slice(),
-        Outcome::NotRelocatable | Outcome::NoPlan | Outcome::Shared => &[],
-    }
-}
 
 /// Appends a copy of each write.
 fn push_writes(writes: &mut Vec<Write>, more: &[Write]) -> Result<(), AllocError>
@@ -33,7 +22,7 @@ pub fn copied_writes(alloc: Global, rows: &[ReportRow]) -> Result<Vec<Write>, Al
 {
     let mut writes = Vec::with_capacity(alloc, rows.len())?;
     for row in rows {
-        push_writes(&mut writes, written(&row.outcome))?;
+        push_writes(&mut writes, row.outcome.writes())?;
     }
     Ok(writes)
 }

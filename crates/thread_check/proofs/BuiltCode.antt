@@ -17,8 +17,10 @@ use Rattle.patch_report.specs.Values.{BodyValue}
 use Rattle.patch_report.proofs.ReportBounds.{bounded}
 use Rattle.patch_report.proofs.ListPlaces.{In, contains_at}
 use Rattle.image_check.specs.CodeParts.{IsLow}
+use Rattle.image_check.specs.Parts.{line_of}
 use Rattle.image_check.specs.Reports.{Line, lines}
 use Rattle.image_check.specs.Rules.{Case, displaced_by, displaced_from}
+use Rattle.image_check.specs.declared.flat.ReportLine.{ReportLine}
 use Rattle.image_check.specs.declared.verdict.Verdict.{Verdict}
 use Rattle.image_check.specs.declared.verdict.Verdict.TheVariants.{Yes, No}
 use Rattle.image_check.proofs.CodeAtStarts.{IsReadAt, read_at, found_address}
@@ -28,9 +30,8 @@ use Rattle.thread_runs.specs.Building.{size_if}
 use Rattle.thread_runs.specs.ThreadCode.{event_len, event_if, thread_work, code_if}
 use Rattle.thread_runs.proofs.WorkSize.{told}
 use Rattle.thread_runs.proofs.WorkTails.{work_long}
-use Rattle.thread_check.specs.declared.lines.ThreadLine.{ThreadLine}
 use Rattle.thread_check.specs.ThreadRules.{moved_from, is_marked}
-use Rattle.thread_check.specs.LineParts.{line_of, Lands, first_broken, IsThreadCode, IsCodeFound, IsCodeVerdict, IsSoundLine, IsLineFailure, IsLinesVerdict}
+use Rattle.thread_check.specs.LineParts.{Lands, first_broken, IsThreadCode, IsCodeFound, IsCodeVerdict, IsSoundLine, IsLineFailure, IsLinesVerdict}
 use Rattle.thread_check.proofs.LandingJumps.{lands_too}
 
 -- an option that is mapped to something is something
@@ -100,7 +101,7 @@ pub no_code_fails : (c : Case) (l : Line) (start : ℕ) → start ≡ l.tramp.st
 no_code_fails c l start e h = inl (refl, e, elim h [ inl m ↦ inl m | inr s ↦ inr (inl s) ])
 
 -- each trampoline of a report is as low as its code asks
-pub line_low : (v : BodyValue) (ls : List ThreadLine) (k : ℕ) (d : ThreadLine) → IsTold v → map line_of ls ≡ lines v → k < length ls
+pub line_low : (v : BodyValue) (ls : List ReportLine) (k : ℕ) (d : ReportLine) → IsTold v → map line_of ls ≡ lines v → k < length ls
     → In (lines v) (line_of (get_or ls k d)) × IsLow v (line_of (get_or ls k d))
 line_low v ls k d r e h =
     let b = bounded v r in

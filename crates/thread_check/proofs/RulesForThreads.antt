@@ -1,9 +1,9 @@
 -- Where no rule for threads fails, the patched image is sound for threads.
-use Rattle.std.proofs.Common.{◌≡◌, ◌≢◌, ◌⊎◌, inl, inr, ℕ, zero, suc, ◌+◌, ◌*◌, ◌-◌, ◌<◌, ◌≤◌, Bool, true, false, not, ◌&&◌, ◌||◌, eqb, leb, ltb, List, [], ◌∷◌, length, slice_index, Option, Some, None, refl, sym, ap, ap₂, ◌∙◌, subst, arith}
+use Rattle.std.proofs.Common.{◌≡◌, ◌≢◌, ◌⊎◌, inl, inr, ℕ, ◌+◌, ◌*◌, ◌-◌, ◌<◌, ◌≤◌, Bool, true, false, not, ◌&&◌, eqb, leb, ltb, List, length, slice_index, Option, Some, None, refl, sym, ap, ap₂, ◌∙◌, subst, arith}
 use Rattle.std.specs.Prelude.{Contains, slice_get}
 use Rattle.std.specs.Option.{is_some, option_map, option_to_list}
 use Rattle.std.specs.List.{list_any, count_by}
-use Rattle.std.proofs.lemmas.Bool.{cases_Bool, cases_eq, cases_lt, cases_order, and_parts, and_from, or_parts, or_cases, or_left, or_right, eqb-true, eq-eqb, leb-true, ltb-true, le-leb, lt-ltb, not-false, true_from_ne_false, false_from_ne_true, false≢true, true≢false}
+use Rattle.std.proofs.lemmas.Bool.{cases_eq, cases_lt, cases_order, and_from, or_right, eqb-true, eq-eqb, le-leb, lt-ltb, true_from_ne_false, false_from_ne_true, false≢true, true≢false}
 use Rattle.pun_base.specs.Memory.{Cell}
 use Rattle.pun_base.specs.declared.action.Action.{Action}
 use Rattle.pun_base.specs.declared.action.Action.TheVariants.{Cover, Count, Ring, When}
@@ -16,7 +16,6 @@ use Rattle.insn_form.specs.Displacing.{displaced_len}
 use Rattle.insn_form.specs.Step.{next_after}
 use Rattle.trampoline.specs.Atomic.{is_atomic, thread_len, back, can_by}
 use Rattle.start_entries.specs.declared.entry.StartEntry.{StartEntry}
-use Rattle.start_entries.specs.SharedBytes.{has_byte}
 use Rattle.start_entries.specs.Finding.{entry_at}
 use Rattle.start_entries.specs.Leading.{JumpsTo}
 use Rattle.start_entries.specs.Standing.{AreEntries}
@@ -24,14 +23,14 @@ use Rattle.patch_report.specs.Values.{RowValue}
 use Rattle.patch_report.specs.Bounds.{IsBounded}
 use Rattle.patch_report.specs.Grammar.{IsTold}
 use Rattle.patch_report.proofs.ReportBounds.{bounded}
-use Rattle.patch_report.proofs.ListPlaces.{In, some_is, found, any_at, contains_at, place_of, counted_twice, finds, in_flat, from_flat}
-use Rattle.image_check.specs.Reports.{Line, lines, is_written, starts_line, in_private, on_page, tramps_of}
-use Rattle.image_check.specs.Rules.{Case, times_owned, belongs, differs, displaced_by, displaced_from, displaced_at, LiesInWith, HoldsCode, is_unexpected, is_expected, is_own, ByteFails, WriteFails, RangeFails}
-use Rattle.image_check.proofs.SoundFacts.{Owned, none_unless, only_one}
+use Rattle.patch_report.proofs.ListPlaces.{In, some_is, any_at, contains_at, place_of, counted_twice, finds, in_flat, from_flat}
+use Rattle.image_check.specs.Reports.{Line, lines, is_written, in_private, on_page, tramps_of}
+use Rattle.image_check.specs.Rules.{Case, differs, displaced_by, displaced_from, displaced_at, LiesInWith, HoldsCode, is_own, ByteFails, WriteFails, RangeFails}
+use Rattle.image_check.proofs.HeldRules.{some_unless, held_or_not, same_unless, owned_at, code_low as code_ends, new_none, zero_at}
 use Rattle.image_check.proofs.LoadedCode.{loaded_fixed}
 use Rattle.image_check.proofs.FixedJumps.{any_found}
 use Rattle.image_check.proofs.CodeAtStarts.{found_address}
-use Rattle.image_check.proofs.ReportLines.{place_low, number_low}
+use Rattle.image_check.proofs.ReportLines.{number_low}
 use Rattle.site_turns.specs.Modes.{can_in_threads}
 use Rattle.site_turns.proofs.PlanForms.{entry_here}
 use Rattle.site_turns.proofs.CodeSizes.{one_standing}
@@ -40,45 +39,11 @@ use Rattle.thread_runs.specs.Threading.{ThreadSite, Threading, next_of, ByTwoJum
 use Rattle.thread_runs.proofs.ThreadsTheorem.{threads_followed, threads_followed_with}
 use Rattle.thread_runs.proofs.WorkSize.{told}
 use Rattle.guest_threads.specs.FromTurns.{site_of}
+use Rattle.guest_threads.proofs.ThreadSoundness.{one_of}
 use Rattle.thread_check.specs.ThreadRules.{moved_from, moved_at, is_marked, shares_at, ThreadLeads, ThreadLineFails, ThreadEntryFails, thread_coding, ThreadCodeFails, ThreadSiteFails, IsThreadCaseSound}
 use Rattle.thread_check.specs.ThreadSoundness.{threading_of, ThreadCaseIsFollowed}
 use Rattle.thread_check.proofs.LinesOfRows.{IsOwn, is_numbered, number_once}
 use Rattle.thread_check.proofs.LandingJumps.{leads_unless}
-
--- an option that can't be nothing is something
-some_unless : {X : Type 0} (o : Option X) → (o ≡ None → ⊥) → (x : X) × (o ≡ Some x)
-some_unless None n = absurd (n refl)
-some_unless (Some x) n = (x, refl)
-
--- of two facts both can't hold
-both_is : (x y : Bool) → ((x && y) ≡ true → ⊥) → x ≡ true → y ≡ false
-both_is x true n e = absurd (n (and_from x true e refl))
-both_is x false n e = refl
-
--- a cell that is known by its tests
-cell_is : (d : Cell) (b p : ℕ) → eqb d.byte b ≡ true → eqb d.perms p ≡ true → d ≡ record { byte = b; perms = p }
-cell_is d b p e f = λ i. record { byte = eqb-true d.byte b e i; perms = eqb-true d.perms p f i }
-
--- whether a cell is held is decided
-held_or_not : (o : Option Cell) (b p : ℕ) → ((o ≡ Some (record { byte = b; perms = p }) → ⊥) → ⊥) → o ≡ Some (record { byte = b; perms = p })
-held_or_not None b p n = absurd (n (λ e. cc))
-held_or_not (Some d) b p n = elim (cases_Bool (eqb d.byte b && eqb d.perms p)) [
-  | inl e ↦ (let q = and_parts (eqb d.byte b) (eqb d.perms p) e in ap Some (cell_is d b p q.0 q.1))
-  | inr e ↦ absurd (n (λ k. let f : d ≡ record { byte = b; perms = p } = some_is d (record { byte = b; perms = p }) k in
-      true≢false (sym (and_from (eqb d.byte b) (eqb d.perms p) (eq-eqb d.byte b (ap (λ (z : Cell). z.byte) f))
-      (eq-eqb d.perms p (ap (λ (z : Cell). z.perms) f))) ∙ e)))
-]
-
--- rule 1: what is loaded and not written stays
-same_unless : (o q : Option Cell) → is_some o ≡ true → (differs o q false ≡ true → ⊥) → q ≡ o
-same_unless None q h n = absurd (false≢true h)
-same_unless (Some d) None h n = absurd (n refl)
-same_unless (Some d) (Some g) h n =
-    let k = or_parts (not (eqb d.perms g.perms)) (not (eqb d.byte g.byte)) (false_from_ne_true _ n) in
-    ap Some (λ i. record {
-      byte = sym (eqb-true d.byte g.byte (not-false (eqb d.byte g.byte) k.1)) i;
-      perms = sym (eqb-true d.perms g.perms (not-false (eqb d.perms g.perms) k.0)) i;
-    })
 
 -- an entry that can be displaced where threads share memory has a known form
 known_form : (o : Option Insn) (len a : ℕ) → is_some (can_by o len a) ≡ true → is_some o ≡ true
@@ -89,18 +54,6 @@ known_form (Some i) len a h = refl
 some_of : (o : Option ℕ) (k : ℕ) → is_some (option_map (λ n. n + k) o) ≡ true → (n : ℕ) × (o ≡ Some n)
 some_of None k h = absurd (false≢true h)
 some_of (Some n) k h = (n, refl)
-
--- the only element of a list made of an option
-one_of : {X Y : Type 0} (f : X → Y) (o : Option X) (y : Y) → In (option_to_list (option_map f o)) y → (x : X) × (o ≡ Some x) × (f x ≡ y)
-one_of f None y c = absurd (none c.0 c.1)
-  where
-    none : (i : ℕ) → slice_get [] i ≡ Some y → ⊥
-    none i e = cc
-one_of f (Some x) y c = (x, refl, by_place c.0 c.1)
-  where
-    by_place : (i : ℕ) → slice_get (f x ∷ []) i ≡ Some y → f x ≡ y
-    by_place zero e = some_is (f x) y e
-    by_place (suc i) e = absurd cc
 
 -- the action is to count
 is_count : (a : Action) → ((a ≢ Count) → ⊥) → a ≡ Count
@@ -271,62 +224,10 @@ module _ (c : Case) (A : AreEntries c.original c.listed) (T : IsTold c.report) (
       → x < l.tramp.place + length (code_with c l e.fields) → on_page c.report x ≡ true
   code_on_page i l e x h lo hi = true_from_ne_false (on_page c.report x) (λ n. rule_4 x (i, lies_in c i l e x h lo hi, inr (inr n)))
 
-  -- which end early
-  page_low : (x : ℕ) → on_page c.report x ≡ true → x < 0x7FFF1000
-  page_low x h =
-      let q = found (λ (p : ℕ × ℕ). leb p.0 x && ltb x (p.0 + 4096)) c.report.pages h in
-      let k = and_parts (leb q.is.0 x) (ltb x (q.is.0 + 4096)) q.passes in
-      let u : x < q.is.0 + 4096 = ltb-true x (q.is.0 + 4096) k.1 in
-      let b : q.is.0 < 0x7FFF0000 = B.pages q.is (contains_at c.report.pages q.place q.is q.at) in
-      omega arith
-
   -- code ends where the last page does, at the latest
   code_low : (i : ℕ) (l : Line) (e : Enters c l) → slice_get (lines c.report) i ≡ Some l
       → l.tramp.place + length (code_with c l e.fields) ≤ 0x7FFF1000
-  code_low i l e h = elim (cases_lt 0x7FFF1000 (l.tramp.place + length (code_with c l e.fields))) [
-    | inl k ↦ (let p : l.tramp.place < 0x7FFF0000 = place_low c.report l B (i, h) in
-        let b : 0x7FFF1000 < 0x7FFF1000 = page_low 0x7FFF1000 (code_on_page i l e 0x7FFF1000 h (omega arith) k) in absurd
-        (omega (arith, b)))
-    | inr k ↦ k
-  ]
-
-  -- the original has no byte on the report's pages and in the private range
-  new_none : (x : ℕ) → (in_private c.report x || on_page c.report x) ≡ true → c.original x ≡ None
-  new_none x h = none_unless (c.original x) (λ e. rule_5 x (inr (h, inr (inl (x, refl, e)))))
-
-  -- the private range is zeros
-  zero_at : (x : ℕ) → c.report.private.0 ≤ x → x < c.report.private.1 → (c.patched x ≡ Some (record { byte = 0; perms = 6 }))
-      × (c.original x ≡ None)
-  zero_at x lo hi =
-      let p : in_private c.report x ≡ true = and_from (leb c.report.private.0 x) (ltb x c.report.private.1) (le-leb c.report.private.0 x lo)
-      (lt-ltb x c.report.private.1 hi) in
-      let e = or_left (in_private c.report x) (on_page c.report x) p in
-      let n = new_none x e in
-      let d = some_unless (c.patched x) (λ f. rule_5 x (inr (e, inl f))) in
-      let away : on_page c.report x ≡ false = both_is (in_private c.report x) (on_page c.report x)
-      (λ f. rule_5 x (inr (e, inr (inr (inl f))))) p in
-      let high : x < 0x20000 → ⊥ = λ f. rule_5 x (inr (e, inr (inr (inr f)))) in
-      (d.1 ∙ ap Some (by_kind d.0 away high (expected d.0 d.1 n)), n)
-    where
-      expected : (d : Cell) → c.patched x ≡ Some d → c.original x ≡ None → is_expected c.report x d ≡ true
-      expected d e n = true_unless (is_expected c.report x d) (λ f. rule_5 x (inl ((λ i. is_unexpected c.report x (n i) (e i)) ∙ f)))
-        where
-          true_unless : (b : Bool) → (not b ≡ true → ⊥) → b ≡ true
-          true_unless true k = refl
-          true_unless false k = absurd (k refl)
-
-      by_kind : (d : Cell) → on_page c.report x ≡ false → (x < 0x20000 → ⊥) → is_expected c.report x d ≡ true
-          → d ≡ record { byte = 0; perms = 6 }
-      by_kind d away high h = elim (or_cases (leb 0x10000 x && (ltb x 0x1E000 && eqb d.perms 4))
-          ((in_private c.report x && (eqb d.byte 0 && eqb d.perms 6)) || (on_page c.report x && eqb d.perms 5)) h) [
-            | inl k ↦ (let q = and_parts (ltb x 0x1E000) (eqb d.perms 4) (and_parts (leb 0x10000 x) (ltb x 0x1E000 && eqb d.perms 4) k).1 in
-                let u : x < 0x1E000 = ltb-true x 0x1E000 q.0 in absurd (high (omega arith)))
-            | inr k ↦ elim (or_cases (in_private c.report x && (eqb d.byte 0 && eqb d.perms 6)) (on_page c.report x && eqb d.perms 5) k) [
-              | inl j ↦ (let q = and_parts (eqb d.byte 0) (eqb d.perms 6) (and_parts (in_private c.report x)
-                  (eqb d.byte 0 && eqb d.perms 6) j).1 in cell_is d 0 6 q.0 q.1)
-              | inr j ↦ absurd (true≢false (sym (and_parts (on_page c.report x) (eqb d.perms 5) j).0 ∙ away))
-            ]
-          ]
+  code_low i l e h = code_ends c B l (length (code_with c l e.fields)) (i, h) (λ x. code_on_page i l e x h)
 
   -- a trampoline's counter is in the private range
   room : (l : Line) → In (lines c.report) l → c.report.private.0 + 72 + 8 * l.number ≤ c.report.private.1
@@ -407,7 +308,7 @@ module _ (c : Case) (A : AreEntries c.original c.listed) (T : IsTold c.report) (
         new = λ x lo hi.
             let hi' : x < l.tramp.place + length (code_with c l e.fields) = omega (arith, hi, n) in
             new_if (c.patched x) (c.original x) (ap is_some (holds_code h.0 l e x h.1 lo hi'))
-            (new_none x (or_right (in_private c.report x) (on_page c.report x) (code_on_page h.0 l e x h.1 lo hi')));
+            (new_none c rule_5 x (or_right (in_private c.report x) (on_page c.report x) (code_on_page h.0 l e x h.1 lo hi')));
         low = low;
       }
     where
@@ -474,28 +375,6 @@ module _ (c : Case) (A : AreEntries c.original c.listed) (T : IsTold c.report) (
         | inr n ↦ absurd (rule_4 x (o.in_lines.0, of_code s o (sites s h) x a, inr (inl (p.in_lines.0, n, of_code t p (sites t k) x b))))
       ]
 
-  -- a written byte is that of a trampoline's instruction
-  owned_at : (x : ℕ) → is_written c.report x ≡ true → Owned c x
-  owned_at x w =
-      let b = and_parts (eqb (times_owned c x) 1) (list_any (λ (e : StartEntry). has_byte x e && starts_line c.report e.addr) c.listed)
-      (true_from_ne_false (belongs c x) (λ n. rule_2 x (w, inr (inr n)))) in
-      let q = found (λ (e : StartEntry). has_byte x e && starts_line c.report e.addr) c.listed b.1 in
-      let k = and_parts (has_byte x q.is) (starts_line c.report q.is.addr) q.passes in
-      let j = and_parts (leb q.is.addr x) (ltb x (q.is.addr + q.is.len)) k.0 in
-      let l = found (λ (l : Line). eqb l.tramp.start q.is.addr) (lines c.report) k.1 in
-      record {
-        line = l.is;
-        entry = q.is;
-        in_lines = (l.place, l.at);
-        in_list = contains_at c.listed q.place q.is q.at;
-        start = eqb-true l.is.tramp.start q.is.addr l.passes;
-        above = leb-true q.is.addr x j.0;
-        below = ltb-true x (q.is.addr + q.is.len) j.1;
-        alone = λ e d lo hi. let r = place_of c.listed e d in
-            only_one (has_byte x) c.listed r.0 q.place e q.is (eqb-true (times_owned c x) 1 b.0) r.1
-            (and_from (leb e.addr x) (ltb x (e.addr + e.len)) (le-leb e.addr x lo) (lt-ltb x (e.addr + e.len) hi)) q.at k.0;
-      }
-
   -- what is in no site's instruction stays
   stays : (x : ℕ) → is_some (c.original x) ≡ true → list_any (λ (s : ThreadSite). leb s.entry.addr x && ltb x (s.entry.addr + s.entry.len)) R.sites ≡ false
       → c.patched x ≡ c.original x
@@ -505,7 +384,7 @@ module _ (c : Case) (A : AreEntries c.original c.listed) (T : IsTold c.report) (
     where
       owned : is_written c.report x ≡ true → list_any (λ (s : ThreadSite). leb s.entry.addr x && ltb x (s.entry.addr + s.entry.len)) R.sites ≡ true
       owned w =
-          let o = owned_at x w in
+          let o = owned_at c rule_2 x w in
           let at : entry_at c.listed o.line.tramp.start ≡ Some o.entry = ap (entry_at c.listed) o.start ∙ entry_here c.original c.listed o.entry A o.in_list in
           let s : ThreadSite = record { number = o.line.number; entry = o.entry; place = o.line.tramp.place; event = o.line.tramp.event } in
           let k : In (site_of c.listed o.line) s = (0, ap (λ (q : Option StartEntry). slice_get (option_to_list (option_map (λ (e : StartEntry). record { number = o.line.number; entry = e; place = o.line.tramp.place; event = o.line.tramp.event }) q)) 0) at) in
@@ -525,7 +404,7 @@ module _ (c : Case) (A : AreEntries c.original c.listed) (T : IsTold c.report) (
     once = once;
     numbers = numbers;
     apart = apart;
-    counters = λ s k v x a b. let h = room_of s k in zero_at x (omega (arith, a)) (omega (arith, b, h));
+    counters = λ s k v x a b. let h = room_of s k in zero_at c rule_5 x (omega (arith, a)) (omega (arith, b, h));
     low = λ s k v. let h = room_of s k in let e = B.end in omega (arith, h, e);
   }
 

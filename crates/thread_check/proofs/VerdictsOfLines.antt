@@ -18,6 +18,7 @@ use Rattle.start_entries.specs.Leading.{Leads}
 use Rattle.start_entries.specs.Standing.{AreEntries}
 use Rattle.patch_report.specs.Grammar.{IsTold}
 use Rattle.patch_report.proofs.ListPlaces.{In, some_is, found, contains_at, place_of, counted_twice, all_in}
+use Rattle.image_check.specs.Parts.{line_of}
 use Rattle.image_check.specs.Reports.{Line, lines, times_started, in_private, on_page}
 use Rattle.image_check.specs.Rules.{Case, HasCodeWith, LiesInWith, HoldsCode, is_expected, is_unexpected, displaced_by, displaced_from, displaced_at, EntryFails}
 use Rattle.image_check.specs.declared.rule.Rule.TheVariants as rule
@@ -32,7 +33,7 @@ use Rattle.thread_check.specs.declared.places.ThreadCode.{ThreadCode}
 use Rattle.thread_check.specs.ThreadRules.{moved_from, ThreadLineFails, ThreadEntryFails, thread_coding, ThreadCodeFails, ThreadFails}
 use Rattle.thread_check.specs.ThreadVerdict.{IsThreadVerdict}
 use Rattle.thread_check.specs.ThreadSoundness.{IsThreadCaseFollowed}
-use Rattle.thread_check.specs.LineParts.{line_of, is_new_code, IsSoundLine, IsBrokenLine, IsLineFailure, IsSoundCode, in_code, first_overlap, AreSoundLines, IsLinesVerdict, IsSoundImage, ImageFails, IsImageVerdict, first_failure, counts, whole}
+use Rattle.thread_check.specs.LineParts.{is_new_code, IsSoundLine, IsBrokenLine, IsLineFailure, IsSoundCode, in_code, first_overlap, AreSoundLines, IsLinesVerdict, IsSoundImage, ImageFails, IsImageVerdict, first_failure, counts, whole}
 use Rattle.thread_check.proofs.LandingJumps.{leads_too, leads_for}
 use Rattle.thread_check.proofs.HeldCode.{IsHeld, each_held, one_broken}
 use Rattle.thread_check.proofs.PlacesApart.{HaveBytes, in_one, in_two}

@@ -7,22 +7,13 @@ use Rattle.pun_base.specs.declared.action.Action.{Action}
 use Rattle.pun_base.specs.declared.action.Action.TheVariants.{Cover, Count, Ring, When}
 use Rattle.start_entries.specs.Leading.{JumpsTo}
 use Rattle.image_check.specs.CodeParts.{holds_code}
+use Rattle.image_check.specs.Parts.{line_of}
 use Rattle.image_check.specs.Reports.{Line, lines}
 use Rattle.image_check.specs.Rules.{Case, HasCodeWith, ByteFails, WriteFails, EntryFails, RangeFails, SiteFails}
 use Rattle.image_check.specs.declared.verdict.Verdict.{Verdict}
 use Rattle.image_check.specs.declared.verdict.Verdict.TheVariants.{Yes, No}
-use Rattle.thread_check.specs.declared.lines.ThreadLine.{ThreadLine}
-use Rattle.thread_check.specs.declared.loaded.LoadedByte.{LoadedByte}
 use Rattle.thread_check.specs.declared.places.ThreadCode.{ThreadCode}
 use Rattle.thread_check.specs.ThreadRules.{moved_at, shares_at, ThreadLineFails, thread_coding}
-
--- A trampoline of the code as rules read it.
-abbrev pub line_of : ThreadLine → Line
-line_of l = record { number = l.number; tramp = l.tramp }
-
--- The cell of a loaded byte.
-abbrev pub cell_of : LoadedByte → Cell
-cell_of b = record { byte = b.byte; perms = b.perms }
 
 -- This byte is loaded, R-X, where the original loads none.
 abbrev pub is_new_code : Option Cell → Option Cell → ℕ → Bool

@@ -5,7 +5,6 @@
 
 pub mod laws;
 mod line_rule;
-mod lines;
 mod loaded;
 mod places;
 pub mod verdict;

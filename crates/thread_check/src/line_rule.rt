@@ -4,13 +4,14 @@ ghost use Rattle.elf_read.specs.Image.{image_of};
 ghost use Rattle.elf_read.specs.Refusals.{refusal};
 ghost use Rattle.start_entries.specs.Laws.{IsBuilt};
 ghost use Rattle.image_check.specs.CodeParts.{IsLow};
+ghost use Rattle.image_check.specs.Parts.{line_of};
 ghost use Rattle.image_check.specs.Verdict.{case_of};
-ghost use Rattle.thread_check.specs.LineParts.{line_of, Lands, IsCodeFound, IsCodeVerdict, IsSoundLine, IsLineFailure};
+ghost use Rattle.thread_check.specs.LineParts.{Lands, IsCodeFound, IsCodeVerdict, IsSoundLine, IsLineFailure};
 
-use crate::lines::ThreadLine;
 use crate::loaded::{first_broken, is_loaded};
 use code_bytes::code::CodeBytes;
 use elf_read::elf::Elf;
+use image_check::flat::ReportLine;
 use image_check::jumps::jump_at;
 use image_check::verdict::Verdict;
 use patch_report::report::Report;
@@ -19,7 +20,7 @@ use thread_runs::thread_trampoline;
 
 /// The code of a trampoline, made of the instruction at its start in the original; none where that
 /// isn't listed, shares a byte with another one, or can't be displaced where threads share memory.
-fn code_of(orig: &Elf<'_>, starts: &Starts, report: &Report, line: &ThreadLine) -> Option<CodeBytes>
+fn code_of(orig: &Elf<'_>, starts: &Starts, report: &Report, line: &ReportLine) -> Option<CodeBytes>
     requires accepted { refusal 0x10000 orig.now.bytes ≡ None }
     requires built { IsBuilt orig.now.bytes starts.now }
     requires low { IsLow report.now.body (line_of line.now) }
@@ -87,7 +88,7 @@ pub(crate) fn judge(
     patched: &Elf<'_>,
     starts: &Starts,
     report: &Report,
-    line: &ThreadLine,
+    line: &ReportLine,
 ) -> Result<CodeBytes, Verdict>
     requires accepted { refusal 0x10000 orig.now.bytes ≡ None }
     requires built { IsBuilt orig.now.bytes starts.now }

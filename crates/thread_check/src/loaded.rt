@@ -1,26 +1,11 @@
 //! Code that a patched file loads where its original loads nothing.
 ghost use Rattle.std.specs.Prelude.{◌≡◌, ◌+◌, ◌<◌, ◌^◌, length, is_some, option_map};
 ghost use Rattle.elf_read.specs.Image.{image_of};
+ghost use Rattle.image_check.specs.Parts.{cell_of};
 ghost use Rattle.thread_check.specs.LineParts as parts;
-ghost use Rattle.thread_check.specs.LineParts.{cell_of};
 
 use elf_read::elf::Elf;
-
-/// A byte that a file loads, and its permissions: 4 reads, 2 writes, 1 executes.
-#[derive(Clone, Copy, Debug, PartialEq, Eq)]
-pub struct LoadedByte {
-    pub byte: u8,
-    pub perms: u32,
-}
-
-/// What a file loads at an address.
-fn loaded_at(elf: &Elf<'_>, addr: u64) -> Option<LoadedByte>
-    ensures { option_map cell_of result ≡ image_of elf.now.bytes addr }
-{
-    let byte = elf.byte(addr)?;
-    let perms = elf.perms(addr)?;
-    Some(LoadedByte { byte, perms })
-}
+use image_check::cells::{LoadedByte, loaded_at};
 
 /// Whether a file loads a byte at an address.
 pub(crate) fn is_loaded(elf: &Elf<'_>, addr: u64) -> bool

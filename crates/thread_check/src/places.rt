@@ -3,14 +3,14 @@ ghost use Rattle.std.specs.Prelude.{◌≡◌, IfOk};
 ghost use Rattle.std.specs.List.Sorted.{IsPermutation, IsNonDecreasingBy};
 ghost use Rattle.thread_check.specs.LineParts as parts;
 
-use crate::lines::ThreadLine;
 use code_bytes::code::CodeBytes;
+use image_check::flat::ReportLine;
 use std::alloc::AllocError;
 
 /// A trampoline with its code.
 #[derive(Debug, PartialEq, Eq, Drop)]
 pub struct ThreadCode {
-    pub line: ThreadLine,
+    pub line: ReportLine,
     pub bytes: CodeBytes,
 }
 

@@ -9,10 +9,10 @@ ghost use Rattle.thread_check.specs.ThreadSoundness.{IsThreadCaseFollowed};
 ghost use Rattle.thread_check.specs.ThreadVerdict.{IsThreadVerdict};
 
 use crate::line_rule::judge;
-use crate::lines::lines_of;
 use crate::places::{ThreadCode, by_place, first_overlap};
 use elf_read::elf::Elf;
 use image_check::checked::Checked;
+use image_check::flat::lines_of;
 use image_check::rule::Rule;
 use image_check::verdict::Verdict;
 use patch_report::report::Report;

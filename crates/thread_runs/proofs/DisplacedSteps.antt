@@ -28,7 +28,7 @@ use Rattle.thread_runs.specs.Work.Tail.{Out, Back, Jump, Ecx}
 use Rattle.thread_runs.specs.Threading.{ThreadSite, Threading, next_of, work_at, is_new, is_hidden, is_kept, in_event, saves, is_counted, relocated_at, is_code_of, IsThreadSound}
 use Rattle.thread_runs.specs.Watching.{Watched, Watch, leads_to, led_on, behind, is_effect, projection, stale_after}
 use Rattle.thread_runs.specs.Premises.{IsQuietAt, reads_nothing_of}
-use Rattle.thread_runs.specs.StepLaws.{StepLaws, reads_of, writes_of}
+use Rattle.thread_runs.specs.StepLaws.{StepLaws, writes_of}
 use Rattle.thread_runs.proofs.ThreadPlaces.{part_only, kept_not, no_site, site_here, effect_there, effect_never, in_code, work_in, part_is, part_true, part_past, counted_len}
 use Rattle.thread_runs.proofs.KeptRelation.{keeps_code}
 use Rattle.thread_runs.proofs.StandingCode.{fields_of, site_stands, work_stands, code_length, counter_kept}
@@ -71,7 +71,7 @@ module _ (r : Threading) (A : AreEntries r.original r.listed) (S : IsThreadSound
 
     -- where a thread is at a site's relocated code, and its projection is equal but at the site, both are at the instruction's work
     pub at_work : (M : Bytes) (w : Watch) (one : Watched) → Base r S M w.stale w.mem one → one.now.rip ≡ at → one.projected.rip ≡ site.entry.addr → one.now.core ≡ one.projected.core
-        → one.now.world ≡ one.projected.world → reads_of w.stale F (machine_of M one.projected) ≡ true → IsQuietAt r (machine_of w.mem one.projected)
+        → one.now.world ≡ one.projected.world → reads_nothing_of w.stale F (machine_of M one.projected) ≡ true → IsQuietAt r (machine_of w.mem one.projected)
         → AtWork (is_hidden r) w.stale F nx at (machine_of M one.projected) (machine_of w.mem one.now)
     at_work M w one R here start core world reads quiet =
         let s : Machine = machine_of M one.projected in
@@ -156,7 +156,7 @@ module _ (r : Threading) (A : AreEntries r.original r.listed) (S : IsThreadSound
 
       -- where the step that is made reads no stale byte, neither does the instruction's own
       pub reads_too : x0 ≡ at → one.projected.rip ≡ site.entry.addr → one.now.core ≡ one.projected.core → one.now.world ≡ one.projected.world
-          → (in_event r x0 ≡ false → reads_nothing_of w.stale f u ≡ true) → reads_of w.stale F (machine_of M one.projected) ≡ true
+          → (in_event r x0 ≡ false → reads_nothing_of w.stale f u ≡ true) → reads_nothing_of w.stale F (machine_of M one.projected) ≡ true
       reads_too here start core world fresh =
           let s : Machine = machine_of M one.projected in
           let W : IsWork F s.rip nx at u = subst (λ (z : ℕ). IsWork F z nx at u) (sym start) (work_stands r A S site listed u R.other) in

@@ -32,6 +32,7 @@ use Rattle.relocate_insn.proofs.PieceSteps.{gone_to}
 use Rattle.start_entries.specs.Standing.{AreEntries}
 use Rattle.image_step.specs.Listed.{is_start, is_listed_byte}
 use Rattle.thread_runs.specs.Guest.{Thread, machine_of, thread_of}
+use Rattle.thread_runs.specs.Event.{Point, is_inside, Holds, HasSaved}
 use Rattle.thread_runs.specs.Event.Point.{At0, At7}
 use Rattle.thread_runs.specs.Threading.{ThreadSite, Threading, is_new, is_hidden, is_site, is_kept, in_event, saves, is_counted, relocated_at, ByTwoJumps, IsThreadSound}
 use Rattle.thread_runs.specs.Watching.{Watched, Watch, is_effect, behind, projection, stale_after}
@@ -43,7 +44,7 @@ use Rattle.thread_runs.proofs.ThreadPlaces.{start_old, part_never, start_no_site
 use Rattle.thread_runs.proofs.StandingCode.{own_at, counter_kept}
 use Rattle.thread_runs.proofs.KeptRelation.{keeps_code}
 use Rattle.start_entries.specs.Leading.{JumpsTo}
-use Rattle.thread_runs.specs.Relation.{Outside, AtSecond}
+use Rattle.thread_runs.specs.Relation.{point_at, has_rax, Outside, AtSecond}
 use Rattle.thread_runs.proofs.WatchedRelation.{Phase, ThreadKept, Base, Made}
 
 -- memories that are alike are so by each set that has the same stale bytes
@@ -87,31 +88,25 @@ module _ (r : Threading) (A : AreEntries r.original r.listed) (S : IsThreadSound
       → now.world ≡ projected.world → Phase r S m now projected
   come site h m now projected here there core world = by_event site.event refl
     where
+      -- the phase at a point at which the thread has the registers and flags of its projection
+      standing : (point : Point) → (is_inside point ≡ true → site.event ≡ true) → now.rip ≡ point_at site point → Holds point projected.core now.core → HasSaved point projected.core m
+          → has_rax point ≡ false → Phase r S m now projected
+      standing point counts place holds saved free = inr (inr (inl (record {
+        site = site;
+        listed = h;
+        point = point;
+        counts = counts;
+        here = place;
+        there = there;
+        core = holds;
+        world = world;
+        saved = saved;
+        old = λ e. absurd (false≢true (sym free ∙ e));
+      })))
+
       by_event : (b : Bool) → site.event ≡ b → Phase r S m now projected
-      by_event true e = inr (inr (inl (record {
-        site = site;
-        listed = h;
-        point = At0;
-        counts = λ i. e;
-        here = omega (arith, here);
-        there = there;
-        core = core;
-        world = world;
-        saved = tt;
-        old = λ e. absurd (false≢true e);
-      })))
-      by_event false e = inr (inr (inl (record {
-        site = site;
-        listed = h;
-        point = At7;
-        counts = λ i. absurd (false≢true i);
-        here = omega (arith, here, plain_len site e);
-        there = there;
-        core = core;
-        world = world;
-        saved = tt;
-        old = λ e. absurd (false≢true e);
-      })))
+      by_event true e = standing At0 (λ i. e) (omega (arith, here)) core tt refl
+      by_event false e = standing At7 (λ i. absurd (false≢true i)) (omega (arith, here, plain_len site e)) core tt refl
 
   module _ (M : Bytes) (w : Watch) (one : Watched) (f : Fields) (to : Machine)
       (steps : ThreadStepsBy f (machine_of w.mem one.now) to) (R : Base r S M w.stale w.mem one) (old : is_new r one.now.rip ≡ false) where

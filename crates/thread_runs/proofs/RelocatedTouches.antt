@@ -47,7 +47,8 @@ use Rattle.thread_runs.specs.Event.{offset, following}
 use Rattle.thread_runs.specs.Event.Point.{At0}
 use Rattle.thread_runs.specs.Work.{IsWork}
 use Rattle.thread_runs.specs.Watching.{leads_to}
-use Rattle.thread_runs.specs.StepLaws.{reads_of, writes_of, WorkTouches, HoldsSlot, SavesHeld, WorkedCore, LeadsTold, NotLocked}
+use Rattle.thread_runs.specs.Premises.{reads_nothing_of}
+use Rattle.thread_runs.specs.StepLaws.{writes_of, WorkTouches, HoldsSlot, SavesHeld, WorkedCore, LeadsTold, NotLocked}
 use Rattle.thread_runs.proofs.KnownCodeSteps.{IsKnown, known_fixed, known_told}
 use Rattle.thread_runs.proofs.EventCode.{slot_place, op_at, fields_at, known_at}
 use Rattle.thread_runs.proofs.ThreadEventInstructions.{slot_of, rsp_of}
@@ -110,7 +111,7 @@ leads_told f next s s' e =
     by_lock true k = locked_leads f next s.core s.mem k
 
 -- an instruction of known operation
-known_reads : (set : ℕ → Bool) (v : Machine) (f : Fields) (next : ℕ) (op : Op) → next_after v.rip f ≡ next → (thread_task f next).insn ≡ Exact op → reads_of set f v ≡ avoids_span set (effect op next v.core).read
+known_reads : (set : ℕ → Bool) (v : Machine) (f : Fields) (next : ℕ) (op : Op) → next_after v.rip f ≡ next → (thread_task f next).insn ≡ Exact op → reads_nothing_of set f v ≡ avoids_span set (effect op next v.core).read
 known_reads set' v f next op n i = ap (λ z. reads_avoid set' (thread_task f z).insn z v.core) n ∙ ap (λ z. reads_avoid set' z next v.core) i
 
 -- whether an instruction of known operation writes a byte of a set is whether its effect does
@@ -129,7 +130,7 @@ module _ (f : Fields) (next to : ℕ) (s u : Machine) (w : IsWork f s.rip next t
   record Touches : Type 0 where
     fields : Fields
     at : IsAt u fields
-    same : (set : ℕ → Bool) → (reads_of set fields u ≡ reads_of set f s) × (writes_of set fields u ≡ writes_of set f s)
+    same : (set : ℕ → Bool) → (reads_nothing_of set fields u ≡ reads_nothing_of set f s) × (writes_of set fields u ≡ writes_of set f s)
 
   -- two operations with equal reads and writes touch the same
   pair_touches : (g : Fields) (next' : ℕ) (o op op' : Op) → insn_of f ≡ Exact o → resolved next o ≡ op → IsKnown u g next' op' → (effect op next s.core).read ≡ (effect op' next' u.core).read
@@ -216,4 +217,4 @@ pub work_touches : WorkTouches
 work_touches f g next to s u w there core world at set' =
     let q = touches_by f next to s u w there core world (insn_of f) refl (has_length f s.rip next to u w (insn_of f) refl) in
     let e : g ≡ q.fields = one_instruction u g q.fields at q.at in
-    (ap (λ z. reads_of set' z u) e ∙ (q.same set').0, ap (λ z. writes_of set' z u) e ∙ (q.same set').1)
+    (ap (λ z. reads_nothing_of set' z u) e ∙ (q.same set').0, ap (λ z. writes_of set' z u) e ∙ (q.same set').1)

@@ -21,7 +21,8 @@ use Rattle.trampoline.specs.Atomic.{thread_len}
 use Rattle.thread_runs.specs.Work.{IsWork}
 use Rattle.thread_runs.specs.Threading.{ThreadSite, Threading, next_of, work_at, is_new, is_site, is_kept, is_one_of, IsThreadSound}
 use Rattle.patch_report.proofs.ListPlaces.{found, any_at, contains_at, place_of}
-use Rattle.thread_runs.proofs.ThreadPlaces.{any_none, event_length}
+use Rattle.thread_runs.proofs.ThreadPlaces.{any_none}
+use Rattle.thread_runs.proofs.ThreadTrampolines.{event_long}
 use Rattle.thread_runs.proofs.KeptRelation.{number_on}
 
 -- the instruction at a start, in the original and in the patched image
@@ -84,7 +85,7 @@ module _ (r : Threading) (A : AreEntries r.original r.listed) (S : IsThreadSound
   pub code_length : (s : ThreadSite) (h : Contains r.sites s)
       → length (code_if s.event r.private s.number (fields_of s h) (next_of s) s.place) ≡ event_len s.event + length (thread_work (fields_of s h) (next_of s) (work_at s))
   code_length s h =
-      omega (arith, length-append (event_if s.event r.private s.number) (thread_work (fields_of s h) (next_of s) (work_at s)), event_length s.event r.private s.number)
+      omega (arith, length-append (event_if s.event r.private s.number) (thread_work (fields_of s h) (next_of s) (work_at s)), event_long s.event r.private s.number)
 
   -- the relocated code stands after the event in each memory that has the patched image's code
   pub work_stands : (s : ThreadSite) (h : Contains r.sites s) (v : Machine) → SameCode r.patched v.mem → IsWork (fields_of s h) s.entry.addr (next_of s) (work_at s) v
@@ -92,7 +93,7 @@ module _ (r : Threading) (A : AreEntries r.original r.listed) (S : IsThreadSound
       let k = S.sites s h in
       let i = A.each s.entry k.listed in
       let n = code_length s h in
-      let e = event_length s.event r.private s.number in
+      let e = event_long s.event r.private s.number in
       record {
         spelled = k.spelled;
         size = k.size;

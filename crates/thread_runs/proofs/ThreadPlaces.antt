@@ -16,6 +16,7 @@ use Rattle.thread_runs.specs.StepLaws.{WorkLong}
 use Rattle.thread_runs.specs.Event.{Point, offset, is_inside}
 use Rattle.thread_runs.specs.Event.Point.{At7}
 use Rattle.thread_runs.specs.Relation.{point_at}
+use Rattle.thread_runs.proofs.ThreadTrampolines.{event_long}
 use Rattle.patch_report.proofs.ListPlaces.{found, any_at, contains_at, place_of, some_is}
 use Rattle.image_check.proofs.RelatedStates.{allowed_some}
 
@@ -85,11 +86,6 @@ pub point_counted : (s : ThreadSite) (k : Point) → s.event ≡ true → point_
 point_counted s At7 e = ap (λ z. s.place + z) (counted_len s e)
 point_counted s k e = refl
 
--- an event has as many bytes as it is said
-pub event_length : (b : Bool) (p i : ℕ) → length (event_if b p i) ≡ event_len b
-event_length true p i = refl
-event_length false p i = refl
-
 -- an address from the relocated code on is in no part of the event
 pub part_past : (lo hi x : ℕ) (s : ThreadSite) → hi ≤ 32 → work_at s ≤ x → is_part lo hi x s ≡ false
 part_past lo hi x s b h = false_from_ne_true (is_part lo hi x s) (λ k. let q = part_is lo hi x s k in omega (arith, q.1, h, b, counted_len s q.2))
@@ -108,7 +104,7 @@ module _ (r : Threading) (A : AreEntries r.original r.listed) (S : IsThreadSound
       omega (
         arith,
         length-append (event_if s.event r.private s.number) (thread_work k.fields (next_of s) (work_at s)),
-        event_length s.event r.private s.number,
+        event_long s.event r.private s.number,
         W k.fields (next_of s) (work_at s) k.size s.entry.len s.entry.addr k.spelled k.len k.displaced,
       )
 

@@ -41,7 +41,7 @@ use Rattle.thread_runs.specs.Threading.{ThreadSite, Threading, next_of, work_at,
 use Rattle.thread_runs.specs.Watching.{Watched, Watch, EffectStep, projection, stale_after, watched_after, is_effect, Watches}
 use Rattle.thread_runs.specs.Premises.{IsQuietAt, reads_nothing_of}
 use Rattle.thread_runs.specs.Theorem.{last_watch, IsWatched, CanGo, GetsOut}
-use Rattle.thread_runs.specs.StepLaws.{StepLaws, reads_of}
+use Rattle.thread_runs.specs.StepLaws.{StepLaws}
 use Rattle.patch_report.proofs.ListPlaces.{some_is}
 use Rattle.image_check.proofs.LoadedCode.{jump_acts}
 use Rattle.thread_runs.proofs.ListUpdates.{set_here}
@@ -250,7 +250,7 @@ module _ (r : Threading) (A : AreEntries r.original r.listed) (S : IsThreadSound
             leaves = subst (λ (t : Thread). (f : Fields) → IsInstruction f → Stands r.original t.rip (spelling f) → leaves (is_hidden r) (thread_task f (next_after t.rip f)) (next_after t.rip f) (machine_of w.mem t) ≡ true)
                 (sym P.projected) quiet.leaves;
           } in
-          let reads : reads_of w.stale F s ≡ true = subst (λ (z : Machine). reads_of w.stale F z ≡ true) (sym e)
+          let reads : reads_nothing_of w.stale F s ≡ true = subst (λ (z : Machine). reads_nothing_of w.stale F z ≡ true) (sym e)
           (insn_both w0.stale (is_saved one0.now.core) w.stale (thread_task F (next_after s0.rip F)).insn (next_after s0.rip F) s0.core P.staler fresh unread) in
           let work = at_work r A S L site listed M w one P.base P.here P.at P.core P.world reads q in
           let st1 : ThreadStep s to0 = subst (λ (z : Machine). ThreadStep z to0) (sym e) st0 in

@@ -11,7 +11,7 @@ use Rattle.insn_form.specs.Operands.{with_reg, rcx}
 use Rattle.insn_form.specs.Resolving.{resolved_insn}
 use Rattle.insn_form.specs.Machine.{Machine, act}
 use Rattle.insn_form.specs.Step.{IsAt, next_after}
-use Rattle.insn_form.specs.Touched.{reads_none, writes_none}
+use Rattle.insn_form.specs.Touched.{writes_none}
 use Rattle.thread_runs.specs.ThreadSteps.{is_locked_inc, thread_task, ThreadStep}
 use Rattle.insn_form.specs.Alike.{IsAlikeAct, IsAlikeStep}
 use Rattle.thread_runs.specs.ThreadCode.{thread_work, slot}
@@ -20,10 +20,7 @@ use Rattle.thread_runs.specs.Event.{Point, Holds, InEvent, IsEventStep, EventGoe
 use Rattle.thread_runs.specs.Event.Point.{At0}
 use Rattle.thread_runs.specs.Work.{Tail, left, is_syscall, InTail, IsWork, AtWork, Worked, IsEffectStep, IsTailStep}
 use Rattle.thread_runs.specs.Watching.{leads_to}
-
--- the instruction of a state reads no byte of a set
-abbrev pub reads_of : (ℕ → Bool) → Fields → Machine → Bool
-reads_of set f s = reads_none set (thread_task f (next_after s.rip f)) (next_after s.rip f) s
+use Rattle.thread_runs.specs.Premises.{reads_nothing_of}
 
 -- the instruction of a state writes no byte of a set
 abbrev pub writes_of : (ℕ → Bool) → Fields → Machine → Bool
@@ -32,7 +29,7 @@ writes_of set f s = writes_none set (thread_task f (next_after s.rip f)) (next_a
 -- the first instruction of relocated code reads and writes what the displaced instruction does
 abbrev pub WorkTouches : Type 0
 WorkTouches = (f g : Fields) (next to : ℕ) (s u : Machine) → IsWork f s.rip next to u → u.rip ≡ to → u.core ≡ s.core → u.world ≡ s.world → IsAt u g
-    → (set : ℕ → Bool) → (reads_of set g u ≡ reads_of set f s) × (writes_of set g u ≡ writes_of set f s)
+    → (set : ℕ → Bool) → (reads_nothing_of set g u ≡ reads_nothing_of set f s) × (writes_of set g u ≡ writes_of set f s)
 
 -- relocated code has at least one byte
 abbrev pub WorkLong : Type 0

@@ -1,5 +1,5 @@
 //! Stubs of so many runs, places that are left for them, and the file of one displaced instruction, worked out by hand.
-ghost use Rattle.std.specs.Prelude.{◌≡◌, ◌<◌, ◌≤◌, None, map, IfOk, IsTrue};
+ghost use Rattle.std.specs.Prelude.{◌≡◌, ◌<◌, ◌≤◌, None, map, IfOk};
 ghost use Rattle.std.specs.List.{AllByRecursion};
 ghost use Rattle.pun_base.specs.Ranges.{ends};
 ghost use Rattle.page_group.specs.Pages.{ends_of, AreDisjoint};
@@ -13,7 +13,7 @@ use elf_read::writing::plain_file;
 use loader_form::emit::emit_loader;
 use loader_form::error::LoadError;
 use loader_form::lay::lay;
-use page_group::groups::group;
+use page_group::groups::{ascend as apart, group};
 use pun_base::action::Action;
 use pun_base::byte_list::ByteList;
 use pun_base::desk::Desk;
@@ -29,20 +29,6 @@ pub(crate) const TEXT: [u8; 7] = [0xB8, 0x3C, 0, 0, 0, 0x90, 0x90];
 
 /// How many runs, and how many pages their stub has.
 const STUBS: [(u32, u32); 6] = [(0, 2), (1, 2), (2, 2), (255, 2), (256, 3), (65_535, 257)];
-
-/// Whether each piece begins at or behind the end of the one before it, so that none meet.
-fn apart(pieces: &[Range]) -> bool
-    ensures { IsTrue result → AreDisjoint (ends_of pieces.now) }
-{
-    let mut end = 0;
-    for piece in pieces {
-        if piece.lo < end {
-            return false;
-        }
-        end = piece.hi;
-    }
-    true
-}
 
 /// A byte of code on every second page: so many runs of one page, at most sixteen of which have the same offset.
 fn scattered_bytes(alloc: Global, runs: u32) -> Result<Vec<Range>, AllocError>

@@ -1,7 +1,7 @@
 use Rattle.std.proofs.Common.{ap, sym, refl}
+use Rattle.image_check.specs.Parts.{line_of}
 use Rattle.image_check.specs.Verdict.{case_of}
 use Rattle.site_turns.proofs.TrampolineCodes.{IsTaken, within, spells, low}
-use Rattle.thread_check.specs.LineParts.{line_of}
 use Rattle.thread_check.proofs.BuiltCode.{built, not_built}
 use Rattle.thread_check.proofs.line_rule.code_of.Goals.{After-from}
 use Rattle.thread_check.proofs.line_rule.code_of.Goals as goal

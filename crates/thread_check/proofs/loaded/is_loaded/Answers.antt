@@ -1,6 +1,6 @@
 use Rattle.std.proofs.Common.{ap, ◌∙◌}
 use Rattle.std.specs.Option.{is_some}
-use Rattle.thread_check.specs.LineParts.{cell_of}
+use Rattle.image_check.specs.Parts.{cell_of}
 use Rattle.thread_check.proofs.LandingJumps.{still_some}
 use Rattle.thread_check.proofs.loaded.is_loaded.Goals as goal
 

@@ -3,9 +3,10 @@ use Rattle.std.specs.List.{AllByRecursion}
 use Rattle.list_text.proofs.WordParts.{all_appended}
 use Rattle.patch_report.proofs.LongerFronts.{mapped_more}
 use Rattle.image_check.specs.Reports.{Line}
+use Rattle.image_check.specs.Parts.{line_of}
 use Rattle.image_check.specs.Verdict.{case_of}
 use Rattle.thread_check.specs.declared.places.ThreadCode.{ThreadCode}
-use Rattle.thread_check.specs.LineParts.{line_of, IsSoundCode}
+use Rattle.thread_check.specs.LineParts.{IsSoundCode}
 use Rattle.thread_check.proofs.BuiltCode.{line_low, line_settles}
 use Rattle.thread_check.proofs.verdict.judge_lines.Goals as goal
 

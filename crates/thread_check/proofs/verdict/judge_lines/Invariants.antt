@@ -1,7 +1,8 @@
 use Rattle.std.proofs.Common.{◌≡◌, map, take}
 use Rattle.std.specs.List.{AllByRecursion}
+use Rattle.image_check.specs.Parts.{line_of}
 use Rattle.image_check.specs.Verdict.{case_of}
-use Rattle.thread_check.specs.LineParts.{line_of, IsSoundCode}
+use Rattle.thread_check.specs.LineParts.{IsSoundCode}
 use Rattle.thread_check.proofs.verdict.judge_lines.Given as goal
 
 abbrev pub invariant-loop-line : goal.invariant-loop-line

@@ -1,6 +1,0 @@
-use Rattle.std.proofs.Common.{take}
-use Rattle.page_group.proofs.AscendingPieces.{AscendTo}
-use Rattle.turn_tests.proofs.loader_files.apart.Given as goal
-
-abbrev pub invariant-loop-piece : goal.invariant-loop-piece
-invariant-loop-piece l = AscendTo l.end (take l.piece-index l.pieces)

@@ -120,9 +120,7 @@ def test_a_dump_of_a_program_that_waits_has_all_its_counts(threads):
 
 def test_a_table_that_is_too_long_for_threads_is_refused(threads):
     _, told = call("count", "threads", "--threads", "--entries", "5", "--into", "none", status=125)
-    assert "however near its code is kept, and for threads there is no loader form" in told and not patched_below(
-        "none"
-    ), told
+    assert "in the loader form, too" in told and not patched_below("none"), told
 
 
 def test_with_no_threads_a_program_is_warned_of_as_it_is_patched_and_as_it_starts_one(threads):

@@ -10,7 +10,7 @@ use Rattle.pun_base.specs.Actions.{IsAction}
 use Rattle.list_text.specs.Digits.{below, number_in}
 use Rattle.list_text.specs.Words.{action_of, count_of}
 use Rattle.list_text.proofs.ActionSpellings.{actions_are_spelled}
-use Rattle.command_words.specs.Words.{Names, ThreadNames, UnpatchNames, Command, Usage, Patch, Step, Gen, Load, Threads, ThreadsReported, Unpatch, is_plain, are_apart, patch_with, reserves_of, patch_of, check_of, most_steps, step_with, step_of, most_seed, most_blocks, nonzero, blocks_of, gen_with, gen_of, load_with, load_of, threads_with, reported_with, report_of, threads_by, threads_after, threads_of, unpatch_of, CommandRow, commands, under_name, form_of, command_of}
+use Rattle.command_words.specs.Words.{Names, ThreadNames, UnpatchNames, Command, Usage, Patch, Step, Gen, Load, Threads, ThreadsReported, ThreadsLoaded, Unpatch, is_plain, are_apart, patch_with, reserves_of, patch_of, check_of, most_steps, step_with, step_of, most_seed, most_blocks, nonzero, blocks_of, gen_with, gen_of, load_with, load_of, threads_with, reported_with, report_of, threads_by, threads_after, loaded_with, is_loader_form, threads_in_form, threads_of, unpatch_of, CommandRow, commands, under_name, form_of, command_of}
 
 -- What is known of a command that words are of: its outputs are apart, its action can be asked for, and its numbers are within their limits.
 abbrev pub IsKnown : Command → Type 0
@@ -20,6 +20,7 @@ IsKnown (Gen seed blocks) = (1 ≤ blocks) × (blocks ≤ most_blocks)
 IsKnown (Load n a r) = (n.out ≡ n.report → ⊥) × IsAction a
 IsKnown (Threads n r) = (n.out ≡ n.file → ⊥) × (n.out ≡ n.starts → ⊥) × (n.out ≡ n.sites → ⊥)
 IsKnown (ThreadsReported n r) = n.out ≡ n.report → ⊥
+IsKnown (ThreadsLoaded n r) = n.out ≡ n.report → ⊥
 IsKnown (Unpatch n) = (n.new ≡ n.patched → ⊥) × (n.new ≡ n.report → ⊥)
 IsKnown other = Unit {0}
 
@@ -118,7 +119,7 @@ known_gen other = tt
 -- ---- the output of `threads` is apart from its inputs, and from its report
 
 known_threads : (words : List (List ℕ)) → IsKnown (threads_of words)
-known_threads (file ∷ starts ∷ sites ∷ out ∷ words) = after (record { file = file; starts = starts; sites = sites; out = out }) words
+known_threads (file ∷ starts ∷ sites ∷ out ∷ words) = in_form (record { file = file; starts = starts; sites = sites; out = out }) words
   where
     by_test : (n : ThreadNames) (r : List (ℕ × ℕ)) (a b c : Bool) → Decides a (n.out ≡ n.file) → Decides b (n.out ≡ n.starts)
         → Decides c (n.out ≡ n.sites) → IsKnown (if not a && not b && not c then Threads n r else Usage)
@@ -149,6 +150,19 @@ known_threads (file ∷ starts ∷ sites ∷ out ∷ words) = after (record { fi
     after : (n : ThreadNames) (words : List (List ℕ)) → IsKnown (threads_after n words)
     after n [] = parts n (reserves_of [])
     after n (word ∷ words) = by_report n (report_of word) word words
+
+    loaded : (c : Command) → IsKnown c → IsKnown (loaded_with c)
+    loaded (ThreadsReported n r) k = k
+    loaded other k = tt
+
+    by_form : (n : ThreadNames) (b : Bool) (word : List ℕ) (words : List (List ℕ))
+        → IsKnown (if b then loaded_with (threads_after n words) else threads_after n (word ∷ words))
+    by_form n true word words = loaded (threads_after n words) (after n words)
+    by_form n false word words = after n (word ∷ words)
+
+    in_form : (n : ThreadNames) (words : List (List ℕ)) → IsKnown (threads_in_form n words)
+    in_form n [] = after n []
+    in_form n (word ∷ words) = by_form n (is_loader_form word) word words
 known_threads other = tt
 
 -- ---- the output of `unpatch` is apart from its inputs

@@ -46,4 +46,5 @@ command_view (command.Gen seed blocks) = words.Gen seed blocks
 command_view (command.Load names action reserves) = words.Load (names_of names) action (map ends reserves.items)
 command_view (command.Threads names reserves) = words.Threads (thread_names_of names) (map ends reserves.items)
 command_view (command.ThreadsReported names reserves) = words.ThreadsReported (names_of names) (map ends reserves.items)
+command_view (command.ThreadsLoaded names reserves) = words.ThreadsLoaded (names_of names) (map ends reserves.items)
 command_view (command.Unpatch names) = words.Unpatch (unpatch_names_of names)

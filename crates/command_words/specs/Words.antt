@@ -57,6 +57,8 @@ pub data Command : Type 0 where
   Threads : (names : ThreadNames) (reserves : List (ℕ × ℕ)) → Command
   -- as that, with a report
   ThreadsReported : (names : Names) (reserves : List (ℕ × ℕ)) → Command
+  -- as that, whose file maps its new code itself
+  ThreadsLoaded : (names : Names) (reserves : List (ℕ × ℕ)) → Command
   -- give back the original of a patched file
   Unpatch : (names : UnpatchNames) → Command
 
@@ -199,9 +201,24 @@ abbrev pub threads_after : ThreadNames → List (List ℕ) → Command
 threads_after n [] = threads_with n (reserves_of [])
 threads_after n (word ∷ words) = threads_by n (report_of word) word words
 
--- The words behind `threads`: FILE STARTS SITES OUT, then the report that is asked for or none, and then any RESERVE.
+-- A patch for threads with a report as one in the loader form. Without a report there is none.
+abbrev pub loaded_with : Command → Command
+loaded_with (ThreadsReported names reserves) = ThreadsLoaded names reserves
+loaded_with other = Usage
+
+-- A word asks for the loader form.
+abbrev pub is_loader_form : List ℕ → Bool
+is_loader_form word = bytes_eq word (codes "form:loader")
+
+-- A patch for threads, by the form that the first of the words after OUT asks for: where it asks for none, it is one of the words after that.
+abbrev pub threads_in_form : ThreadNames → List (List ℕ) → Command
+threads_in_form n [] = threads_after n []
+threads_in_form n (word ∷ words) = if is_loader_form word then loaded_with (threads_after n words) else threads_after n (word ∷ words)
+
+-- The words behind `threads`: FILE STARTS SITES OUT, then the form that is asked for or none, then the report that is asked for or none, and
+-- then any RESERVE.
 abbrev pub threads_of : List (List ℕ) → Command
-threads_of (file ∷ starts ∷ sites ∷ out ∷ words) = threads_after (record { file = file; starts = starts; sites = sites; out = out }) words
+threads_of (file ∷ starts ∷ sites ∷ out ∷ words) = threads_in_form (record { file = file; starts = starts; sites = sites; out = out }) words
 threads_of other = Usage
 
 -- NEW differs from the inputs.

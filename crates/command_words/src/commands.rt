@@ -1,10 +1,11 @@
 //! The command that its name and the words behind it are of.
 ghost use Rattle.std.specs.Prelude.{◌≡◌, ◌∷◌, IfOk, map, option_map};
 ghost use Rattle.pun_base.specs.Ranges.{ends};
-ghost use Rattle.command_words.specs.Words.{patch_of, patch_with, check_of, step_of, gen_of, gen_with, blocks_of, load_with, threads_of, threads_after, threads_with, reported_with, unpatch_of, unpatch_with, form_of};
+ghost use Rattle.command_words.specs.Words.{patch_of, patch_with, check_of, step_of, gen_of, gen_with, blocks_of, load_with, threads_of, threads_in_form, threads_after, threads_with, reported_with, unpatch_of, unpatch_with, form_of};
 ghost use Rattle.command_words.specs.Words.{are_apart as apart, is_apart as stands_apart};
 ghost use Rattle.command_words.specs.Words.{has_own_out as owns_out};
 ghost use Rattle.command_words.specs.Words.{report_of as report_name};
+ghost use Rattle.command_words.specs.Words.{is_loader_form as asks_for_loader, loaded_with as as_loaded};
 ghost use Rattle.command_words.specs.Named.{names_of, thread_names_of, unpatch_names_of, command_view};
 
 use crate::reserves::read_reserves;
@@ -179,7 +180,8 @@ fn load_with<'a>(patch: Command<'a>) -> Command<'a>
     }
 }
 
-/// The patch for threads that is asked for: FILE STARTS SITES OUT, then `report:NAME` or nothing, and then any RESERVE.
+/// The patch for threads that is asked for: FILE STARTS SITES OUT, then `form:loader` or nothing, then `report:NAME` or nothing,
+/// and then any RESERVE. The loader form has a report.
 fn read_threads<'a>(alloc: Global, words: &[&'a str]) -> Result<Command<'a>, AllocError>
     ensures { IfOk result (λ c. command_view c ≡ threads_of (map (λ w. w.now) words.now)) }
 {
@@ -192,10 +194,47 @@ fn read_threads<'a>(alloc: Global, words: &[&'a str]) -> Result<Command<'a>, All
         sites,
         out,
     };
-    read_after_out(alloc, names, words)
+    read_in_form(alloc, names, words)
 }
 
-/// A patch for threads with these names, and the words after OUT.
+/// A patch for threads with these names, and the words after OUT: the first of them may ask for a form.
+fn read_in_form<'a>(
+    alloc: Global,
+    names: ThreadNames<'a>,
+    words: &[&'a str],
+) -> Result<Command<'a>, AllocError>
+    ensures { IfOk result (λ c. command_view c
+        ≡ threads_in_form (thread_names_of names.entry) (map (λ w. w.now) words.now)) }
+{
+    let Some((first, later)) = words.split_first() else {
+        return read_after_out(alloc, names, words);
+    };
+    if is_loader_form(first) {
+        let reported = read_after_out(alloc, names, later)?;
+        Ok(loaded_with(reported))
+    } else {
+        read_after_out(alloc, names, words)
+    }
+}
+
+/// Whether a word asks for the loader form.
+fn is_loader_form(word: &str) -> bool
+    ensures { result ≡ asks_for_loader word.now }
+{
+    word == "form:loader"
+}
+
+/// A patch for threads with a report, as one in the loader form.
+fn loaded_with<'a>(reported: Command<'a>) -> Command<'a>
+    ensures { command_view result ≡ as_loaded (command_view reported.entry) }
+{
+    match reported {
+        Command::ThreadsReported { names, reserves } => Command::ThreadsLoaded { names, reserves },
+        _ => Command::Usage,
+    }
+}
+
+/// A patch for threads with these names, and the words after OUT and the form.
 fn read_after_out<'a>(
     alloc: Global,
     names: ThreadNames<'a>,

@@ -92,6 +92,11 @@ pub enum Command<'a> {
         names: Names<'a>,
         reserves: Vec<Range>,
     },
+    /// As that, with a file that maps its new code itself.
+    ThreadsLoaded {
+        names: Names<'a>,
+        reserves: Vec<Range>,
+    },
     /// Give back the original of a patched file.
     Unpatch(UnpatchNames<'a>),
 }

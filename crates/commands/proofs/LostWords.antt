@@ -1,7 +1,7 @@
 -- Memory ran out before the words were read: any command may end so.
 use Rattle.std.proofs.Common.{◌≡◌, ℕ, inr, List, Err, refl, arith}
 use Rattle.pun_base.specs.Shown.{DeskState, SinkState}
-use Rattle.command_words.specs.Words.{Command, Usage, Patch, Check, Step, Gen, Load, Threads, ThreadsReported, Unpatch, command_of}
+use Rattle.command_words.specs.Words.{Command, Usage, Patch, Check, Step, Gen, Load, Threads, ThreadsReported, ThreadsLoaded, Unpatch, command_of}
 use Rattle.command_io.specs.Inputs.{Inputs, OnlyReads}
 use Rattle.command_io.specs.Inspecting.{Accepting, Refusing, Telling, Inspects}
 use Rattle.inspect_commands.specs.CheckAnswers.{check_inputs, CheckAccepts, CheckRefuses, CheckTells, IsCheckStatus}
@@ -14,7 +14,7 @@ use Rattle.inspect_commands.proofs.StepVerdicts.{step_agrees}
 use Rattle.command_io.specs.Verdict.{patching}
 use Rattle.patch_commands.specs.Answers.{patch_writing, Patches}
 use Rattle.patch_commands.specs.LoadAnswers.{with_stub, load_writing, Loads}
-use Rattle.patch_commands.specs.ThreadsAnswers.{for_threads, thread_patching, threads_writing, PatchesThreads, reported_patching, reported_writing, PatchesReported}
+use Rattle.patch_commands.specs.ThreadsAnswers.{for_threads, for_threads_with_stub, thread_patching, threads_writing, PatchesThreads, reported_patching, reported_writing, PatchesReported, threads_loaded_writing, LoadsThreads}
 use Rattle.patch_commands.specs.UnpatchAnswers.{unpatch_writing}
 use Rattle.commands.specs.Reversal.{Unpatches}
 use Rattle.command_words.proofs.CommandForms.{known_of}
@@ -50,4 +50,7 @@ words_lost words (Threads n reserves) s k e =
 words_lost words (ThreadsReported n reserves) s k e =
     let p = reported_patching n reserves in
     lost (reported_writing p) (PatchesReported p) (form_ended for_threads p (known_of words (ThreadsReported n reserves) e)) s k
+words_lost words (ThreadsLoaded n reserves) s k e =
+    let p = reported_patching n reserves in
+    lost (threads_loaded_writing p) (LoadsThreads p) (form_ended for_threads_with_stub p (known_of words (ThreadsLoaded n reserves) e)) s k
 words_lost words (Unpatch n) s k e = lost (unpatch_writing n) (Unpatches n) (unpatch_ended n) s k

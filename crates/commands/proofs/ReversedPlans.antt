@@ -1,5 +1,5 @@
 -- What was planned for a file and written, in either form, is undone by its report.
-use Rattle.std.proofs.Common.{◌≡◌, ℕ, ◌+◌, ◌-◌, ◌<◌, ◌≤◌, true, false, cond, ◌&&◌, nat_le, nat_lt, List, [], ◌∷◌, length, map, flat_map, slice_index, Option, Some, None, option_map, refl, sym, ap, ◌∙◌, subst, arith, eqb-true}
+use Rattle.std.proofs.Common.{◌≡◌, ℕ, ◌+◌, ◌-◌, ◌^◌, ◌<◌, ◌≤◌, true, false, cond, ◌&&◌, nat_le, nat_lt, List, [], ◌∷◌, length, map, flat_map, slice_index, Option, Some, None, option_map, refl, sym, ap, ◌∙◌, subst, arith, eqb-true}
 use Rattle.std.specs.List.{AllByRecursion, count_by, list_any}
 use Rattle.std.proofs.lemmas.Bool.{le-ltb, true≢false}
 use Rattle.std.proofs.lemmas.Bool.Decides.{nat_tests}
@@ -8,12 +8,13 @@ use Rattle.pun_base.specs.Memory.{Cell}
 use Rattle.page_group.specs.Grouping.{GroupsState}
 use Rattle.elf_emit.specs.Job.{BytesAt}
 use Rattle.elf_emit.specs.Layout.{count, frame_of}
+use Rattle.elf_emit.specs.Frames as frames
 use Rattle.elf_emit.specs.Views as views
 use Rattle.elf_emit.proofs.PageRuns.{job_frame}
 use Rattle.elf_emit.proofs.FrameAcceptance.{frame_loads}
 use Rattle.elf_emit.specs.FrameLaws.{PairsByRecursion}
 use Rattle.elf_emit.proofs.StayingSegments.{all_map, all_both, or_false}
-use Rattle.patch_report.specs.Values.{WriteValue, RowValue, write_value, row_value, written}
+use Rattle.patch_report.specs.Values.{WriteValue, RowValue, ReportValue, write_value, row_value, written}
 use Rattle.patch_report.specs.Runs.{runs, runs_of, in_run}
 use Rattle.image_check.specs.Rules.{holds_byte}
 use Rattle.image_check.proofs.CountedElements.{count_cons, by_count}
@@ -23,10 +24,10 @@ use Rattle.site_turns.specs.PlannedState.{PlannedState}
 use Rattle.site_turns.specs.Laws.{SchemeLeads}
 use Rattle.site_turns.specs.Modes.{TurnRules, event_rules}
 use Rattle.site_turns.specs.Planning.{Request, Turns, AreTurnsUnder, IsPlanned, scene_under, end_under}
-use Rattle.site_turns.specs.PlanLaws.{IsAsked, job_for, writes_of, report_under, planned_report}
+use Rattle.site_turns.specs.PlanLaws.{IsAsked, AreGroups, CanBeWritten, job_for, writes_of, report_under, planned_report}
 use Rattle.site_turns.proofs.LoadedJobs.{five_lead}
 use Rattle.site_turns.proofs.RequestScene.{entries_are, folded}
-use Rattle.site_turns.proofs.PlannedJobs.{runs_are, planned_is_job}
+use Rattle.site_turns.proofs.PlannedJobs.{runs_are, planned_can_be_written, planned_is_job, writing_is_job}
 use Rattle.rewrite_core.specs.Asked.{request_of}
 use Rattle.rewrite_core.specs.Judging.{Job}
 use Rattle.rewrite_core.specs.Origins.{origin_of}
@@ -34,7 +35,8 @@ use Rattle.rewrite_core.specs.Rewrites.{file_of}
 use Rattle.rewrite_core.proofs.OneVerdict.{asked_of}
 use Rattle.loader_form.specs.Laid.{loader_frame}
 use Rattle.loader_form.proofs.LaidFile.{laid_frame}
-use Rattle.loader_form.specs.Lay.{laid_of}
+use Rattle.loader_form.specs.LoaderState.{LoaderState}
+use Rattle.loader_form.specs.Lay.{taken_after, run_count, IsLoader, laid_of}
 use Rattle.loader_form.proofs.LaidPages.{laid_for}
 use Rattle.unpatch.specs.Laws.{written_of, IsOver, RunsApart, Tells}
 use Rattle.commands.specs.Planned.{report_for, IsReversed, FrameIsReversed, PlannedIsTold, PlannedIsReversed, PlannedLoaderIsReversed, JudgedIsReversed}
@@ -117,13 +119,20 @@ planned_is_reversed q t p groups a h G size few =
     frame_is_reversed (frame_of j) (report_for q t groups) (job_frame j (planned_is_job q t p groups a h G size)) few
     (writes_are q t p groups h) (planned_is_told q t p groups a h)
 
+-- what can be written and was laid is undone by each report that tells the file and what is written
+pub loader_is_reversed : (q : Request) (p : PlannedState) (groups : GroupsState) (l : LoaderState) (report : ReportValue) → IsAsked q → CanBeWritten q p
+    → AreGroups p groups → length q.file < 2 ^ 63 → IsLoader (taken_after q.file q.reserves p) (run_count groups) l
+    → frames.count (loader_frame (job_for q p groups) (laid_of l)) ≤ 1024 → (job_for q p groups).writes ≡ map written_of (runs report.body)
+    → Tells q.file report → IsReversed q.file (frames.layout (loader_frame (job_for q p groups) (laid_of l))) report
+loader_is_reversed q p groups l report a can G size lay few w t =
+    let j = job_for q p groups in
+    frame_is_reversed (loader_frame j (laid_of l)) report (laid_frame j (laid_of l) (writing_is_job q p groups a can G size) (laid_for q p groups l G lay)) few w t
+
 -- and what `load` does
 pub planned_loader_is_reversed : PlannedLoaderIsReversed
 planned_loader_is_reversed q t p groups l a h G size lay few =
-    let j = job_for q p groups in
-    frame_is_reversed (loader_frame j (laid_of l)) (report_for q t groups)
-    (laid_frame j (laid_of l) (planned_is_job q t p groups a h G size) (laid_for q t p groups l a h G lay)) few
-    (writes_are q t p groups h) (planned_is_told q t p groups a h)
+    loader_is_reversed q p groups l (report_for q t groups) a (planned_can_be_written q t p a h) G size lay few (writes_are q t p groups h)
+    (planned_is_told q t p groups a h)
 
 -- so is the file of each job that an input is judged to be
 pub judged_is_reversed : JudgedIsReversed

@@ -2,10 +2,10 @@
 -- k and l what the sink shows.
 use Rattle.std.specs.Prelude.{◌≡◌, ℕ, ◌≤◌, ◌⊎◌}
 use Rattle.pun_base.specs.Shown.{DeskState, SinkState, Rose}
-use Rattle.command_words.specs.Words.{Command, Usage, Patch, Check, Step, Gen, Load, Threads, ThreadsReported, Unpatch}
+use Rattle.command_words.specs.Words.{Command, Usage, Patch, Check, Step, Gen, Load, Threads, ThreadsReported, ThreadsLoaded, Unpatch}
 use Rattle.patch_commands.specs.Answers.{IsUsage, Patches}
 use Rattle.patch_commands.specs.LoadAnswers.{Loads}
-use Rattle.patch_commands.specs.ThreadsAnswers.{thread_patching, PatchesThreads, reported_patching, PatchesReported}
+use Rattle.patch_commands.specs.ThreadsAnswers.{thread_patching, PatchesThreads, reported_patching, PatchesReported, LoadsThreads}
 use Rattle.command_io.specs.Verdict.{patching}
 use Rattle.inspect_commands.specs.CheckAnswers.{Checks}
 use Rattle.inspect_commands.specs.StepAnswers.{Steps}
@@ -24,6 +24,7 @@ IsLoad other = ⊥
 abbrev pub IsThreads : Command → Type 0
 IsThreads (Threads names reserves) = Unit {0}
 IsThreads (ThreadsReported names reserves) = Unit {0}
+IsThreads (ThreadsLoaded names reserves) = Unit {0}
 IsThreads other = ⊥
 
 abbrev pub IsCheck : Command → Type 0
@@ -61,3 +62,4 @@ Does (Unpatch names) s t k l status = Unpatches names s t k l status
 Does (Load names action reserves) s t k l status = Loads (patching names action reserves) s t k l status
 Does (Threads names reserves) s t k l status = PatchesThreads (thread_patching names reserves) s t k l status
 Does (ThreadsReported names reserves) s t k l status = PatchesReported (reported_patching names reserves) s t k l status
+Does (ThreadsLoaded names reserves) s t k l status = LoadsThreads (reported_patching names reserves) s t k l status

@@ -1,4 +1,4 @@
--- What was planned for a file and written, in either form or for threads, is undone by its report. Theorems cite it.
+-- What was planned for a file and written, in either form and for threads or not, is undone by its report. Theorems cite it.
 use Rattle.std.specs.Prelude.{◌≡◌, ℕ, ◌^◌, ◌<◌, ◌≤◌, List, length, map, None, Ok}
 use Rattle.elf_read.specs.Refusals.{refusal}
 use Rattle.page_group.specs.Grouping.{GroupsState}
@@ -17,6 +17,8 @@ use Rattle.rewrite_core.specs.Origins.{origin_of}
 use Rattle.rewrite_core.specs.Rewrites.{file_of}
 use Rattle.guest_threads.specs.ThreadRewriting as threads
 use Rattle.guest_threads.specs.ThreadRewriting.{ThreadJob}
+use Rattle.thread_loader.specs.Followed.{ThreadLoaderJob}
+use Rattle.thread_loader.specs.Rewriting as thread_loader
 use Rattle.loader_form.specs.LoaderState.{LoaderState}
 use Rattle.loader_form.specs.Laid.{loader_frame}
 use Rattle.loader_form.specs.Lay.{taken_after, run_count, IsLoader, laid_of}
@@ -67,3 +69,9 @@ abbrev pub JudgedThreadsAreReversed : Type 0
 JudgedThreadsAreReversed =
     (a : Asked) (job : ThreadJob) → IsInOrder a → length a.file < 2 ^ 63 → threads.Judges a (Ok job)
     → IsReversed a.file (layout job.emit) job.report
+
+-- So is each job for threads in the loader form.
+abbrev pub JudgedThreadLoadersAreReversed : Type 0
+JudgedThreadLoadersAreReversed =
+    (a : Asked) (job : ThreadLoaderJob) → IsInOrder a → length a.file < 2 ^ 63 → thread_loader.Judges a (Ok job)
+    → IsReversed a.file (thread_loader.file_of job) job.job.report

@@ -10,7 +10,7 @@ use Rattle.command_io.specs.Writing.{Accepted, Answers, DoneIfFaultless, Writes}
 use Rattle.command_io.specs.Verdict.{Patching, HoldsBytes}
 use Rattle.patch_commands.specs.Answers.{IsDone, Patches}
 use Rattle.patch_commands.specs.LoadAnswers.{Loads}
-use Rattle.patch_commands.specs.ThreadsAnswers.{PatchesReported}
+use Rattle.patch_commands.specs.ThreadsAnswers.{PatchesReported, LoadsThreads}
 use Rattle.command_io.specs.ReportModes.{IsModedText}
 use Rattle.command_io.specs.declared.report_mode.Mode.{Mode}
 use Rattle.command_io.specs.declared.report_mode.Mode.TheVariants.{Plain, Threaded}
@@ -60,3 +60,7 @@ LoadIsReversed = IsReversedAfter Plain Loads
 -- After `threads` with a report they do.
 abbrev pub ThreadsAreReversed : Type 0
 ThreadsAreReversed = IsReversedAfter Threaded PatchesReported
+
+-- After `threads` in the loader form they do.
+abbrev pub LoadedThreadsAreReversed : Type 0
+LoadedThreadsAreReversed = IsReversedAfter Threaded LoadsThreads

@@ -1,6 +1,6 @@
 //! Laws of files that were planned and written, and of what commands answer one after the other.
-ghost use Rattle.commands.specs.Planned.{FrameIsReversed, PlannedIsTold, PlannedIsReversed, PlannedLoaderIsReversed, JudgedIsReversed, JudgedThreadsAreReversed};
-ghost use Rattle.commands.specs.Reversal.{PatchIsReversed, LoadIsReversed, ThreadsAreReversed};
+ghost use Rattle.commands.specs.Planned.{FrameIsReversed, PlannedIsTold, PlannedIsReversed, PlannedLoaderIsReversed, JudgedIsReversed, JudgedThreadsAreReversed, JudgedThreadLoadersAreReversed};
+ghost use Rattle.commands.specs.Reversal.{PatchIsReversed, LoadIsReversed, ThreadsAreReversed, LoadedThreadsAreReversed};
 
 /// What is written for an original can be loaded, and a report that tells it undoes it, whatever follows the private
 /// range. The report of what was planned for a file tells it; so what is written for the plan, as a patched file or in the
@@ -17,9 +17,10 @@ pub fn judged_is_reversed()
     ensures { JudgedIsReversed }
 {}
 
-/// What is written for each job for threads that an input is judged to be is undone by its report.
+/// What is written for each job for threads that an input is judged to be is undone by its report, in either form.
 pub fn judged_threads_are_reversed()
-    ensures { JudgedThreadsAreReversed }
+    ensures plain { JudgedThreadsAreReversed }
+    ensures loader { JudgedThreadLoadersAreReversed }
 {}
 
 /// What a patch leaves under OUT and REPORT gives FILE back, where it is within the limit of a read.
@@ -34,5 +35,6 @@ pub fn load_is_reversed()
 
 /// What `threads` leaves under OUT and REPORT gives FILE back, where it is within the limit of a read.
 pub fn threads_are_reversed()
-    ensures { ThreadsAreReversed }
+    ensures plain { ThreadsAreReversed }
+    ensures loader { LoadedThreadsAreReversed }
 {}

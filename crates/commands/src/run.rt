@@ -64,6 +64,11 @@ pub fn run<D: Desk, K: Sink>(alloc: Global, words: &[String], desk: &mut D, out:
             threads_command::patch_reported(alloc, &names, &reserves, desk),
             out,
         ),
+        Ok(Command::ThreadsLoaded { names, reserves }) => tell(
+            alloc,
+            threads_command::patch_loaded(alloc, &names, &reserves, desk),
+            out,
+        ),
         Ok(Command::Unpatch(names)) => tell(alloc, unpatch_command::undo(alloc, &names, desk), out),
         Err(AllocError) => status::OUT_OF_MEMORY,
     }

@@ -1,5 +1,6 @@
 -- What a call of `rewrite_threads` or `rewrite_threads_reported` knows once the sites are planned, and what its answers then say.
 use Rattle.std.proofs.Common.{◌≡◌, ℕ, ◌^◌, ◌<◌, List, map, length, None, Result, Ok, Err, refl, sym, ap, ◌∙◌, subst, arith}
+use Rattle.pun_base.specs.Memory.{Bytes}
 use Rattle.pun_base.specs.Shown.{DeskState}
 use Rattle.pun_base.specs.Actions.{IsAction}
 use Rattle.pun_base.specs.declared.action.Action.TheVariants.{Count}
@@ -8,21 +9,20 @@ use Rattle.page_group.specs.Grouping.{GroupsState}
 use Rattle.elf_read.specs.Image.{image_of}
 use Rattle.elf_read.specs.Refusals.{refusal}
 use Rattle.elf_emit.specs.Layout.{layout}
-use Rattle.elf_emit.specs.Laws.{IsJob}
+use Rattle.elf_emit.specs.Laws.{IsJob, Shows}
 use Rattle.elf_emit.proofs.JobImages.{file_shows}
 use Rattle.elf_emit.proofs.StayingSegments.{all_map}
 use Rattle.patch_report.specs.declared.origin.Origin.{Origin}
 use Rattle.patch_report.specs.declared.origin.Version.TheVariants.{Two}
-use Rattle.patch_report.specs.Values.{ReportValue, row_value, written}
+use Rattle.patch_report.specs.Values.{ReportValue, body_of, row_value, written}
 use Rattle.patch_report.specs.Grammar.{OriginFits, IsBody, IsReport}
 use Rattle.start_entries.specs.declared.entry.StartEntry.{StartEntry}
 use Rattle.start_entries.specs.Entries.{entries_of}
 use Rattle.start_entries.specs.Refusals.{first_refusal}
 use Rattle.start_entries.specs.Laws.{IsBuilt}
-use Rattle.site_turns.specs.declared.error.TurnError.{TurnError}
 use Rattle.site_turns.specs.Modes.{thread_rules}
 use Rattle.site_turns.specs.PlannedState.{PlannedState}
-use Rattle.site_turns.specs.Planning.{Turns, IsRequestRefused}
+use Rattle.site_turns.specs.Planning.{Turns, scene_under, end_under}
 use Rattle.site_turns.specs.PlanLaws.{AreGroups, CanBeWritten, report_under}
 use Rattle.site_turns.proofs.PlannedJobs.{writing_is_job}
 use Rattle.site_turns.proofs.CodeEnds.{IsFitting}
@@ -33,11 +33,11 @@ use Rattle.rewrite_core.specs.declared.patching.Patch.{Patch}
 use Rattle.rewrite_core.specs.Origins.{origin_of}
 use Rattle.rewrite_core.specs.declared.rewrite.RewriteError.{RewriteError}
 use Rattle.rewrite_core.specs.declared.rewrite.RewriteError.TheVariants as rewrite
-use Rattle.rewrite_core.specs.Causes.{turn_error}
-use Rattle.rewrite_core.specs.Patching.{IsCallBy, IsPlaced, IsUnwritten, IsWritable, WritesPatch}
-use Rattle.rewrite_core.proofs.PlannedCalls.{request_with, told_of, planned_for, not_planned, unplanned, unwritten, untold}
+use Rattle.rewrite_core.specs.Patching.{IsCallBy, IsPlaced, IsUnwritten, IsWritable, PlansBy, WritesPatch}
+use Rattle.rewrite_core.proofs.PlannedCalls.{request_with, told_of, planned_for, unplanned, unwritten, untold}
 use Rattle.rewrite_core.proofs.WrittenPlans.{job_pages}
 use Rattle.guest_threads.specs.declared.rewriting.ThreadReport.{ThreadReport}
+use Rattle.guest_threads.specs.FromTurns.{IsThreaded}
 use Rattle.guest_threads.specs.ThreadCalls.{IsCountPlanned, IsWritten, WritesThreads}
 use Rattle.guest_threads.specs.ThreadPlanning.{IsThreadPlanned}
 use Rattle.guest_threads.specs.ThreadRewriting.{ThreadJob, job_of, IsThreadJobFor, writing_of, Judges, IsFollowedInThreads, IsRewritten, IsReported, RewritesThreads, ReportsThreads}
@@ -51,16 +51,14 @@ pub planned_threads : (a : Asked) (es : List StartEntry) (p : PlannedState) → 
 planned_threads a es p count o l r e n i x =
     planned_for IsCountPlanned a es p (subst IsAction (sym count) tt) o.few o.bytes l r e n i (x.0, record { count = count; planned = x.1 })
 
--- where a site is refused, or there is no private range, or memory ran out, that is the call's answer
-pub refused : (a : Asked) (es : List StartEntry) (name : List ℕ) (s : DeskState) (error : TurnError) → refusal 0x20000 a.file ≡ None
-    → es ≡ entries_of a.file a.starts → first_refusal a.file a.starts ≡ None → IsRequestRefused (request_with a a.file es) error
-    → RewritesThreads a name s s (Err (turn_error error))
-refused a es name s error r e n h =
-    unplanned IsThreadJobFor writing_of IsRewritten a name s s IsCountPlanned (turn_error error) refl (not_planned IsCountPlanned a es error r e n h)
+-- where nothing is planned, that is the call's answer
+pub refused : (a : Asked) (name : List ℕ) (s : DeskState) (error : RewriteError) → PlansBy IsCountPlanned a (Err error)
+    → RewritesThreads a name s s (Err error)
+refused a name s error x = unplanned IsThreadJobFor writing_of IsRewritten a name s s IsCountPlanned error refl x
 
 module _ (a : Asked) (t : Turns) (p : PlannedState) (call : IsCallBy IsCountPlanned a t p) where
   -- what was planned meets what writing asks
-  can_write : CanBeWritten (request_of a) p
+  pub can_write : CanBeWritten (request_of a) p
   can_write = let h = call.planned in plans.writable (request_of a) t p call.asked h.planned
 
   -- what was planned can be written
@@ -76,11 +74,11 @@ module _ (a : Asked) (t : Turns) (p : PlannedState) (call : IsCallBy IsCountPlan
   }
 
   -- the job of the plan, by its groups
-  abbrev job : GroupsState → ThreadJob
+  abbrev pub job : GroupsState → ThreadJob
   job groups = job_of (request_of a) t p groups
 
   -- it is the input's
-  is_job : (groups : GroupsState) → AreGroups p groups → IsThreadJobFor (request_of a) (job groups)
+  pub is_job : (groups : GroupsState) → AreGroups p groups → IsThreadJobFor (request_of a) (job groups)
   is_job groups g = let h = call.planned in
       record { turns = t; planned = p; groups = groups; is_planned = h.planned; are_groups = g; is = refl }
 
@@ -95,16 +93,39 @@ module _ (a : Asked) (t : Turns) (p : PlannedState) (call : IsCallBy IsCountPlan
   written_so name s u (Ok patch) x = record { turns = t; planned = p; call = call; patch_for = x.0; emitted = x.1 }
   written_so name s u (Err error) x = not_written name s u error x
 
+  -- What is known of the plan, by the groups of its code.
+  module _ (groups : GroupsState) (g : AreGroups p groups) where
+    -- what is written of its job is a job of writing
+    pub writes_job : IsJob (job groups).emit
+    writes_job = writing_is_job (request_of a) p groups call.asked can_write g call.size
+
+    -- what is told of the plan is the body of the job's report
+    pub told_plan : body_of Count p.private p.rows groups.homes ≡ report_under thread_rules (request_of a) t groups
+    told_plan i = record {
+      action = sym call.planned.count i;
+      private = ((call.planned.planned.turned.private i).lo, (call.planned.planned.turned.private i).hi);
+      rows = call.planned.planned.turned.rows i;
+      pages = groups.homes;
+    }
+
+    -- a report can tell it
+    pub plan_report : IsBody Two (body_of Count p.private p.rows groups.homes)
+    plan_report =
+        let pages = job_pages (request_of a) p groups writes_job in
+        subst (IsBody Two) (sym told_plan)
+        (turned_is_report thread_rules five_lead (request_of a) t groups.homes call.asked call.action
+        call.planned.planned.turned.turns call.planned.planned.turned.few pages.0 pages.1)
+
+    -- memory that shows the job is sound for threads, and followed
+    pub shown_threaded : (m : Bytes) → Shows (job groups).emit m
+        → IsThreaded (scene_under thread_rules (request_of a) t) (end_under thread_rules (request_of a) t) m (job groups).emit
+    shown_threaded m shown = threaded (request_of a) t p call.asked call.planned.planned groups call.planned.count writes_job m shown
+
 -- What is known of a patch that was written.
 module _ (a : Asked) (name : List ℕ) (s u : DeskState) (patch : Patch) (w : IsWritten a name s u patch) where
   -- its job
   abbrev written_job : ThreadJob
   written_job = job a w.turns w.planned w.call patch.groups
-
-  -- what is written of it is a job of writing
-  writes_job : IsJob written_job.emit
-  writes_job =
-      writing_is_job (request_of a) w.planned patch.groups w.call.asked (can_write a w.turns w.planned w.call) w.patch_for.groups w.call.size
 
   -- what was patched begins and ends where the turns' private range does
   same_range : extent_of patch.private ≡ w.turns.private
@@ -114,22 +135,17 @@ module _ (a : Asked) (name : List ℕ) (s u : DeskState) (patch : Patch) (w : Is
   same_rows : map row_value patch.rows.items ≡ written_job.rows
   same_rows = ap (map row_value) w.patch_for.rows ∙ w.call.planned.planned.turned.rows
 
-  -- what is told of the patch is the body of the job's report
+  -- what is told of the patch is what is told of the plan
+  same_told : told_of Count patch ≡ body_of Count w.planned.private w.planned.rows patch.groups.homes
+  same_told i = body_of Count (w.patch_for.private i) (w.patch_for.rows i) patch.groups.homes
+
+  -- which is the body of the job's report
   told : told_of Count patch ≡ report_under thread_rules (request_of a) w.turns patch.groups
-  told i = record {
-    action = sym w.call.planned.count i;
-    private = ((same_range i).lo, (same_range i).hi);
-    rows = same_rows i;
-    pages = patch.groups.homes;
-  }
+  told = same_told ∙ told_plan a w.turns w.planned w.call patch.groups w.patch_for.groups
 
   -- a report can tell it
   pub can_report : IsBody Two (told_of Count patch)
-  can_report =
-      let pages = job_pages (request_of a) w.planned patch.groups writes_job in
-      subst (IsBody Two) (sym told)
-      (turned_is_report thread_rules five_lead (request_of a) w.turns patch.groups.homes w.call.asked w.call.action
-      w.call.planned.planned.turned.turns w.call.planned.planned.turned.few pages.0 pages.1)
+  can_report = subst (IsBody Two) (sym same_told) (plan_report a w.turns w.planned w.call patch.groups w.patch_for.groups)
 
   -- the input is judged to be its job
   accepted : Judges a (Ok written_job)
@@ -138,8 +154,8 @@ module _ (a : Asked) (name : List ℕ) (s u : DeskState) (patch : Patch) (w : Is
   -- its file follows the original
   followed : IsFollowedInThreads a.file a.starts (layout written_job.emit) written_job.private written_job.rows
   followed =
-      let th = threaded (request_of a) w.turns w.planned w.call.asked w.call.planned.planned patch.groups w.call.planned.count writes_job
-      (image_of (layout written_job.emit)) (file_shows written_job.emit writes_job w.emitted.0) in
+      let th = shown_threaded a w.turns w.planned w.call patch.groups w.patch_for.groups (image_of (layout written_job.emit))
+      (file_shows written_job.emit (writes_job a w.turns w.planned w.call patch.groups w.patch_for.groups) w.emitted.0) in
       record { entry = th.entry w.emitted.0; sound = th.sound; followed = th.followed; out = th.out; followed_with = th.followed_with; out_with = th.out_with }
 
   -- a report of the private range and the rows is an answer of `rewrite_threads`

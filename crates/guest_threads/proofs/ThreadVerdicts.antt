@@ -52,14 +52,14 @@ planned_once q t u p r g h asked x y a b =
     }
 
 -- a request has one job at most
-job_once : (q : Request) (i j : ThreadJob) → IsAsked q → IsThreadJobFor q i → IsThreadJobFor q j → i ≡ j
+pub job_once : (q : Request) (i j : ThreadJob) → IsAsked q → IsThreadJobFor q i → IsThreadJobFor q j → i ≡ j
 job_once q i j asked x y =
     x.is
     ∙ planned_once q x.turns y.turns x.planned y.planned x.groups y.groups asked x.is_planned y.is_planned x.are_groups y.are_groups
     ∙ sym y.is
 
 -- a job has turns
-job_turned : (q : Request) (j : ThreadJob) → IsThreadJobFor q j → (t : Turns) × AreTurnsUnder thread_rules q t
+pub job_turned : (q : Request) (j : ThreadJob) → IsThreadJobFor q j → (t : Turns) × AreTurnsUnder thread_rules q t
 job_turned q j h = (h.turns, h.is_planned.turned.turns)
 
 -- of two verdicts the first is the second

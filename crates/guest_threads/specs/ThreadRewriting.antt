@@ -1,6 +1,7 @@
 -- What `rewrite_threads` and `rewrite_threads_reported` answer, and what they do to the desk. Theorems cite it.
 use Rattle.std.specs.Prelude.{◌≡◌, ℕ, List, map, Result, Ok}
 use Rattle.std.specs.List.{flat_map}
+use Rattle.pun_base.specs.Memory.{Bytes}
 use Rattle.pun_base.specs.Shown.{DeskState}
 use Rattle.pun_base.specs.Desk.{Fills}
 use Rattle.pun_base.specs.declared.action.Action.TheVariants.{Count}
@@ -71,17 +72,21 @@ file_of j = layout j.emit
 abbrev pub Judges : Asked → Result ThreadJob RewriteError → Type 0
 Judges a v = JudgesBy IsThreadJobFor writing_of a v
 
--- What was patched for threads: the images of the original and of a written file, the listed
+-- What was patched for threads: the images of the original and of the patched program, the listed
 -- entries of the starts, the sites of the rows, and the private range.
-abbrev pub threading_for : List ℕ → List ℕ → List ℕ → Extent → List RowValue → Threading
-threading_for file starts out private rows = record {
+abbrev pub threading_on : List ℕ → List ℕ → Bytes → Extent → List RowValue → Threading
+threading_on file starts patched private rows = record {
   original = image_of file;
-  patched = image_of out;
+  patched = patched;
   entry = entry_of file;
   listed = entries_of file starts;
   sites = flat_map (site_of (entries_of file starts)) (flat_map row_lines rows);
   private = private.lo;
 }
+
+-- The same, where the patched program is a written file.
+abbrev pub threading_for : List ℕ → List ℕ → List ℕ → Extent → List RowValue → Threading
+threading_for file starts out private rows = threading_on file starts (image_of out) private rows
 
 -- The written file follows the original, for threads.
 pub record IsFollowedInThreads (file starts patched : List ℕ) (private : Extent) (rows : List RowValue) : Type 0 where

@@ -1,6 +1,6 @@
 //! Files that are patched for guests of several threads.
 //!
-//! Stands on `rewrite_core`, `site_turns` and `thread_runs`; `thread_check` and `patch_commands` stand on it.
+//! Stands on `rewrite_core`, `site_turns` and `thread_runs`; `thread_loader`, `thread_check` and `patch_commands` stand on it.
 #![tactic(auto)]
 
 pub mod laws;

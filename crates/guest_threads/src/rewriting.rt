@@ -6,7 +6,8 @@ ghost use Rattle.pun_base.specs.declared.action.Action.TheVariants.{Count};
 ghost use Rattle.pun_base.specs.Limits.{most_sites};
 ghost use Rattle.elf_read.specs.Refusals.{refusal};
 ghost use Rattle.rewrite_core.specs.Asked.{IsInOrder};
-ghost use Rattle.guest_threads.specs.ThreadCalls.{counting, WritesThreads};
+ghost use Rattle.rewrite_core.specs.Patching.{PlansBy};
+ghost use Rattle.guest_threads.specs.ThreadCalls.{counting, IsCountPlanned, WritesThreads};
 ghost use Rattle.guest_threads.specs.ThreadRewriting.{RewritesThreads, ReportsThreads};
 
 use crate::planning::plan_threads;
@@ -19,6 +20,7 @@ use pun_base::range::Range;
 use rewrite_core::original::origin_of;
 use rewrite_core::patching::Patch;
 use rewrite_core::rewrite::write_patch;
+use site_turns::planned::Planned;
 use start_entries::starts::Starts;
 use std::alloc::Global;
 
@@ -36,8 +38,27 @@ pub struct ThreadReport {
     pub rows: ReportRows,
 }
 
-/// Builds the starts of a file that was read, plans each site, writes the file of the plan, and
-/// answers its patch.
+/// Builds the starts of a file that was read, and plans each site for a guest of several threads,
+/// where each event counts.
+pub fn plan_thread_file(
+    alloc: Global,
+    elf: &Elf<'_>,
+    starts: &[u32],
+    sites: &[u32],
+    reserves: &[Range],
+) -> Result<Planned, ThreadError>
+    requires order { IsInOrder (counting elf.now.bytes starts.now sites.now reserves.now) }
+    requires size { length elf.now.bytes < 2 ^ 63 }
+    requires accepted { refusal 0x20000 elf.now.bytes ≡ None }
+    ensures { PlansBy IsCountPlanned
+        (counting elf.now.bytes starts.now sites.now reserves.now) result }
+{
+    let listed = Starts::build(alloc, elf, starts)?;
+    let planned = plan_threads(alloc, elf, &listed, sites, reserves)?;
+    Ok(planned)
+}
+
+/// Plans each site of a file that was read, writes the file of the plan, and answers its patch.
 fn write_threads<D: Desk>(
     alloc: Global,
     elf: &Elf<'_>,
@@ -55,9 +76,7 @@ fn write_threads<D: Desk>(
         name.now (D.seen desk.old) (D.seen desk.new) result }
     ensures stays { Stays (D.seen desk.old) (D.seen desk.new) }
 {
-    let listed = Starts::build(alloc, elf, starts)?;
-    let planned = plan_threads(alloc, elf, &listed, sites, reserves)?;
-    drop(listed);
+    let planned = plan_thread_file(alloc, elf, starts, sites, reserves)?;
     write_patch(alloc, elf, planned, name, desk)
 }
 

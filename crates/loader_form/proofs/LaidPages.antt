@@ -25,7 +25,7 @@ use Rattle.elf_emit.proofs.JobConditions.{all_contained}
 use Rattle.site_turns.specs.PlannedState.{PlannedState}
 use Rattle.site_turns.specs.PrivateRange as turns
 use Rattle.site_turns.specs.States.{is_in, is_taken}
-use Rattle.site_turns.specs.Planning.{Request, Turns, taken_at_first}
+use Rattle.site_turns.specs.Planning.{Request, taken_at_first}
 use Rattle.site_turns.specs.PlanLaws.{job_for, AreGroups}
 use Rattle.site_turns.proofs.CodePages.{loaded_taken, taken_left, nothing}
 use Rattle.site_turns.proofs.LeadingPlans.{free_untaken}
@@ -53,7 +53,7 @@ all_homes : (P : ℕ → Type 0) (homes : List (ℕ × ℕ)) → AllByRecursion 
 all_homes P [] h = tt
 all_homes P (x ∷ xs) h = (h.0, all_homes P xs h.1)
 
-module _ (q : Request) (t : Turns) (p : PlannedState) (groups : GroupsState) (G : AreGroups p groups) where
+module _ (q : Request) (p : PlannedState) (groups : GroupsState) (G : AreGroups p groups) where
   abbrev j : Job
   j = job_for q p groups
 
@@ -142,7 +142,7 @@ module _ (q : Request) (t : Turns) (p : PlannedState) (groups : GroupsState) (G 
 
 -- stub and save page laid at the least free pages after the turns meet nothing of the job
 pub laid_for : LaidForIsLaid
-laid_for q t p groups l a k G h = is_laid q t p groups G l h
+laid_for q p groups l G h = is_laid q p groups G l h
 
 -- the code of what was planned has bytes, and ends among addresses of 32 bits
 pub planned_ends_low : PlannedEndsLow

@@ -29,7 +29,7 @@ use Rattle.elf_emit.proofs.JobConditions.{few_pages}
 use Rattle.site_turns.specs.PlannedState.{PlannedState}
 use Rattle.site_turns.specs.Planning.{Request}
 use Rattle.site_turns.specs.PlanLaws.{writes_of}
-use Rattle.site_turns.proofs.PlannedJobs.{planned_is_job}
+use Rattle.site_turns.proofs.PlannedJobs.{writing_is_job}
 use Rattle.loader_form.specs.Stub.{Stub}
 use Rattle.loader_form.specs.LoaderState.{LoaderState}
 use Rattle.loader_form.specs.Laid.{Laid, stub_part, save_part, bare_frame, run_of, RecordFits, stub_of, stub_bytes, stub_pages, loader_frame, IsLaid, LaidLoads}
@@ -55,11 +55,11 @@ module _ {file : List ℕ} {p : PlannedState} {groups : GroupsState} {l : Loader
   -- what is to be loaded is a job
   pub is_job : IsJob j
   is_job = subst (λ (z : List ℕ). IsJob (load_job z p groups)) w.file_is
-      (planned_is_job q w.turns p groups w.asked w.planned w.groups_are (subst (λ (z : List ℕ). length z < 2 ^ 63) (sym w.file_is) size))
+      (writing_is_job q p groups w.asked w.can w.groups_are (subst (λ (z : List ℕ). length z < 2 ^ 63) (sym w.file_is) size))
 
   -- stub and save page are laid for that job
   pub is_laid : IsLaid j d
-  is_laid = subst (λ (z : List ℕ). IsLaid (load_job z p groups) d) w.file_is (laid_for q w.turns p groups l w.asked w.planned w.groups_are w.laid)
+  is_laid = subst (λ (z : List ℕ). IsLaid (load_job z p groups) d) w.file_is (laid_for q p groups l w.groups_are w.laid)
 
   -- the file of the loader form keeps the conditions of a written file
   pub is_frame : IsFrame (loader_frame j d)

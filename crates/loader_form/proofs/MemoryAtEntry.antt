@@ -7,12 +7,15 @@ use Rattle.cpu_state.specs.Bytes.{allows}
 use Rattle.cpu_state.specs.Processor.{IsProcessorCore, GiveWords}
 use Rattle.insn_form.specs.Machine.{Machine}
 use Rattle.insn_form.specs.Processor.{IsProcessorState}
+use Rattle.insn_form.specs.Step.{Step}
 use Rattle.image_step.specs.Quiet.{IsStartPair}
+use Rattle.image_check.specs.Rewriting.{Rewriting}
+use Rattle.image_check.specs.Headline.{Headline}
 use Rattle.loader_form.specs.Stub.{Run, Stub}
 use Rattle.loader_form.specs.Kernel.{mapped, last_state, last_number}
 use Rattle.loader_form.specs.Starting.{IsStart}
 use Rattle.loader_form.specs.Running.{all_mapped, End, IsAtEntry, EndsSo}
-use Rattle.loader_form.specs.Continuing.{nothing, pages_of, whole_image, HasParts, or_not, beside, original_start, PairsAtEntry, KeepsFurther, LoaderIsFollowed}
+use Rattle.loader_form.specs.Continuing.{nothing, pages_of, whole_image, HasParts, or_not, beside, original_start, IsLedOn, GoesOn, PairsAtEntry, KeepsFurther, LoaderLeadsOn, LoaderIsFollowed}
 use Rattle.loader_form.proofs.StubLengths.{side}
 use Rattle.loader_form.proofs.EndsByReplies.{ends_at_entry}
 use Rattle.loader_form.proofs.WholeStubRuns.{stub_runs}
@@ -129,21 +132,39 @@ pairs_at_entry file b original base rest further s t st sized h e = pair file b 
 pub keeps_further : KeepsFurther
 keeps_further file b original base rest further s t h e x o p q r = further_same file b original base rest further s t h e x o p q r
 
--- where no open and no mmap fails, the headline of a followed image holds from the stub's last state on
-pub loader_followed : LoaderIsFollowed
-loader_followed file b base rest further r s replies st sized h same entry head ok long given =
+-- where no open and no mmap fails, the stub leads to a start pair
+pub loader_leads : LoaderLeadsOn
+loader_leads file b original base rest further s replies st sized h ok long given =
     let o = stub_runs file b s replies st ok in
     let e = ends_at_entry (length b.runs) replies long given in
     let t = last_state s o.moves in
     let there : IsAtEntry file b s t = subst (λ (z : End). EndsSo file b s z (last_number None o.moves) t) e o.end in
-    let p0 = pairs_at_entry file b r.original base rest further s t st sized h there in
-    let p1 = subst (λ (z : Bytes). IsStartPair r.original z b.entry (original_start file b r.original base t) t) (sym same) p0 in
-    let p = subst (λ (z : ℕ). IsStartPair r.original r.patched z (original_start file b r.original base t) t) (sym entry) p1 in
     record {
       moves = o.moves;
       run = o.run;
       few = o.few;
       reaches = there;
-      pair = p;
-      follows = λ ts q. head (original_start file b r.original base t) t p ts q;
+      on = pairs_at_entry file b original base rest further s t st sized h there;
     }
+
+-- what follows from what holds at the entry holds there
+pub led_with : (file : List ℕ) (b : Stub) (original base : Bytes) (P Q : Machine → Machine → Type 0) (s : Machine)
+    → ((a u : Machine) → P a u → Q a u) → IsLedOn file b original base P s → IsLedOn file b original base Q s
+led_with file b original base P Q s f h =
+    let t = last_state s h.moves in
+    record { moves = h.moves; run = h.run; few = h.few; reaches = h.reaches; on = f (original_start file b original base t) t h.on }
+
+-- from a start pair the headline holds
+pub goes_on : (r : Rewriting) (image : Bytes) (entry : ℕ) → r.patched ≡ image → r.entry ≡ entry → Headline Step r
+    → (a u : Machine) → IsStartPair r.original image entry a u → GoesOn r a u
+goes_on r image entry same there head a u p0 =
+    let p1 = subst (λ (z : Bytes). IsStartPair r.original z entry a u) (sym same) p0 in
+    let p = subst (λ (z : ℕ). IsStartPair r.original r.patched z a u) (sym there) p1 in
+    record { pair = p; follows = λ is q. head a u p is q }
+
+-- where no open and no mmap fails, the headline of a followed image holds from the stub's last state on
+pub loader_followed : LoaderIsFollowed
+loader_followed file b base rest further r s replies st sized h same entry head ok long given =
+    led_with file b r.original base (IsStartPair r.original (whole_image file b base) b.entry) (GoesOn r) s
+    (goes_on r (whole_image file b base) b.entry same entry head)
+    (loader_leads file b r.original base rest further s replies st sized h ok long given)

@@ -10,6 +10,7 @@ use Rattle.std.proofs.lemmas.List.{length-map}
 use Rattle.pun_base.specs.Memory.{Cell, Bytes, or_else, joined}
 use Rattle.pun_base.specs.Ranges.{is_within}
 use Rattle.insn_form.specs.Machine.{Machine}
+use Rattle.elf_read.specs.Entries.{entry_of}
 use Rattle.elf_read.specs.Image.{cell_in, image, image_of}
 use Rattle.elf_read.proofs.FileSlices.{slice_within}
 use Rattle.elf_emit.specs.declared.runs.Page.{Page}
@@ -27,18 +28,21 @@ use Rattle.elf_emit.proofs.JobImageParts.{old_low, no_pages}
 use Rattle.elf_emit.proofs.PageRuns.{RunsAscend, runs_pairs, job_runs}
 use Rattle.elf_emit.proofs.GroupPages.{slice_at, run_chunk, pages_shown, length_group_pages, any_elim}
 use Rattle.scheme_search.proofs.OneJumpBytes.{within_true, within_false}
+use Rattle.image_step.specs.Quiet.{IsStartPair}
 use Rattle.image_step.proofs.MemorySoFar.{else_none}
 use Rattle.loader_form.specs.Kernel.{mapped}
 use Rattle.loader_form.specs.Running.{all_mapped, AreGiven}
-use Rattle.loader_form.specs.Continuing.{nothing, pages_of, whole_image, HasParts}
+use Rattle.loader_form.specs.Continuing.{nothing, pages_of, whole_image, HasParts, IsLedOn, GoesOn}
 use Rattle.loader_form.specs.Laid.{Laid, stub_part, save_part, bare_frame, run_of, stub_of, stub_pages, loader_frame, file_of, IsLaid}
 use Rattle.loader_form.specs.Starting.{AreFree, IsLaidStart, LaidStarts}
-use Rattle.loader_form.specs.Parting.{base_of, rest_of, RunsShowPages, LaidHasParts, LoaderFormIsFollowed}
+use Rattle.loader_form.specs.Parting.{base_of, rest_of, RunsShowPages, LaidHasParts, LeadsOn, LoaderFormLeadsOn, LoaderFormIsFollowed}
 use Rattle.loader_form.proofs.StubLengths.{side}
-use Rattle.loader_form.proofs.MemoryAtEntry.{all_parts, loader_followed}
+use Rattle.loader_form.proofs.MemoryAtEntry.{all_parts, loader_leads, led_with, goes_on}
 use Rattle.loader_form.proofs.LaidFile.{laid_frame, loader_loads}
 use Rattle.loader_form.proofs.LoadedBytes.{mapped_outside}
 use Rattle.loader_form.proofs.StartMemory.{starts, no_table, no_private}
+use Rattle.loader_form.proofs.StubFailures.{stub_stops}
+use Rattle.loader_form.proofs.WholeStubRuns.{stub_runs}
 
 -- an address in a range, or not
 split_within : (lo n x : ℕ) → ((lo ≤ x) × (x < lo + n)) ⊎ (is_within lo n x ≡ false)
@@ -297,12 +301,38 @@ laid_parts j l further s h k few st = has_parts j l h k few further s st
 pub laid_starts : LaidStarts
 laid_starts j l further s h k few e st = starts j l further s h k few st e (all_free j l h k few further s st)
 
--- where no open and no mmap fails, the stub leads to the original's entry, and from there the headline holds
-pub loader_form_followed : LoaderFormIsFollowed
-loader_form_followed j l further r s replies h k few low st same patched entry head ok long given =
+-- each start state of the loader form's file leads to a start pair of the original and the image without a table
+pub loader_form_leads : LoaderFormLeadsOn
+loader_form_leads j l further s h k few low st =
     let n : length (stub_of j l).runs ≡ length (runs_of j.pages) = length-map (runs_of j.pages) (run_of (frames.pages_at (bare_frame j l))) in
     let start = laid_starts j l further s h k few low st in
-    let p = subst (λ (z : Bytes). HasParts (file_of j l) (stub_of j l) z (base_of j l) (rest_of j l) further s) (sym same) (laid_parts j l further s h k few st) in
+    let parts = laid_parts j l further s h k few st in
     let whole : bare_image j ≡ whole_image (file_of j l) (stub_of j l) (base_of j l) = fun_ext (λ x. bare_is j l h k few x) in
-    loader_followed (file_of j l) (stub_of j l) (base_of j l) (rest_of j l) further r s replies start st.processor p (patched ∙ whole) entry head ok
-    (omega (arith, n, long)) (subst (λ (z : ℕ). AreGiven (take (z + 1) replies)) (sym n) given)
+    record {
+      ends = λ replies ok. stub_runs (file_of j l) (stub_of j l) s replies start ok;
+      stops = λ given e y ok good short fails. stub_stops (file_of j l) (stub_of j l) s given e y start ok good (omega (arith, n, short)) fails;
+      follows = λ replies ok long given.
+          led_with (file_of j l) (stub_of j l) (image_of j.orig) (base_of j l)
+          (IsStartPair (image_of j.orig) (whole_image (file_of j l) (stub_of j l) (base_of j l)) (entry_of j.orig))
+          (IsStartPair (image_of j.orig) (bare_image j) (entry_of j.orig)) s
+          (λ a u p. subst (λ (z : Bytes). IsStartPair (image_of j.orig) z (entry_of j.orig) a u) (sym whole) p)
+          (loader_leads (file_of j l) (stub_of j l) (image_of j.orig) (base_of j l) (rest_of j l) further s replies start st.processor parts ok
+          (omega (arith, n, long)) (subst (λ (z : ℕ). AreGiven (take (z + 1) replies)) (sym n) given));
+    }
+
+-- what follows from what holds at the entry is that to which a start state leads
+pub leads_with : (j : Job) (l : Laid) (runs : ℕ) (original : Bytes) (P Q : Machine → Machine → Type 0) (s : Machine)
+    → ((a u : Machine) → P a u → Q a u) → LeadsOn j l runs original P s → LeadsOn j l runs original Q s
+leads_with j l runs original P Q s f h = record {
+  ends = h.ends;
+  stops = h.stops;
+  follows = λ replies ok long given. led_with (file_of j l) (stub_of j l) original (base_of j l) P Q s f (h.follows replies ok long given);
+}
+
+-- where no open and no mmap fails, the headline of an image without a table holds from the stub's last state on
+pub loader_form_followed : LoaderFormIsFollowed
+loader_form_followed j l further r s replies h k few low st same patched entry head ok long given =
+    let led = (loader_form_leads j l further s h k few low st).follows replies ok long given in
+    led_with (file_of j l) (stub_of j l) r.original (base_of j l) (IsStartPair r.original (bare_image j) (entry_of j.orig)) (GoesOn r) s
+    (goes_on r (bare_image j) (entry_of j.orig) patched entry head)
+    (subst (λ (z : Bytes). IsLedOn (file_of j l) (stub_of j l) z (base_of j l) (IsStartPair z (bare_image j) (entry_of j.orig)) s) (sym same) led)

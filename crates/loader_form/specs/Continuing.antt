@@ -1,4 +1,4 @@
--- The original's headline from the stub's last state on: the parts of memory there, and the theorems. Theorems cite it.
+-- To what the stub leads: the parts of memory at its last state, the start pair there, and the original's headline from there on. Theorems cite it.
 use Rattle.std.specs.Prelude.{◌≡◌, ◌⊎◌, ℕ, ◌+◌, ◌*◌, ◌<◌, ◌≤◌, List, length, take, Option, Some, None}
 use Rattle.pun_base.specs.Memory.{Cell, Bytes, joined}
 use Rattle.insn_form.specs.Machine.{Machine}
@@ -63,16 +63,32 @@ KeepsFurther =
     → IsAtEntry file b s t → (x : ℕ) → (x < b.save) ⊎ (b.save + 4096 ≤ x) → base x ≡ None → rest x ≡ None → pages_of file b x ≡ None
     → t.mem x ≡ further x
 
--- What a run of the stub leads to: to the entry, in so many steps at most, and from there the headline holds.
-pub record IsFollowedBy (file : List ℕ) (b : Stub) (base : Bytes) (r : Rewriting) (s : Machine) : Type 0 where
+-- What a run of the stub leads to: to the entry, in so many steps at most, where P holds of the original as it starts beside the stub's last
+-- state, and of that state.
+pub record IsLedOn (file : List ℕ) (b : Stub) (original base : Bytes) (P : Machine → Machine → Type 0) (s : Machine) : Type 0 where
   pub moves : List Move
   pub run : IsRunWith file None s moves
   pub few : length moves ≤ 36 + 12 * length b.runs
   pub reaches : IsAtEntry file b s (last_state s moves)
-  pub pair : IsStartPair r.original r.patched r.entry (original_start file b r.original base (last_state s moves)) (last_state s moves)
-  pub follows : (is : List Item) → IsQuietWith Step r.listed (original_start file b r.original base (last_state s moves)) is
-      → (us : List Item) × FollowsWith Step r (original_start file b r.original base (last_state s moves)) is (last_state s moves) us
-      × BeforeWith Step r (original_start file b r.original base (last_state s moves)) is (end_of (last_state s moves) us)
+  pub on : P (original_start file b original base (last_state s moves)) (last_state s moves)
+
+-- Where no open and no mmap fails, and each call has a reply, the stub leads to a start pair of the original and the sound image.
+abbrev pub LoaderLeadsOn : Type 0
+LoaderLeadsOn =
+    (file : List ℕ) (b : Stub) (original base rest further : Bytes) (s : Machine) (replies : List Reply)
+    → IsStart file b s → IsProcessorState s → HasParts file b original base rest further s
+    → AreReplies replies → length b.runs + 2 ≤ length replies → AreGiven (take (length b.runs + 1) replies)
+    → IsLedOn file b original base (IsStartPair original (whole_image file b base) b.entry) s
+
+-- Two states are a start pair, from which the headline holds.
+pub record GoesOn (r : Rewriting) (s u : Machine) : Type 0 where
+  pub pair : IsStartPair r.original r.patched r.entry s u
+  pub follows : (is : List Item) → IsQuietWith Step r.listed s is
+      → (us : List Item) × FollowsWith Step r s is u us × BeforeWith Step r s is (end_of u us)
+
+-- A run of the stub leads to the entry, and from there the headline holds.
+abbrev pub IsFollowedBy : List ℕ → Stub → Bytes → Rewriting → Machine → Type 0
+IsFollowedBy file b base r s = IsLedOn file b r.original base (GoesOn r) s
 
 -- Where no open and no mmap fails, and each call has a reply, the headline of an image that follows
 -- the original holds from the stub's last state on.

@@ -78,8 +78,8 @@ laid_of l = record { at = l.stub.lo; pages = stub_count l.runs; save = l.save.lo
 abbrev pub PlannedEndsLow : Type 0
 PlannedEndsLow = (q : Request) (t : Turns) (p : PlannedState) → IsAsked q → IsPlanned q t p → AllByRecursion EndsLow p.built
 
--- The stub's pages and the save page, laid at the least free pages after the turns, meet nothing.
+-- The stub's pages and the save page, laid at the least free pages after the turns, meet nothing, whatever was planned.
 abbrev pub LaidForIsLaid : Type 0
 LaidForIsLaid =
-    (q : Request) (t : Turns) (p : PlannedState) (groups : GroupsState) (l : LoaderState) → IsAsked q → IsPlanned q t p
-    → AreGroups p groups → IsLoader (taken_after q.file q.reserves p) (run_count groups) l → IsLaid (job_for q p groups) (laid_of l)
+    (q : Request) (p : PlannedState) (groups : GroupsState) (l : LoaderState) → AreGroups p groups
+    → IsLoader (taken_after q.file q.reserves p) (run_count groups) l → IsLaid (job_for q p groups) (laid_of l)

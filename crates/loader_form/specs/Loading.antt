@@ -1,11 +1,11 @@
--- What `emit_loader` requires: that its plan was made for the file, and the stub laid for the plan. Theorems cite it.
+-- What `emit_loader` requires: that its plan can be written of the file, and that the stub was laid for the plan. Theorems cite it.
 use Rattle.std.specs.Prelude.{◌≡◌, ℕ, List}
 use Rattle.page_group.specs.Grouping.{GroupsState}
 use Rattle.elf_emit.specs.Emits.{emit_job}
 use Rattle.elf_emit.specs.Job.{Job}
 use Rattle.site_turns.specs.PlannedState.{PlannedState}
-use Rattle.site_turns.specs.Planning.{Request, Turns, IsPlanned}
-use Rattle.site_turns.specs.PlanLaws.{IsAsked, writes_of, AreGroups}
+use Rattle.site_turns.specs.Planning.{Request}
+use Rattle.site_turns.specs.PlanLaws.{IsAsked, CanBeWritten, writes_of, AreGroups}
 use Rattle.loader_form.specs.LoaderState.{LoaderState}
 use Rattle.loader_form.specs.Lay.{taken_after, run_count, IsLoader}
 
@@ -13,12 +13,11 @@ use Rattle.loader_form.specs.Lay.{taken_after, run_count, IsLoader}
 abbrev pub load_job : List ℕ → PlannedState → GroupsState → Job
 load_job file p groups = emit_job file (writes_of p.rows) p.built groups p.private.lo p.private.hi
 
--- p was planned of the request with the file, the groups are those of its code, and the stub was
+-- p can be written of the request with the file, the groups are those of its code, and the stub was
 -- laid for them.
 pub record IsLoading (file : List ℕ) (p : PlannedState) (groups : GroupsState) (l : LoaderState) (q : Request) : Type 0 where
   pub file_is : q.file ≡ file
-  pub turns : Turns
   pub asked : IsAsked q
-  pub planned : IsPlanned q turns p
+  pub can : CanBeWritten q p
   pub groups_are : AreGroups p groups
   pub laid : IsLoader (taken_after q.file q.reserves p) (run_count groups) l

@@ -1,5 +1,5 @@
 -- The theorem of the loader form, for what was planned and laid: no soundness and no disjointness is assumed. Theorems cite it.
-use Rattle.std.specs.Prelude.{ℕ, ◌+◌, ◌^◌, ◌<◌, ◌≤◌, List, [], ◌∷◌, ◌++◌, length, take}
+use Rattle.std.specs.Prelude.{ℕ, ◌^◌, ◌<◌, ◌≤◌, length}
 use Rattle.pun_base.specs.Actions.{IsAction}
 use Rattle.pun_base.specs.Memory.{Bytes}
 use Rattle.insn_form.specs.Machine.{Machine}
@@ -12,28 +12,17 @@ use Rattle.image_check.specs.Soundness.{rewriting_of}
 use Rattle.site_turns.specs.PlannedState.{PlannedState}
 use Rattle.site_turns.specs.Planning.{Request, Turns, IsPlanned}
 use Rattle.site_turns.specs.PlanLaws.{IsAsked, job_for, AreGroups, shown_case, IsShownWell}
-use Rattle.loader_form.specs.declared.kernel.MapAnswer.TheVariants as answer
 use Rattle.loader_form.specs.LoaderState.{LoaderState}
-use Rattle.loader_form.specs.Laid.{Laid, stub_of, loader_frame, file_of}
+use Rattle.loader_form.specs.Laid.{Laid, loader_frame}
 use Rattle.loader_form.specs.Lay.{taken_after, run_count, IsLoader, laid_of}
 use Rattle.loader_form.specs.Starting.{IsLaidStart}
-use Rattle.loader_form.specs.Kernel.{Reply, IsAnswer, AreReplies}
-use Rattle.loader_form.specs.Running.{AreGiven, Ends, Stops}
-use Rattle.loader_form.specs.Continuing.{IsFollowedBy}
-use Rattle.loader_form.specs.Parting.{base_of}
+use Rattle.loader_form.specs.Continuing.{GoesOn}
+use Rattle.loader_form.specs.Parting.{LeadsOn}
 
--- What a start state of a job's loader form leads to, where the stub maps this number of runs.
-pub record Leads (j : Job) (l : Laid) (runs : ℕ) (r : Rewriting) (s : Machine) : Type 0 where
-  -- whatever the kernel replies, the stub runs to the original's entry, to the exit, or to a call that has no reply
-  pub ends : (replies : List Reply) → AreReplies replies → Ends (file_of j l) (stub_of j l) s replies
-  -- where open or mmap fails, the stub's next call ends the program, and the run never comes to the
-  -- original's entry
-  pub stops : (given : List Reply) (e y : ℕ) → AreReplies given → AreGiven given → length given ≤ runs → IsAnswer (answer.Failed e)
-      → Stops (file_of j l) (stub_of j l) s (given ++ record { answer = answer.Failed e; r11 = y } ∷ [])
-  -- where neither fails, and each call has a reply, the run comes to the original's entry, and from
-  -- there the headline holds
-  pub follows : (replies : List Reply) → AreReplies replies → runs + 2 ≤ length replies → AreGiven (take (runs + 1) replies)
-      → IsFollowedBy (file_of j l) (stub_of j l) (base_of j l) r s
+-- What a start state of a job's loader form leads to, where the stub maps this number of runs: to the original's entry, from where the headline
+-- holds, or to the program's end.
+abbrev pub Leads : Job → Laid → ℕ → Rewriting → Machine → Type 0
+Leads j l runs r s = LeadsOn j l runs r.original (GoesOn r) s
 
 -- The written file of the loader form does what the original does. Its memory after the stub,
 -- without table, stub and save page, is sound, and each state that has the file's image and further

@@ -8,8 +8,8 @@ ghost use Rattle.loader_form.specs.Mapped.{RecordsNamePages, MappedIsShownWell};
 ghost use Rattle.loader_form.specs.Kernel.{HasOneStepWith, CallsAreReplied, RunsAreOne};
 ghost use Rattle.loader_form.specs.Running.{StubRuns, StubStops, EndsAtEntry, NeverWaits, EndsAtExit};
 ghost use Rattle.loader_form.specs.Answers.{StubIsTold};
-ghost use Rattle.loader_form.specs.Continuing.{PairsAtEntry, KeepsFurther, LoaderIsFollowed};
-ghost use Rattle.loader_form.specs.Parting.{RunsShowPages, LaidHasParts, LoaderFormIsFollowed};
+ghost use Rattle.loader_form.specs.Continuing.{PairsAtEntry, KeepsFurther, LoaderLeadsOn, LoaderIsFollowed};
+ghost use Rattle.loader_form.specs.Parting.{RunsShowPages, LaidHasParts, LoaderFormLeadsOn, LoaderFormIsFollowed};
 ghost use Rattle.loader_form.specs.Planned.{PlannedLoaderIsFollowed};
 
 /// The stub's code has 276 bytes.
@@ -87,18 +87,20 @@ pub fn stub_is_told()
     ensures { StubIsTold }
 {}
 
-/// Where no open and no mmap fails, the stub leads to a state from which the headline of the sound image holds.
+/// Where no open and no mmap fails, the stub leads to a start pair, from which the headline of the sound image holds.
 pub fn loader_is_followed()
     ensures pairs { PairsAtEntry }
     ensures further { KeepsFurther }
+    ensures leads { LoaderLeadsOn }
     ensures followed { LoaderIsFollowed }
 {}
 
-/// For a job, whose pages for code the runs show, the stub leads to a state from which the headline
+/// For a job, whose pages for code the runs show, the stub leads to a start pair, from which the headline
 /// of the sound image holds, where no open and no mmap fails.
 pub fn loader_form_is_followed()
     ensures pages { RunsShowPages }
     ensures parts { LaidHasParts }
+    ensures leads { LoaderFormLeadsOn }
     ensures followed { LoaderFormIsFollowed }
 {}
 

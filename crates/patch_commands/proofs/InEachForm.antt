@@ -2,38 +2,33 @@
 use Rattle.std.proofs.Common.{◌≡◌, ℕ, ◌<◌, inl, inr, List, map, slice_index, Result, Ok, Err, refl, sym, subst}
 use Rattle.pun_base.specs.Shown.{DeskState}
 use Rattle.pun_base.specs.Desk.{Fills}
-use Rattle.pun_base.specs.declared.action.Action.{Action}
 use Rattle.pun_base.specs.declared.range.Range.{Range}
 use Rattle.pun_base.specs.Ranges.{ends}
-use Rattle.elf_emit.specs.declared.emit.EmitError.TheVariants as emit
 use Rattle.patch_report.specs.Values.{ReportValue}
-use Rattle.rewrite_core.specs.declared.rewrite.RewriteError.TheVariants as rewrite
 use Rattle.rewrite_core.specs.Asked.{Asked}
 use Rattle.rewrite_core.specs.Followed.{IsFollowed}
 use Rattle.rewrite_core.specs.Judging as core
 use Rattle.rewrite_core.specs.Rewrites as core_answers
-use Rattle.loader_form.specs.declared.error.LoadError.TheVariants as load
-use Rattle.rewrite_loader.specs.declared.error.LoaderError.{LoaderError}
-use Rattle.rewrite_loader.specs.declared.error.LoaderError.TheVariants as loader
 use Rattle.rewrite_loader.specs.Followed.{IsLoaderFollowed}
+use Rattle.rewrite_loader.specs.Judging as loader_judging
 use Rattle.rewrite_loader.specs.Rewrites as loader_answers
 use Rattle.guest_threads.specs.ThreadRewriting as threads
-use Rattle.command_io.specs.Writing.{Verdict, Refused, Accepted}
+use Rattle.thread_loader.specs.Rewriting as thread_loader
+use Rattle.command_io.specs.Writing.{Verdict, Accepted}
 use Rattle.command_io.specs.Verdict as verdict
 use Rattle.command_io.specs.Verdict.{Patching, rewriting_in, asked, OfTexts}
 use Rattle.command_io.specs.declared.report_mode.Mode.{Mode}
-use Rattle.command_io.specs.Failing.{Failed, Unwritten, NoMemory, Answer, loader_failed}
+use Rattle.command_io.specs.Failing.{Failed, Answer}
 use Rattle.command_io.specs.Works.{IsOnly, Works}
-use Rattle.command_io.proofs.WholeCommands.{stopped, works_as}
-use Rattle.patch_commands.specs.LoadAnswers.{refusal_told, with_stub, load_writing}
+use Rattle.command_io.proofs.WholeCommands.{works_as}
 use Rattle.patch_commands.specs.ThreadsAnswers.{IsOfJob}
 use Rattle.patch_commands.specs.Patching.{patch_texts, AreLists, WritesReport}
 use Rattle.patch_commands.specs.Forms.{job_in, form_in, mode_in, writing_in, RewritesIn}
 use Rattle.patch_commands.specs.declared.patching.Form.{Form}
-use Rattle.patch_commands.specs.declared.patching.Form.TheVariants.{Plain, WithStub, ForThreads}
+use Rattle.patch_commands.specs.declared.patching.Form.TheVariants.{Plain, WithStub, ForThreads, ForThreadsWithStub}
 use Rattle.patch_commands.specs.declared.patch.Inputs.{Inputs}
-use Rattle.patch_commands.proofs.TextVerdicts.{IsOnce, one_plain, one_with_stub, one_for_threads}
-use Rattle.patch_commands.proofs.Rewritings.{IsGiven, given, verdict_of, reported_in, unfinished}
+use Rattle.patch_commands.proofs.TextVerdicts.{IsOnce, one_plain, one_with_stub, one_for_threads, one_for_threads_with_stub}
+use Rattle.patch_commands.proofs.Rewritings.{IsGiven, given, verdict_of, reported_in, unfinished, unloaded}
 
 -- what is done of equal lists in a form that is known
 pub in_form : (f g : Form) (a b : Asked) (out : List ℕ) (s t : DeskState) (r : Result ReportValue Failed) → f ≡ g → b ≡ a
@@ -78,18 +73,30 @@ rewritten ForThreads a out s t report h =
       holds = h.2.holds;
       followed = record { of_job = subst (IsOfJob h.0) h.2.report_is of_job; followed = h.2.followed };
     }
+rewritten ForThreadsWithStub a out s t report h =
+    let of_job : IsOfJob h.0.job report =
+    record { told = h.2.told; action = h.2.action_is; private = h.2.private_is; rows = h.2.rows_are } in
+    record {
+      job = h.0;
+      judged = h.1;
+      told = h.2.report_is;
+      holds = h.2.holds;
+      followed = record { of_job = subst (IsOfJob h.0.job) h.2.report_is of_job; followed = h.2.followed };
+    }
 
 -- the mode of a form's report is that of the form
 mode_is : (f : Form) → mode_in f ≡ (form_in f).mode
 mode_is (Plain action) = refl
 mode_is (WithStub action) = refl
 mode_is ForThreads = refl
+mode_is ForThreadsWithStub = refl
 
 -- an input in order has one verdict at most in each form
 once_in : (f : Form) (p : Patching) → IsOnce (rewriting_in (form_in f) p)
 once_in (Plain action) p = one_plain
 once_in (WithStub action) p = one_with_stub
 once_in ForThreads p = one_for_threads
+once_in ForThreadsWithStub p = one_for_threads_with_stub
 
 -- ---- a rewriting that doesn't end well
 
@@ -97,19 +104,6 @@ once_in ForThreads p = one_for_threads
 only_this : (f : Form) (p : Patching) (x : Inputs) (a : Asked) → IsGiven (rewriting_in (form_in f) p) x a → (v : Verdict (job_in f))
     → (form_in f).Judged a v → IsOnly v (OfTexts (rewriting_in (form_in f) p) (patch_texts x))
 only_this f p x a g v h = verdict_of (rewriting_in (form_in f) p) (once_in f p) x a v g h
-
--- nothing was rewritten into the loader form, or OUT isn't whole
-refused_with_stub : (action : Action) (p : Patching) (x : Inputs) (a : Asked) → IsGiven (rewriting_in with_stub p) x a → (s t : DeskState) (error : LoaderError)
-    → loader_answers.Rewrites a p.names.out s t (Err error) → Works (load_writing p) (patch_texts x) s t (Err (loader_failed p.names.out error))
-refused_with_stub action p x a g s t (loader.Rewrite (rewrite.Emit emit.WriteFault)) h =
-    stopped (load_writing p) (patch_texts x) s t h.0 (Unwritten p.names.out) (only_this (WithStub action) p x a g (Accepted h.0) h.1) (inl (refl, h.2))
-refused_with_stub action p x a g s t (loader.Rewrite (rewrite.Emit emit.Memory)) h = absurd h.0.2
-refused_with_stub action p x a g s t (loader.Rewrite rewrite.Memory) (inl e) = inl (e, tt)
-refused_with_stub action p x a g s t (loader.Rewrite rewrite.Memory) (inr h) =
-    stopped (load_writing p) (patch_texts x) s t h.0 NoMemory (only_this (WithStub action) p x a g (Accepted h.0) h.1) (inl (inr h.2))
-refused_with_stub action p x a g s t (loader.Load load.Memory) h = absurd h.0.2
-refused_with_stub action p x a g s t error h =
-    inl (h.1, only_this (WithStub action) p x a g (Refused (refusal_told error)) (error, refl, h.0))
 
 -- nothing was rewritten in a form, or OUT isn't whole
 refused : (f : Form) (p : Patching) (x : Inputs) (a : Asked) → IsGiven (rewriting_in (form_in f) p) x a → (s t : DeskState) (e : Failed)
@@ -119,11 +113,17 @@ refused (Plain action) p x a g s t e h =
     (unfinished core.Judges core_answers.file_of core_answers.IsRewritten (writing_in (Plain action) p) (patch_texts x) a p.names.out (λ j u v d q. inl q)
     (only_this (Plain action) p x a g) s t h.0 h.2)
 refused (WithStub action) p x a g s t e h =
-    works_as (writing_in (WithStub action) p) (patch_texts x) s t e _ h.1 (refused_with_stub action p x a g s t h.0 h.2)
+    works_as (writing_in (WithStub action) p) (patch_texts x) s t e _ h.1
+    (unloaded loader_judging.Judges loader_judging.file_of loader_answers.IsRewritten (writing_in (WithStub action) p) (patch_texts x) a p.names.out
+    (λ j u v d q. inl q) (only_this (WithStub action) p x a g) s t h.0 h.2)
 refused ForThreads p x a g s t e h =
     works_as (writing_in ForThreads p) (patch_texts x) s t e _ h.1
     (unfinished threads.Judges threads.file_of threads.IsReported (writing_in ForThreads p) (patch_texts x) a p.names.out (λ j u v d q. inl q)
     (only_this ForThreads p x a g) s t h.0 h.2)
+refused ForThreadsWithStub p x a g s t e h =
+    works_as (writing_in ForThreadsWithStub p) (patch_texts x) s t e _ h.1
+    (unloaded thread_loader.Judges thread_loader.file_of thread_loader.IsReported (writing_in ForThreadsWithStub p) (patch_texts x) a p.names.out
+    (λ j u v d q. inl q) (only_this ForThreadsWithStub p x a g) s t h.0 h.2)
 
 -- ---- of the lists that were read
 

@@ -11,6 +11,10 @@ use Rattle.rewrite_core.specs.Asked.{Asked}
 use Rattle.rewrite_core.specs.Rewrites.{RewritesBy}
 use Rattle.rewrite_core.specs.declared.rewrite.RewriteError.{RewriteError}
 use Rattle.rewrite_core.specs.declared.rewrite.RewriteError.TheVariants as rewrite
+use Rattle.loader_form.specs.declared.error.LoadError.TheVariants as load
+use Rattle.rewrite_loader.specs.declared.error.LoaderError.{LoaderError}
+use Rattle.rewrite_loader.specs.declared.error.LoaderError.TheVariants as loader
+use Rattle.rewrite_loader.specs.Rewrites.{LoadsBy}
 use Rattle.command_words.specs.Words.{Names}
 use Rattle.command_io.specs.Refusals.{Rewrite}
 use Rattle.command_io.specs.Summary.{summary_text, done_status}
@@ -19,7 +23,8 @@ use Rattle.command_io.specs.declared.report_mode.Mode.{Mode}
 use Rattle.command_io.specs.Writing.{Verdict, Refused, Accepted, Writing}
 use Rattle.command_io.specs.Verdict.{Patching, Form, IsJudgedAs, Rewriting, rewriting_in, starts_of, sites_of, asked, OfTexts}
 use Rattle.patch_commands.specs.Answers.{form_outputs, ListFollowed, form_writing}
-use Rattle.command_io.specs.Failing.{Failed, Unwritten, NoMemory, Answer, rewrite_failed}
+use Rattle.patch_commands.specs.LoadAnswers.{refusal_told}
+use Rattle.command_io.specs.Failing.{Failed, Unwritten, NoMemory, Answer, rewrite_failed, loader_failed}
 use Rattle.command_io.specs.Works.{IsOnly, WritesOne, WritesAll, Finishes, Works}
 use Rattle.command_io.proofs.WholeCommands.{if_done, stopped}
 use Rattle.patch_commands.specs.Patching.{patch_texts, AreLists, WritesReport}
@@ -105,3 +110,20 @@ module _ {J R : Type 0} (Judges : Asked → Result J RewriteError → Type 0) (f
   unfinished s t rewrite.Memory (inl e) = inl (e, tt)
   unfinished s t rewrite.Memory (inr h) = stopped w texts s t h.0 NoMemory (only (Accepted h.0) h.1) (cut h.0 s t NoMemory (inr h.2))
   unfinished s t error h = inl (h.1, only (Refused (Rewrite error)) (error, refl, h.0))
+
+-- ---- the same of a rewriting into the loader form
+
+module _ {J R : Type 0} (Judges : Asked → Result J LoaderError → Type 0) (file : J → List ℕ)
+    (Is : Asked → List ℕ → DeskState → DeskState → R → J → Type 0) (w : Writing J) (texts : List (List ℕ)) (a : Asked) (out : List ℕ)
+    (cut : (j : J) (s t : DeskState) (e : Failed) → WritesOne out (file j) s t (Err e) → WritesAll w.outputs j s t (Err e))
+    (only : (v : Verdict J) → IsJudgedAs refusal_told Judges a v → IsOnly v (w.Judges texts)) where
+  -- nothing was rewritten, or OUT isn't whole
+  pub unloaded : (s t : DeskState) (error : LoaderError) → LoadsBy Judges file Is a out s t (Err error)
+      → Works w texts s t (Err (loader_failed out error))
+  unloaded s t (loader.Rewrite (rewrite.Emit emit.WriteFault)) h =
+      stopped w texts s t h.0 (Unwritten out) (only (Accepted h.0) h.1) (cut h.0 s t (Unwritten out) (refl, h.2))
+  unloaded s t (loader.Rewrite (rewrite.Emit emit.Memory)) h = inl (h.1, tt)
+  unloaded s t (loader.Rewrite rewrite.Memory) (inl e) = inl (e, tt)
+  unloaded s t (loader.Rewrite rewrite.Memory) (inr h) = stopped w texts s t h.0 NoMemory (only (Accepted h.0) h.1) (cut h.0 s t NoMemory (inr h.2))
+  unloaded s t (loader.Load load.Memory) h = inl (h.1, tt)
+  unloaded s t error h = inl (h.1, only (Refused (refusal_told error)) (error, refl, h.0))

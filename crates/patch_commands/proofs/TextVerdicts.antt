@@ -19,13 +19,16 @@ use Rattle.rewrite_loader.proofs.LoaderVerdicts as loader_verdicts
 use Rattle.guest_threads.specs.ThreadRewriting as threads
 use Rattle.guest_threads.specs.ThreadRewriting.{ThreadJob}
 use Rattle.guest_threads.proofs.ThreadVerdicts as thread_verdicts
+use Rattle.thread_loader.specs.Followed.{ThreadLoaderJob}
+use Rattle.thread_loader.specs.Rewriting as thread_loader
+use Rattle.thread_loader.proofs.LoaderVerdicts as thread_loader_verdicts
 use Rattle.command_io.specs.Refusals.{Refusal, BadList, Rewrite}
 use Rattle.command_io.specs.Inputs.{Gathered, Missing, TooLong, All, gathered}
 use Rattle.command_io.specs.Writing.{Verdict, Refused, Accepted, Writing, OfGathered}
 use Rattle.command_io.specs.Verdict.{Patching, Form, Rewriting, rewriting_in, starts_of, sites_of, asked, plain, IsJudgedAs, OfRewriting, OfLists, OfTexts, HoldsBytes}
 use Rattle.patch_commands.specs.Answers.{listed_inputs, HasOneVerdict}
 use Rattle.patch_commands.specs.LoadAnswers.{refusal_told, with_stub}
-use Rattle.patch_commands.specs.ThreadsAnswers.{for_threads}
+use Rattle.patch_commands.specs.ThreadsAnswers.{for_threads, for_threads_with_stub}
 use Rattle.command_io.specs.Failing as failing
 use Rattle.command_io.specs.Failing.{Failed, Unread, Unwritten, NoMemory}
 use Rattle.command_io.specs.Works.{IsOnly, EndsEarly}
@@ -91,6 +94,11 @@ one_with_stub = one_judged refusal_told loader.Judges loader_verdicts.judged_onc
 -- an input in order has one verdict at most for `threads`
 pub one_for_threads : (a : Asked) (v w : Verdict ThreadJob) → IsInOrder a → for_threads.Judged a v → for_threads.Judged a w → v ≡ w
 one_for_threads = one_judged Rewrite threads.Judges thread_verdicts.judged_once
+
+-- an input in order has one verdict at most for `threads` in the loader form
+pub one_for_threads_with_stub : (a : Asked) (v w : Verdict ThreadLoaderJob) → IsInOrder a → for_threads_with_stub.Judged a v
+    → for_threads_with_stub.Judged a w → v ≡ w
+one_for_threads_with_stub = one_judged refusal_told thread_loader.Judges thread_loader_verdicts.judged_once
 
 -- Of what is asked in order there is one verdict at most.
 abbrev pub IsOnce : {J : Type 0} → Rewriting J → Type 0

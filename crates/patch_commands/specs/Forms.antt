@@ -11,6 +11,8 @@ use Rattle.rewrite_core.specs.Rewrites.{Rewrites}
 use Rattle.rewrite_loader.specs.Judging.{LoaderJob}
 use Rattle.rewrite_loader.specs.Rewrites as loader
 use Rattle.guest_threads.specs.ThreadRewriting.{ThreadJob, ReportsThreads}
+use Rattle.thread_loader.specs.Followed.{ThreadLoaderJob}
+use Rattle.thread_loader.specs.Rewriting as thread_loader
 use Rattle.command_words.specs.Named.{names_of}
 use Rattle.command_io.specs.Writing.{Writing}
 use Rattle.command_io.specs.Verdict as verdict
@@ -20,9 +22,9 @@ use Rattle.command_io.specs.declared.report_mode.Mode.TheVariants as mode
 use Rattle.command_io.specs.Failing.{Failed, rewrite_failed, loader_failed}
 use Rattle.patch_commands.specs.Answers.{form_writing}
 use Rattle.patch_commands.specs.LoadAnswers.{with_stub}
-use Rattle.patch_commands.specs.ThreadsAnswers.{for_threads}
+use Rattle.patch_commands.specs.ThreadsAnswers.{for_threads, for_threads_with_stub}
 use Rattle.patch_commands.specs.declared.patching.Form.{Form}
-use Rattle.patch_commands.specs.declared.patching.Form.TheVariants.{Plain, WithStub, ForThreads}
+use Rattle.patch_commands.specs.declared.patching.Form.TheVariants.{Plain, WithStub, ForThreads, ForThreadsWithStub}
 use Rattle.patch_commands.specs.declared.patching.Given.{Given}
 use Rattle.patch_commands.specs.declared.patch.Listed.{Listed}
 
@@ -31,24 +33,28 @@ abbrev pub action_in : Form → Action
 action_in (Plain action) = action
 action_in (WithStub action) = action
 action_in ForThreads = Count
+action_in ForThreadsWithStub = Count
 
 -- What the rewriting in a form comes to.
 abbrev pub job_in : Form → Type 0
 job_in (Plain action) = Job
 job_in (WithStub action) = LoaderJob
 job_in ForThreads = ThreadJob
+job_in ForThreadsWithStub = ThreadLoaderJob
 
 -- The form itself, as `patch` and its like have it.
 abbrev pub form_in : (f : Form) → verdict.Form (job_in f)
 form_in (Plain action) = plain
 form_in (WithStub action) = with_stub
 form_in ForThreads = for_threads
+form_in ForThreadsWithStub = for_threads_with_stub
 
 -- The mode of a form's report.
 abbrev pub mode_in : Form → Mode
 mode_in (Plain action) = mode.Plain
 mode_in (WithStub action) = mode.Plain
 mode_in ForThreads = mode.Threaded
+mode_in ForThreadsWithStub = mode.Threaded
 
 -- Patching in a form.
 abbrev pub writing_in : (f : Form) → Patching → Writing (job_in f)
@@ -72,3 +78,4 @@ abbrev pub RewritesIn : Form → Asked → (out : List ℕ) → DeskState → De
 RewritesIn (Plain action) a out s t = ToldAs (rewrite_failed out) (Rewrites a out s t)
 RewritesIn (WithStub action) a out s t = ToldAs (loader_failed out) (loader.Rewrites a out s t)
 RewritesIn ForThreads a out s t = ToldAs (rewrite_failed out) (ReportsThreads a out s t)
+RewritesIn ForThreadsWithStub a out s t = ToldAs (loader_failed out) (thread_loader.LoadsThreads a out s t)

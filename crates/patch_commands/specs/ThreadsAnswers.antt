@@ -1,11 +1,13 @@
--- What `threads` reads, judges, writes, prints and promises, without a report and with one. Theorems cite it. In all of it s and t are what the desk shows before and
--- after, k and l what the sink shows.
+-- What `threads` reads, judges, writes, prints and promises, without a report, with one, and in the loader form. Theorems cite it. In all of it
+-- s and t are what the desk shows before and after, k and l what the sink shows.
 use Rattle.std.specs.Prelude.{◌≡◌, ℕ, List, [], ◌∷◌, Some, Ok}
 use Rattle.pun_base.specs.Shown.{Files, DeskState, SinkState}
 use Rattle.pun_base.specs.declared.action.Action.TheVariants.{Count}
 use Rattle.patch_report.specs.Grammar.{IsReport}
 use Rattle.patch_report.specs.Values.{ReportValue}
 use Rattle.guest_threads.specs.ThreadRewriting.{ThreadJob, Judges, IsFollowedInThreads, file_of}
+use Rattle.thread_loader.specs.Followed.{ThreadLoaderJob, IsLoaderFollowedInThreads}
+use Rattle.thread_loader.specs.Rewriting as loader
 use Rattle.command_words.specs.Words.{Names, ThreadNames}
 use Rattle.command_io.specs.Refusals.{Rewrite}
 use Rattle.command_io.specs.Summary.{summary_text, done_status}
@@ -13,6 +15,7 @@ use Rattle.command_io.specs.Inputs.{Inputs, WhereTold}
 use Rattle.command_io.specs.Writing.{Verdict, Outputs, Writing, IsInputVerdict, Writes}
 use Rattle.command_io.specs.Verdict.{Patching, patching, Form, IsJudgedAs, starts_of, Rewriting, OfTexts, HoldsBytes}
 use Rattle.patch_commands.specs.Answers.{IsDone, listed_inputs, TextsFollowed, form_writing, PatchesIn}
+use Rattle.patch_commands.specs.LoadAnswers.{refusal_told}
 use Rattle.command_io.specs.declared.report_mode.Mode.TheVariants.{Threaded}
 
 -- What `threads` is given: names, and the ranges in which no new code stands, each by its ends.
@@ -114,3 +117,29 @@ reported_writing p = form_writing for_threads p
 -- What `threads` does with a report, with what it is given.
 abbrev pub PatchesReported : Patching → DeskState → DeskState → SinkState → SinkState → ℕ → Type 0
 PatchesReported p s t k l status = PatchesIn for_threads p s t k l status
+
+-- ---- in the loader form, with a report
+
+-- What is promised in the loader form: the report is of the job; the stub leads to the original's entry, and from there all is as in the other
+-- form.
+pub record FollowsLoaded (file starts : List ℕ) (job : ThreadLoaderJob) : Type 0 where
+  pub of_job : IsOfJob job.job job.job.report
+  pub followed : IsLoaderFollowedInThreads file starts job
+
+-- The loader form of `threads`: a stub in the patched file maps the pages for code, and goes to where the original starts.
+abbrev pub for_threads_with_stub : Form ThreadLoaderJob
+for_threads_with_stub = record {
+  Judged = IsJudgedAs refusal_told loader.Judges;
+  file = loader.file_of;
+  mode = Threaded;
+  report = λ job. job.job.report;
+  Follows = FollowsLoaded;
+}
+
+-- `threads` in the loader form, with what it is given.
+abbrev pub threads_loaded_writing : Patching → Writing ThreadLoaderJob
+threads_loaded_writing p = form_writing for_threads_with_stub p
+
+-- What `threads` does in the loader form, with what it is given.
+abbrev pub LoadsThreads : Patching → DeskState → DeskState → SinkState → SinkState → ℕ → Type 0
+LoadsThreads p s t k l status = PatchesIn for_threads_with_stub p s t k l status

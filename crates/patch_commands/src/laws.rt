@@ -2,7 +2,7 @@
 ghost use Rattle.command_io.specs.Verdict.{plain};
 ghost use Rattle.patch_commands.specs.Answers.{HasOneVerdict};
 ghost use Rattle.patch_commands.specs.LoadAnswers.{with_stub};
-ghost use Rattle.patch_commands.specs.ThreadsAnswers.{ThreadsHaveOneVerdict, for_threads};
+ghost use Rattle.patch_commands.specs.ThreadsAnswers.{ThreadsHaveOneVerdict, for_threads, for_threads_with_stub};
 ghost use Rattle.patch_commands.specs.UnpatchAnswers.{UnpatchHasOneVerdict};
 
 /// Of the inputs that a desk holds there is one verdict at most, for each command that writes.
@@ -11,5 +11,6 @@ pub fn one_verdict()
     ensures load { HasOneVerdict with_stub }
     ensures threads { ThreadsHaveOneVerdict }
     ensures threads_reported { HasOneVerdict for_threads }
+    ensures threads_loaded { HasOneVerdict for_threads_with_stub }
     ensures unpatch { UnpatchHasOneVerdict }
 {}

@@ -31,6 +31,7 @@ use pun_base::range::Range;
 use rewrite_core::rewrite::rewrite;
 use rewrite_loader::rewrite::rewrite_loader;
 use std::alloc::{AllocError, Global};
+use thread_loader::rewriting::rewrite_threads_loader;
 
 /// The bytes of the inputs.
 #[derive(Drop)]
@@ -179,6 +180,12 @@ fn rewrite_listed<'a, D: Desk>(
             match rewrite_threads_reported(alloc, file, starts, sites, reserves, out, desk) {
                 Ok(report) => Ok(report),
                 Err(error) => Err(rewrite_failure(error, out)),
+            }
+        }
+        Form::ForThreadsWithStub => {
+            match rewrite_threads_loader(alloc, file, starts, sites, reserves, out, desk) {
+                Ok(report) => Ok(report),
+                Err(error) => Err(loader_failure(error, out)),
             }
         }
     }

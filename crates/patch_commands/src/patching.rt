@@ -7,13 +7,14 @@ use command_words::words::Names;
 use pun_base::action::Action;
 use pun_base::range::Range;
 
-/// A form of the patched file: the kernel maps the pages for code, or a stub does, where each event does this; or the file is
-/// for a guest of several threads, where each event counts.
+/// A form of the patched file: the kernel maps the pages for code, or a stub does, where each event does this; or the same
+/// of a file for a guest of several threads, where each event counts.
 #[derive(Clone, Copy)]
 pub(crate) enum Form {
     Plain(Action),
     WithStub(Action),
     ForThreads,
+    ForThreadsWithStub,
 }
 
 impl Form {
@@ -23,7 +24,7 @@ impl Form {
     {
         match self {
             Form::Plain(_) | Form::WithStub(_) => Mode::Plain,
-            Form::ForThreads => Mode::Threaded,
+            Form::ForThreads | Form::ForThreadsWithStub => Mode::Threaded,
         }
     }
 }

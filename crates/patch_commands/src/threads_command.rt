@@ -1,8 +1,8 @@
-//! The command `threads`, without a report and with one.
+//! The command `threads`, without a report and with one, and in the loader form.
 ghost use Rattle.std.specs.Prelude.{◌≡◌, None, map};
 ghost use Rattle.pun_base.specs.Ranges.{ends};
 ghost use Rattle.command_words.specs.Named.{names_of, thread_names_of};
-ghost use Rattle.patch_commands.specs.ThreadsAnswers.{reported_patching, reported_writing, thread_patching, threads_writing};
+ghost use Rattle.patch_commands.specs.ThreadsAnswers.{reported_patching, reported_writing, thread_patching, threads_loaded_writing, threads_writing};
 ghost use Rattle.command_io.specs.Failing.{seen_as, told_of};
 ghost use Rattle.command_io.specs.Works.{Works, Carries};
 ghost use Rattle.patch_commands.specs.Patching.{patch_texts};
@@ -83,6 +83,27 @@ pub fn patch_reported<'a, D: Desk>(
 {
     let given = Given {
         form: Form::ForThreads,
+        names,
+        reserves,
+    };
+    patch_in_form(alloc, &given, desk)
+}
+
+/// Reads the inputs, and writes the loader form of the file that is patched for a guest of several threads, and its report.
+///
+/// Neither new code nor the stub stands in the reserved ranges.
+pub fn patch_loaded<'a, D: Desk>(
+    alloc: Global,
+    names: &Names<'a>,
+    reserves: &[Range],
+    desk: &mut D,
+) -> Result<Told, Failure<'a>>
+    requires { (D.seen desk.old).writing ≡ None }
+    ensures { Carries (threads_loaded_writing (reported_patching (names_of names.now)
+        (map ends reserves.now))) (D.seen desk.old) (D.seen desk.new) (seen_as told_of result) }
+{
+    let given = Given {
+        form: Form::ForThreadsWithStub,
         names,
         reserves,
     };

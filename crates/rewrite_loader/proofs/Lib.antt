@@ -1,2 +1,3 @@
-pub mod LoaderVerdicts
+pub mod WrittenLoaders
 pub mod CallAnswers
+pub mod LoaderVerdicts

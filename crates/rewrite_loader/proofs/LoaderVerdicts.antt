@@ -1,24 +1,29 @@
 -- An input is judged in one way at most.
-use Rattle.std.proofs.Common.{◌≡◌, ◌⊎◌, inl, inr, ℕ, ◌+◌, ◌*◌, ◌≤◌, ◌<◌, List, ◌∷◌, Ok, Err, refl, sym, ap, ◌∙◌, subst, arith}
+use Rattle.std.proofs.Common.{◌≡◌, ◌⊎◌, inl, inr, ℕ, ◌+◌, ◌*◌, ◌≤◌, ◌<◌, List, ◌∷◌, Result, Ok, Err, refl, sym, ap, ◌∙◌, subst, arith}
 use Rattle.pun_base.specs.declared.range.Range.{Range}
 use Rattle.address_space.specs.declared.extent.Extent.{Extent}
 use Rattle.address_space.specs.Free.{extent_of}
 use Rattle.pun_base.specs.Least.{IsLeast}
 use Rattle.address_space.specs.Fit.{FitsPages}
+use Rattle.elf_emit.specs.Job as written
 use Rattle.elf_emit.specs.declared.emit.EmitError.TheVariants as emit
+use Rattle.site_turns.specs.Modes.{TurnRules, event_rules}
+use Rattle.site_turns.specs.Planning.{Request, Turns, AreTurnsUnder}
+use Rattle.site_turns.specs.PlanLaws.{IsAsked}
 use Rattle.rewrite_core.specs.declared.rewrite.RewriteError.{RewriteError}
 use Rattle.rewrite_core.specs.declared.rewrite.RewriteError.TheVariants as rewrite
 use Rattle.rewrite_core.specs.Asked.{Asked, IsInOrder}
-use Rattle.rewrite_core.specs.Judging as planning
-use Rattle.rewrite_core.specs.Judging.{Job, JudgesPlan}
+use Rattle.rewrite_core.specs.Judging.{IsJobFor, writing_of, JudgesPlanBy}
 use Rattle.rewrite_core.specs.Laws.{AreJudgedOnce}
-use Rattle.rewrite_core.proofs.OneVerdict.{planned_once}
+use Rattle.rewrite_core.proofs.OneJob.{job_once}
+use Rattle.rewrite_core.proofs.OneVerdict.{job_turned, plan_once}
 use Rattle.loader_form.specs.declared.error.LoadError.{LoadError}
 use Rattle.loader_form.specs.declared.error.LoadError.TheVariants as load
 use Rattle.loader_form.specs.LoaderState.{LoaderState}
 use Rattle.loader_form.specs.Lay.{stub_count, laid_of, IsLoader, HasNoPlace, Lays}
+use Rattle.rewrite_loader.specs.declared.error.LoaderError.{LoaderError}
 use Rattle.rewrite_loader.specs.declared.error.LoaderError.TheVariants.{Rewrite, Load}
-use Rattle.rewrite_loader.specs.Judging.{LoaderJob, entry_count, taken_by, run_count, IsLaidFor, with_loader, Judged, JudgesLaid, JudgesPlanned, Judges}
+use Rattle.rewrite_loader.specs.Judging.{LaidJob, entry_count, taken_by, run_count, IsLaidFor, with_loader, JudgesLaid, JudgesPlanned, JudgesLoaderBy, Judges}
 
 -- ---- there is one place for stub and save page
 
@@ -70,81 +75,97 @@ no_both taken n load.Memory l x y = x
 
 -- ---- the table after it
 
-abbrev too_many : ℕ → Judged
+-- the verdict of too long a table
+abbrev too_many : {J : Type 0} → ℕ → Result J LoaderError
 too_many n = Err (Rewrite (rewrite.Emit (emit.TooManySegments n)))
 
-abbrev AfterLaid : LoaderJob → ℕ → Judged → Type 0
+-- how a laid job with such a count of entries is judged
+abbrev AfterLaid : {J : Type 0} → J → ℕ → Result J LoaderError → Type 0
 AfterLaid k n v = ((v ≡ Ok k) × (n ≤ 1024)) ⊎ ((v ≡ too_many n) × (1024 < n))
 
 -- a laid job has one verdict by its table at most
-table_once : (k : LoaderJob) (n : ℕ) (v w : Judged) → AfterLaid k n v → AfterLaid k n w → v ≡ w
+table_once : {J : Type 0} → (k : J) (n : ℕ) (v w : Result J LoaderError) → AfterLaid k n v → AfterLaid k n w → v ≡ w
 table_once k n v w (inl x) (inl y) = x.0 ∙ sym y.0
 table_once k n v w (inl x) (inr y) = absurd (omega (arith, x.1, y.1))
 table_once k n v w (inr x) (inl y) = absurd (omega (arith, x.1, y.1))
 table_once k n v w (inr x) (inr y) = x.0 ∙ sym y.0
 
--- ---- a planned job
+-- ---- for any kind of rewriting whose jobs have turns, and of which a request has one at most
 
-abbrev IsUnlaidSo : List Range → Job → Judged → Type 0
-IsUnlaidSo rs j v = (e : LoadError) × (v ≡ Err (Load e)) × IsUnlaid (taken_by j.emit rs) (run_count j.emit) e
+module _ {J : Type 0} (IsJob : Request → J → Type 0) (writing : J → written.Job) (rules : Request → TurnRules)
+    (turned : (q : Request) (j : J) → IsJob q j → (t : Turns) × AreTurnsUnder (rules q) q t)
+    (once : (q : Request) (i j : J) → IsAsked q → IsJob q i → IsJob q j → i ≡ j) where
+  -- ---- a planned job
 
-abbrev IsLaidSo : List Range → Job → Judged → Type 0
-IsLaidSo rs j v = (l : LoaderState) × IsLaidFor rs j l × AfterLaid (with_loader j l) (entry_count (with_loader j l)) v
+  abbrev IsUnlaidSo : List Range → J → Result (LaidJob J) LoaderError → Type 0
+  IsUnlaidSo rs j v = (e : LoadError) × (v ≡ Err (Load e)) × IsUnlaid (taken_by (writing j) rs) (run_count (writing j)) e
 
--- a planned job is judged by why nothing is laid, or by the table of what is
-laid_so : (rs : List Range) (j : Job) (v : Judged) → JudgesLaid rs j v → IsUnlaidSo rs j v ⊎ IsLaidSo rs j v
-laid_so rs j (Err (Load load.Memory)) x = absurd x
-laid_so rs j (Err (Load (load.TooManyRuns n))) x = inl (load.TooManyRuns n, refl, x)
-laid_so rs j (Err (Load (load.NoLoader n))) x = inl (load.NoLoader n, refl, x)
-laid_so rs j (Err (Rewrite (rewrite.Emit (emit.TooManySegments n)))) x = inr (x.0, x.1, inr (ap too_many x.3, x.2))
-laid_so rs j (Err (Rewrite other)) x = absurd x
-laid_so rs j (Ok k) x =
-    let few : entry_count (with_loader j x.0) ≤ 1024 = subst (λ (z : LoaderJob). entry_count z ≤ 1024) x.2 x.3 in
-    inr (x.0, x.1, inl (ap Ok x.2, few))
+  abbrev IsLaidSo : List Range → J → Result (LaidJob J) LoaderError → Type 0
+  IsLaidSo rs j v = (l : LoaderState) × IsLaidFor rs (writing j) l × AfterLaid (with_loader j l) (entry_count writing (with_loader j l)) v
 
--- a planned job has one verdict at most
-laid_once : (rs : List Range) (j : Job) (v w : Judged) → IsUnlaidSo rs j v ⊎ IsLaidSo rs j v → IsUnlaidSo rs j w ⊎ IsLaidSo rs j w → v ≡ w
-laid_once rs j v w (inl x) (inl y) =
-    let e : x.0 ≡ y.0 = unlaid_once (taken_by j.emit rs) (run_count j.emit) x.0 y.0 x.2 y.2 in
-    x.1 ∙ ap (λ (z : LoadError). Err (Load z)) e ∙ sym y.1
-laid_once rs j v w (inl x) (inr y) = absurd (no_both (taken_by j.emit rs) (run_count j.emit) x.0 y.0 x.2 y.1)
-laid_once rs j v w (inr x) (inl y) = absurd (no_both (taken_by j.emit rs) (run_count j.emit) y.0 x.0 y.2 x.1)
-laid_once rs j v w (inr x) (inr y) =
-    let p = place_once (taken_by j.emit rs) (run_count j.emit) x.0 y.0 x.1 y.1 in
-    let same : with_loader j x.0 ≡ with_loader j y.0 = λ i. record { job = j; laid = p i } in
-    table_once (with_loader j y.0) (entry_count (with_loader j y.0)) v w
-    (subst (λ (z : LoaderJob). AfterLaid z (entry_count z) v) same x.2) y.2
+  -- a planned job is judged by why nothing is laid, or by the table of what is
+  laid_so : (rs : List Range) (j : J) (v : Result (LaidJob J) LoaderError) → JudgesLaid writing rs j v → IsUnlaidSo rs j v ⊎ IsLaidSo rs j v
+  laid_so rs j (Err (Load load.Memory)) x = absurd x
+  laid_so rs j (Err (Load (load.TooManyRuns n))) x = inl (load.TooManyRuns n, refl, x)
+  laid_so rs j (Err (Load (load.NoLoader n))) x = inl (load.NoLoader n, refl, x)
+  laid_so rs j (Err (Rewrite (rewrite.Emit (emit.TooManySegments n)))) x = inr (x.0, x.1, inr (ap (λ (z : ℕ). Err (Rewrite (rewrite.Emit (emit.TooManySegments z)))) x.3, x.2))
+  laid_so rs j (Err (Rewrite other)) x = absurd x
+  laid_so rs j (Ok k) x =
+      let few : entry_count writing (with_loader j x.0) ≤ 1024 = subst (λ (z : LaidJob J). entry_count writing z ≤ 1024) x.2 x.3 in
+      inr (x.0, x.1, inl (ap Ok x.2, few))
 
--- ---- all of it
+  -- a planned job has one verdict at most
+  laid_once : (rs : List Range) (j : J) (v w : Result (LaidJob J) LoaderError) → IsUnlaidSo rs j v ⊎ IsLaidSo rs j v → IsUnlaidSo rs j w ⊎ IsLaidSo rs j w
+      → v ≡ w
+  laid_once rs j v w (inl x) (inl y) =
+      let e : x.0 ≡ y.0 = unlaid_once (taken_by (writing j) rs) (run_count (writing j)) x.0 y.0 x.2 y.2 in
+      x.1 ∙ ap (λ (z : LoadError). Err (Load z)) e ∙ sym y.1
+  laid_once rs j v w (inl x) (inr y) = absurd (no_both (taken_by (writing j) rs) (run_count (writing j)) x.0 y.0 x.2 y.1)
+  laid_once rs j v w (inr x) (inl y) = absurd (no_both (taken_by (writing j) rs) (run_count (writing j)) y.0 x.0 y.2 x.1)
+  laid_once rs j v w (inr x) (inr y) =
+      let p = place_once (taken_by (writing j) rs) (run_count (writing j)) x.0 y.0 x.1 y.1 in
+      let same : with_loader j x.0 ≡ with_loader j y.0 = λ i. record { job = j; laid = p i } in
+      table_once (with_loader j y.0) (entry_count writing (with_loader j y.0)) v w
+      (subst (λ (z : LaidJob J). AfterLaid z (entry_count writing z) v) same x.2) y.2
 
-abbrev InTurn : Asked → Judged → Type 0
-InTurn a v = ((e : RewriteError) × (v ≡ Err (Rewrite e)) × JudgesPlan a (Err e)) ⊎ JudgesPlanned a v
+  -- ---- all of it
 
--- an input is judged by its plan first, and then by what is laid
-in_turn : (a : Asked) (v : Judged) → Judges a v → InTurn a v
-in_turn a (Err (Rewrite (rewrite.Emit error))) x = inr x
-in_turn a (Err (Rewrite error)) x = inl (error, refl, x)
-in_turn a (Err (Load error)) x = inr x
-in_turn a (Ok k) x = inr x
+  abbrev InTurn : Asked → Result (LaidJob J) LoaderError → Type 0
+  InTurn a v = ((e : RewriteError) × (v ≡ Err (Rewrite e)) × JudgesPlanBy IsJob a (Err e)) ⊎ JudgesPlanned IsJob writing a v
 
--- a refused plan and a planned job are two verdicts
-plan_apart : (a : Asked) (error : RewriteError) (j : Job) → IsInOrder a → JudgesPlan a (Err error) → JudgesPlan a (Ok j) → ⊥
-plan_apart a error j o x y =
-    let e : ◌≡◌ {A = planning.Judged} (Err error) (Ok j) = planned_once a (Err error) (Ok j) o x y in cc
+  -- an input is judged by its plan first, and then by what is laid
+  in_turn : (a : Asked) (v : Result (LaidJob J) LoaderError) → JudgesLoaderBy IsJob writing a v → InTurn a v
+  in_turn a (Err (Rewrite (rewrite.Emit error))) x = inr x
+  in_turn a (Err (Rewrite error)) x = inl (error, refl, x)
+  in_turn a (Err (Load error)) x = inr x
+  in_turn a (Ok k) x = inr x
 
--- an input that is judged by its plan first and then by what is laid has one verdict at most
-turn_once : (a : Asked) (v w : Judged) → IsInOrder a → InTurn a v → InTurn a w → v ≡ w
-turn_once a v w o (inl x) (inl y) =
-    let e : ◌≡◌ {A = planning.Judged} (Err x.0) (Err y.0) = planned_once a (Err x.0) (Err y.0) o x.2 y.2 in
-    let k : x.0 ≡ y.0 = cc in x.1 ∙ ap (λ (z : RewriteError). Err (Rewrite z)) k ∙ sym y.1
-turn_once a v w o (inl x) (inr y) = absurd (plan_apart a x.0 y.0 o x.2 y.1)
-turn_once a v w o (inr x) (inl y) = absurd (plan_apart a y.0 x.0 o y.2 x.1)
-turn_once a v w o (inr x) (inr y) =
-    let e : ◌≡◌ {A = planning.Judged} (Ok x.0) (Ok y.0) = planned_once a (Ok x.0) (Ok y.0) o x.1 y.1 in
-    let k : x.0 ≡ y.0 = cc in
-    laid_once a.reserves y.0 v w (subst (λ (j : Job). IsUnlaidSo a.reserves j v ⊎ IsLaidSo a.reserves j v) k (laid_so a.reserves x.0 v x.2))
-    (laid_so a.reserves y.0 w y.2)
+  -- of two plans of an input the first is the second
+  planned : AreJudgedOnce (JudgesPlanBy IsJob)
+  planned = plan_once IsJob writing rules turned once
 
--- an input is judged in one way at most: one job, or one refusal
+  -- a refused plan and a planned job are two verdicts
+  plan_apart : (a : Asked) (error : RewriteError) (j : J) → IsInOrder a → JudgesPlanBy IsJob a (Err error) → JudgesPlanBy IsJob a (Ok j) → ⊥
+  plan_apart a error j o x y =
+      let e : ◌≡◌ {A = Result J RewriteError} (Err error) (Ok j) = planned a (Err error) (Ok j) o x y in cc
+
+  -- an input that is judged by its plan first and then by what is laid has one verdict at most
+  turn_once : (a : Asked) (v w : Result (LaidJob J) LoaderError) → IsInOrder a → InTurn a v → InTurn a w → v ≡ w
+  turn_once a v w o (inl x) (inl y) =
+      let e : ◌≡◌ {A = Result J RewriteError} (Err x.0) (Err y.0) = planned a (Err x.0) (Err y.0) o x.2 y.2 in
+      let k : x.0 ≡ y.0 = cc in x.1 ∙ ap (λ (z : RewriteError). Err (Rewrite z)) k ∙ sym y.1
+  turn_once a v w o (inl x) (inr y) = absurd (plan_apart a x.0 y.0 o x.2 y.1)
+  turn_once a v w o (inr x) (inl y) = absurd (plan_apart a y.0 x.0 o y.2 x.1)
+  turn_once a v w o (inr x) (inr y) =
+      let e : ◌≡◌ {A = Result J RewriteError} (Ok x.0) (Ok y.0) = planned a (Ok x.0) (Ok y.0) o x.1 y.1 in
+      let k : x.0 ≡ y.0 = cc in
+      laid_once a.reserves y.0 v w (subst (λ (j : J). IsUnlaidSo a.reserves j v ⊎ IsLaidSo a.reserves j v) k (laid_so a.reserves x.0 v x.2))
+      (laid_so a.reserves y.0 w y.2)
+
+  -- of two verdicts on an input the first is the second
+  pub loader_verdict_once : AreJudgedOnce (JudgesLoaderBy IsJob writing)
+  loader_verdict_once a v w o x y = turn_once a v w o (in_turn a v x) (in_turn a w y)
+
+-- an input of `rewrite_loader` is judged in one way at most: one job, or one refusal
 pub judged_once : AreJudgedOnce Judges
-judged_once a v w o x y = turn_once a v w o (in_turn a v x) (in_turn a w y)
+judged_once = loader_verdict_once IsJobFor writing_of (λ q. event_rules q.action) job_turned job_once

@@ -1,4 +1,5 @@
 pub mod Causes
 pub mod Judging
+pub mod Writing
 pub mod Followed
 pub mod Rewrites

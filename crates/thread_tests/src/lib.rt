@@ -1,6 +1,6 @@
 //! What is made for guests of several threads, by public calls, against codes worked out by hand.
 //!
-//! Stands on `guest_threads`, `thread_check`, `thread_runs` and `parts_of_tests`; nothing stands on it.
+//! Stands on `guest_threads`, `thread_loader`, `thread_check`, `thread_runs` and `parts_of_tests`; nothing stands on it.
 #![tactic(auto)]
 
 #[cfg(test)]

@@ -17,6 +17,7 @@ use pun_base::scheme::Scheme;
 use start_entries::starts::ascend;
 use std::alloc::Global;
 use std::test::Fail;
+use thread_loader::rewriting::rewrite_threads_loader;
 
 /// Patches the plain file of a text under the name "O", with these starts and sites and nothing reserved.
 pub(crate) fn rewritten<D: Desk>(
@@ -54,6 +55,25 @@ pub(crate) fn reported<D: Desk>(
         return None;
     }
     rewrite_threads_reported(alloc, &file, starts, sites, &[], "O", desk).ok()
+}
+
+/// The report of such a patch in the loader form, if it was written.
+fn loaded<D: Desk>(
+    alloc: Global,
+    text: &[u8],
+    starts: &[u32],
+    sites: &[u32],
+    desk: &mut D,
+) -> Option<Report>
+    requires { (D.seen desk.old).writing ≡ None }
+{
+    let Ok(file) = plain_file(alloc, text) else {
+        return None;
+    };
+    if !ascend(starts) || !ascend(sites) || sites.len() > 65536 {
+        return None;
+    }
+    rewrite_threads_loader(alloc, &file, starts, sites, &[], "O", desk).ok()
 }
 
 /// The place of the only row's only trampoline, and its site's number.
@@ -116,6 +136,26 @@ fn jump_to_itself(rt: HostRuntime) -> Result<(), Fail> {
     assert!(rt; only_place(report.rows.as_slice()) == Some((0x240_1005, 0)));
     let written = desk.get("O").ok_or("held")?;
     assert!(rt; written.windows(37).any(|bytes| bytes == CODE.as_slice()));
+    Ok(())
+}
+
+/// The beginning of a stub at 0x21000 whose save page is at 0x23000: rax, rcx and rdx are saved.
+const STUB: [u8; 24] = [
+    0x48, 0x89, 0x04, 0x25, 0x00, 0x30, 0x02, 0x00, 0x48, 0x89, 0x0C, 0x25, 0x08, 0x30, 0x02, 0x00,
+    0x48, 0x89, 0x14, 0x25, 0x10, 0x30, 0x02, 0x00,
+];
+
+#[test]
+fn jump_to_itself_in_loader_form(rt: HostRuntime) -> Result<(), Fail> {
+    let text = [0xEB, 0xFE, 0, 0, 2];
+    let mut desk = MemDesk::new(rt.alloc(), &[])?;
+    let found = loaded(rt.alloc(), &text, &[0x40_1000], &[0x40_1000], &mut desk);
+    let report = found.ok_or("loaded")?;
+    assert!(rt; report.action() == Action::Count);
+    assert!(rt; only_place(report.rows()) == Some((0x240_1005, 0)));
+    let written = desk.get("O").ok_or("held")?;
+    assert!(rt; written.windows(37).any(|bytes| bytes == CODE.as_slice()));
+    assert!(rt; written.windows(24).any(|bytes| bytes == STUB.as_slice()));
     Ok(())
 }
 

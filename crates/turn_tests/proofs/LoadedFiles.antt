@@ -59,7 +59,7 @@ module _ (bytes file : List ℕ) (es : List StartEntry) (sites : List ℕ) (rese
   -- a stub that is laid for the groups of that code is what `emit_loader` asks
   pub is_loading : (groups : GroupsState) (l : LoaderState) → groups.pieces ≡ map range_of p.built → IsGrouping groups.pieces groups.homes
       → IsLoader (taken_after bytes reserves p) (run_count groups) l → IsLoading bytes p groups l (request bytes es sites reserves)
-  is_loading groups l e g i = record { file_is = refl; turns = x.0; asked = asked; planned = x.1; groups_are = (e, g); laid = i }
+  is_loading groups l e g i = record { file_is = refl; asked = asked; can = planned_can_be_written (request bytes es sites reserves) x.0 p asked x.1; groups_are = (e, g); laid = i }
 
   -- what was written is a file of the loader form
   pub is_written : (groups : GroupsState) (l : LoaderState) (stub : Range) (s t : DeskState) → groups.pieces ≡ map range_of p.built
@@ -71,7 +71,7 @@ module _ (bytes file : List ℕ) (es : List StartEntry) (sites : List ℕ) (rese
         job = job_for q p groups;
         laid = laid_of l;
         is_job = planned_is_job q x.0 p groups asked x.1 (e, g) size;
-        is_laid = laid_for q x.0 p groups l asked x.1 (e, g) i;
+        is_laid = laid_for q p groups l (e, g) i;
         few = h.0;
         original = same;
         at = sym (ap (λ (z : Range). z.lo) at);

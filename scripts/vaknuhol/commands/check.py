@@ -1,7 +1,7 @@
 """Each kept patched file in PROGRAM.vak is judged by its report (`e9tool check`): whether it does what the original
 does, except for what the report says, whoever made it. `e9tool check` compares entry points, and so rejects each file
-of the loader form. Such a file is written again from the original (`e9tool load`), and file and report must have the
-same bytes; for threads there is no loader form."""
+of the loader form. Such a file is written again from the original (`e9tool load`, or for threads `e9tool threads` with
+`form:loader`), and file and report must have the same bytes."""
 import argparse
 import os
 import subprocess
@@ -44,8 +44,11 @@ def check_again(program: str, files: RunFiles) -> tuple[str, bool]:
         raise Refusal(f"{files.patched} (loader form): what it was made of doesn't stand beside it: patch again")
     with tempfile.TemporaryDirectory(prefix="again.", dir=os.path.dirname(files.stem)) as folder:
         again = RunFiles(f"{folder}/again")
-        words = ["load", program, files.starts, files.sites, action, again.patched, again.report, *reserved]
-        done = subprocess.run([find_tool(), *words], capture_output=True, text=True, errors="replace")
+        words = ["load", program, files.starts, files.sites, action, again.patched, again.report]
+        if kept_fact(files.stem, "made of", "threads"):
+            words = ["threads", program, files.starts, files.sites, again.patched, "form:loader",
+                     f"report:{again.report}"]
+        done = subprocess.run([find_tool(), *words, *reserved], capture_output=True, text=True, errors="replace")
         if done.returncode not in (0, 1):
             return f"not written again: {(done.stdout or done.stderr).strip() or done.returncode}", False
         same = all(read_bytes(getattr(files, ending)) == read_bytes(getattr(again, ending))
@@ -61,7 +64,7 @@ def do(words: argparse.Namespace) -> int:
     for stem in stems:
         files = RunFiles(stem)
         progress(f"checking {files.patched}")
-        has_stub = entry_of(files.patched) != entry_of(words.program) and not kept_fact(stem, "made of", "threads")
+        has_stub = entry_of(files.patched) != entry_of(words.program)
         text, is_sound = (check_again if has_stub else check)(words.program, files)
         progress("")
         print(f"{os.path.relpath(files.patched)}: {painted(text, 'green' if is_sound else 'red', sys.stdout)}")

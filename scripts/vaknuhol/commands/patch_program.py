@@ -62,7 +62,7 @@ def main() -> int:
     if patching.nearness:
         print(f"with the RESERVE {' '.join(patching.nearness)}: without it the file's program header table would be "
               "too long")
-    if patching.form == "load":
+    if patching.has_stub():
         print("in the loader form: without it the file's program header table would be too long")
     if patching.left:
         print(f"{len(patching.left)} of {len(blocks)} blocks are left ({patching.left_text()}): no instruction of "

@@ -58,7 +58,6 @@ class Fitting(Patching):
                 continue
             if not self.tries:
                 how = "in the loader form, too" if self.loader else "however near its code is kept"
-                how += "" if self.has_loader_form else ", and for threads there is no loader form"
                 raise Refusal(f"the patched file has {entries} program headers, and the table may have at most "
                               f"{self.most}, "
                               f"{how}: choose fewer blocks (--own, --functions, --within)")
@@ -70,4 +69,4 @@ class Fitting(Patching):
 
 
 class ThreadFitting(Fitting, ThreadPatching):
-    """The same for threads: new code is kept nearer, since there is no loader form."""
+    """The same for threads."""

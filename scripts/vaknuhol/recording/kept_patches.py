@@ -150,7 +150,7 @@ class Kept:
              + (f" (file {number} of {parts})" if parts > 1 else "")
              + (f", with new code kept out of {' '.join(reserve)}, since the table may have {self.most} entries"
                 if reserve else "")
-             + (f", in the loader form, since the table may have {self.most} entries" if patching.form == "load"
+             + (f", in the loader form, since the table may have {self.most} entries" if patching.has_stub()
                 else ""))
         return patching.reserved
 

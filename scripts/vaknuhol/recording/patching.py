@@ -52,13 +52,13 @@ def list_text(addresses: list[int]) -> str:
 class Patching:
     """One program's way to its patched file: rounds, of which the one with the fewest left sites is kept. The first
     command is the one given: where another file of the same program needed the loader form, that."""
-    first_command, has_loader_form = "patch", True
+    first_command, loader_command = "patch", "load"
 
     def __init__(self, program: str, action: Action, blocks: list[Block], reserve: list[tuple[int, int]],
                  files: RunFiles, loader: bool, command: str = "") -> None:
         self.tool, self.program, self.action, self.blocks, self.files = find_tool(), program, action, blocks, files
         self.reserve, self.near = [f"{low:x}-{high:x}" for low, high in reserve], 0
-        self.command, self.loader = command or self.first_command, loader and self.has_loader_form
+        self.command, self.loader = command or self.first_command, loader
         self.tried = [block.site for block in blocks]  # of a block without candidates its first address
         self.candidates: dict[int, list[int]] = {}  # of blocks, by their numbers here, whose best site will not do
         self.form, self.printed = "", ""
@@ -71,17 +71,21 @@ class Patching:
     def goes_on(self) -> bool:
         """Whether there is something to try where the table is too long: the loader form or, without it, the next of
         the reserves. It is kept."""
-        if self.command == "load":
+        if self.command == self.loader_command:
             return False
         if self.loader:
-            self.command = "load"
+            self.command = self.loader_command
             return True
         self.near += 1
         return self.near < len(RESERVES)
 
     def words(self, starts: str, files: RunFiles) -> list[str]:
-        """The arguments after the command, except for any RESERVE."""
-        return [self.program, starts, files.sites, self.action.name, files.patched, files.report]
+        """The command and its arguments, except for any RESERVE."""
+        return [self.command, self.program, starts, files.sites, self.action.name, files.patched, files.report]
+
+    def has_stub(self) -> bool:
+        """Whether the kept round wrote the loader form."""
+        return self.form == self.loader_command
 
     def outcomes(self, files: RunFiles) -> dict[int, str]:
         """The sites that are left, with their outcomes."""
@@ -96,14 +100,13 @@ class Patching:
     def patch_once(self, starts: str, sites: list[int], files: RunFiles) -> str | None:
         """What patch prints, or load. Nothing where it refuses the sites of a later round."""
         write_whole({files.sites: list_text(sorted(sites))})
-        lists = self.words(starts, files)
         while True:
-            reserves = [*self.reserve, *RESERVES[self.near]]
-            done = subprocess.run([self.tool, self.command, *lists, *reserves], capture_output=True, text=True)
+            lists, reserves = self.words(starts, files), [*self.reserve, *RESERVES[self.near]]
+            done = subprocess.run([self.tool, *lists, *reserves], capture_output=True, text=True)
             if " TooManySegments " not in done.stdout or not self.goes_on():
                 break
         if done.returncode == 2:
-            raise Refusal(f"e9tool does not take these arguments: {' '.join(lists + reserves)}")
+            raise Refusal(f"e9tool does not take these arguments: {' '.join(lists[1:] + reserves)}")
         if done.returncode not in (0, 1) and self.sites:
             return None
         if done.returncode not in (0, 1):
@@ -209,8 +212,9 @@ class Patching:
 
 
 class ThreadPatching(Patching):
-    """The same by `threads`, which has no loader form."""
-    first_command, has_loader_form = "threads", False
+    """The same by `threads`, whose loader form is asked for by a word after OUT."""
+    first_command, loader_command = "threads", "threads form:loader"
 
     def words(self, starts: str, files: RunFiles) -> list[str]:
-        return [self.program, starts, files.sites, files.patched, f"report:{files.report}"]
+        command, *form = self.command.split()
+        return [command, self.program, starts, files.sites, files.patched, *form, f"report:{files.report}"]

@@ -2,11 +2,11 @@ use Rattle.std.proofs.Common.{◌≡◌, ℕ, List, map, string_bytes, refl, ap,
 use Rattle.pun_base.specs.Shown.{DeskState, SinkState}
 use Rattle.pun_base.specs.Ranges.{ends}
 use Rattle.command_words.specs.Named.{names_of, check_names_of, step_names_of, thread_names_of, unpatch_names_of}
-use Rattle.command_words.specs.Words.{Command, Patch, Step, Gen, Load, Threads, ThreadsReported, Unpatch, command_of}
+use Rattle.command_words.specs.Words.{Command, Patch, Step, Gen, Load, Threads, ThreadsReported, ThreadsLoaded, Unpatch, command_of}
 use Rattle.command_io.specs.Failing.{seen_as, told_of}
 use Rattle.command_io.specs.Verdict.{patching}
 use Rattle.patch_commands.specs.LoadAnswers.{with_stub}
-use Rattle.patch_commands.specs.ThreadsAnswers.{for_threads, thread_patching, reported_patching}
+use Rattle.patch_commands.specs.ThreadsAnswers.{for_threads, for_threads_with_stub, thread_patching, reported_patching}
 use Rattle.commands.specs.Commands.{Does}
 use Rattle.commands.proofs.PatchRuns.{form_ended, patch_ended}
 use Rattle.commands.proofs.ThreadsRuns.{threads_ended}
@@ -102,6 +102,17 @@ returns-in-Ok-ThreadsReported-clause-does g c =
     of_words words (ThreadsReported n pairs) _ _ _ _ _ r
     (form_ended for_threads (reported_patching n pairs) (known_of words (ThreadsReported n pairs) r) _ _ _ _ (seen_as told_of c.patch_reported.result) _
     c.patch_reported.ensures.rest c.patch_reported.ensures.ends c.tell-in-Ok-ThreadsReported.ensures.printed)
+
+pub returns-in-Ok-ThreadsLoaded-clause-does : goal.returns-in-Ok-ThreadsLoaded-clause-does
+returns-in-Ok-ThreadsLoaded-clause-does g c =
+    let words = map string_bytes c.args.words.now in
+    let n = names_of c.in-Ok-ThreadsLoaded.names in
+    let pairs = map ends c.deref-in-Ok-ThreadsLoaded.result.now in
+    let q : ThreadsLoaded n (map ends c.in-Ok-ThreadsLoaded.reserves.items) ≡ command_of words = rw c.in-Ok-ThreadsLoaded.field-0-is at c.in-Ok-ThreadsLoaded.ensures in
+    let r : ThreadsLoaded n pairs ≡ command_of words = ap (λ rs. ThreadsLoaded n (map ends rs)) c.deref-in-Ok-ThreadsLoaded.ensures.value ∙ q in
+    of_words words (ThreadsLoaded n pairs) _ _ _ _ _ r
+    (form_ended for_threads_with_stub (reported_patching n pairs) (known_of words (ThreadsLoaded n pairs) r) _ _ _ _ (seen_as told_of c.patch_loaded.result) _
+    c.patch_loaded.ensures.rest c.patch_loaded.ensures.ends c.tell-in-Ok-ThreadsLoaded.ensures.printed)
 
 pub returns-in-Ok-Unpatch-clause-does : goal.returns-in-Ok-Unpatch-clause-does
 returns-in-Ok-Unpatch-clause-does g c =

@@ -1,0 +1,2 @@
+pub mod LoadedGuests
+pub mod LoaderVerdicts

@@ -4,8 +4,9 @@
     layout.py [--layers | --above CRATE | --crate CRATE]
 
 With --layers it prints the block of crates by layers that the map shows, made from crates.txt and the seconds that
-stand there; with --above what a change of the crate proves again, with these seconds and their sum; with --crate the
-crate's head, its layer, what depends on it, its crate of tests, and the first line of each of its definition files."""
+stand there; with --above what a change of the crate proves again, with these seconds and their sum, how many edits are
+tried again, and how long both take; with --crate the crate's head, its layer, what depends on it, its crate of tests,
+and the first line of each of its definition files."""
 import os
 import re
 import sys
@@ -14,6 +15,7 @@ import textwrap
 TOP = os.path.dirname(os.path.dirname(os.path.realpath(__file__)))
 MAP = "docs/develop/map.md"
 TITLE, WIDTH = 19, 150
+EDIT, PROCESSORS = 25, 4  # processor seconds of an edit, on average (docs/evidence/speed.md, The gate)
 
 
 def read(path: str) -> str:
@@ -158,15 +160,23 @@ def description(crate: str, crates: dict[str, list[str]], seconds: dict[str, int
     return lines + [f"  {name}: {comment}" for name, comment in comments if comment]
 
 
+def edits(crate: str) -> int:
+    """How many must-fail edits a crate has."""
+    folder = os.path.join(TOP, "crates", crate, "must-fail")
+    return sum(name.endswith(".edit") for name in os.listdir(folder)) if os.path.isdir(folder) else 0
+
+
 def answer(words: list[str], crates: dict[str, list[str]], seconds: dict[str, int]) -> None:
     """What is asked with words, printed."""
     if words == ["--layers"]:
         print(layer_block(seconds))
     elif len(words) == 2 and words[0] == "--above" and words[1] in crates:
         again = above(words[1], crates)
-        total = sum(seconds[name] for name in again)
+        total, tried = sum(seconds[name] for name in again), sum(edits(name) for name in again)
         print(*(f"{name} {seconds[name]}" for name in again), sep="\n")
-        print(f"{len(again)} crates, {total} processor seconds")
+        print(f"{len(again)} crates, {total} processor seconds; {tried} edits, some {EDIT} each")
+        minutes = (total + EDIT * tried) / PROCESSORS / 60
+        print(f"rt ci: some {minutes:.0f} minutes on {PROCESSORS} processors, and every test")
     elif len(words) == 2 and words[0] == "--crate" and words[1] in crates:
         print(*description(words[1], crates, seconds), sep="\n")
     else:

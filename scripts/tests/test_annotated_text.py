@@ -1,5 +1,8 @@
-"""The text that `vaknuhol annotate` prints."""
+"""The text that `vaknuhol annotate` prints, and the names by which it finds copies of a function."""
+import pytest
+
 from tests.doubles import double
+from vaknuhol.program.function_names import without_suffix
 from vaknuhol.views.annotation import Block, Instruction, Part, Source
 from vaknuhol.views.annotation_text import text_of
 
@@ -24,3 +27,17 @@ def test_columns_are_kept_where_counts_are_long() -> None:
         "",
         "123456789012> 401001   dec     %rax",
     ], told
+
+
+@pytest.mark.parametrize(
+    "symbol, wanted",
+    [
+        ("scaled.constprop.0", "scaled"),
+        ("scaled.isra.0.part.1.cold", "scaled"),
+        ("scaled.cold", "scaled"),
+        ("main.parted", "main.parted"),
+        ("constprop.0", "constprop.0"),
+    ],
+)
+def test_a_copy_has_the_name_of_its_function(symbol: str, wanted: str) -> None:
+    assert without_suffix(symbol) == wanted

@@ -12,6 +12,7 @@ from collections.abc import Iterator
 from vaknuhol.arguments import Refusal
 from vaknuhol.program.binutils import run
 from vaknuhol.program.debug_info import INLINED
+from vaknuhol.program.function_names import without_suffix
 from vaknuhol.recording.record_file import Row
 from vaknuhol.views.coverage import Coverage
 
@@ -115,8 +116,8 @@ class Annotation:
         parts, names = self.functions(), self.names
         if name is None:
             return [part for part in parts if part.work] or parts
-        found = [part for part in parts
-                 if name in (part.name, names(part.name), names(part.name).partition("(")[0])] or self.inlined(name)
+        found = [part for part in parts if name in (part.name, without_suffix(part.name), names(part.name),
+                                                    names(part.name).partition("(")[0])] or self.inlined(name)
         if not found:
             raise Refusal(f"{name}: the record has no block of such a function: vaknuhol annotate {self.coverage.path} "
                           "shows all that ran")

@@ -4,25 +4,31 @@
 The C programs of guests/ (all, or those that are named) are patched at all blocks, or at what an option says. Each runs
 20 times, with eight threads: it prints what the original prints, and each counter that it wrote to a file is the sum of the counts of
 the blocks in which an instruction adds to it. `check` says yes of the patched file, and no after each of the changes that are planted
-in file and report; `unpatch` gives the original byte for byte."""
+in file and report; `unpatch` gives the original byte for byte. What e9tool's `check` judges of a file of the loader form is the file with
+an entry of its table for each record of the stub, and with the original's entry point: what the stub leaves. `vaknuhol check` says of each
+such file that it is written again with the same bytes, and of a changed one that it is not."""
 import argparse
 import bisect
 import collections
 import os
 import random
 import re
+import struct
 import subprocess
 import sys
 import tempfile
 
 BENCH = os.path.dirname(os.path.realpath(__file__))
 sys.path.insert(0, os.path.join(BENCH, "..", "scripts"))
-from vaknuhol.program.program_file import Program, read_bytes, read_text  # noqa: E402
+from vaknuhol.program.kernel import entry_of  # noqa: E402, its place is known only now
+from vaknuhol.program.program_file import read_bytes, read_text  # noqa: E402
 from vaknuhol.recording.patch_report import WRITES  # noqa: E402
 from vaknuhol.recording.record_file import Record, Row  # noqa: E402
 
 VAKNUHOL = os.path.join(BENCH, "..", "bin", "vaknuhol")
 FLAGS: dict[str, list[str]] = {"cloned": [], "queue": ["-pthread"], "openmp": ["-fopenmp"], "atomics": ["-pthread"]}
+ENTRY, LOADED = struct.Struct("<IIQQQQQQ"), 1  # of the table of program headers
+RECORD, RECORDS = struct.Struct("<IIQ"), 0x1010  # of the stub, and where its records begin
 ADDS = re.compile(r"(?m)^ +([0-9a-f]+):\tlock (?:add|inc|sub)\w? .*<counters(?:\+0x([0-9a-f]+))?>$")
 
 
@@ -64,47 +70,83 @@ def compare(name: str, run: int, places: dict[int, list[int]]) -> tuple[int, int
     return equal, len(places) - equal
 
 
-def verdict(tool: str, program: str, stem: str, patched: str, report: str) -> str:
-    return subprocess.run([tool, "check", program, patched, f"{stem}.starts", report], capture_output=True, text=True).stdout.strip()
+def verdict(tool: str, program: str, stem: str) -> str:
+    """What e9tool's `check` prints of the files `patched` and `report`."""
+    words = [tool, "check", program, "patched", f"{stem}.starts", "report"]
+    return subprocess.run(words, capture_output=True, text=True).stdout.strip()
 
 
-def changed(stem: str, number: int) -> tuple[str, str]:
+def changed(data: bytes, text: str, number: int) -> tuple[bytes, str]:
     """File and report, one of them changed: a bit of what was written for the patch, or a digit of a line that says what was."""
     random.seed(number)
-    text, data = read_text(f"{stem}.report"), bytearray(read_bytes(f"{stem}.patched"))
     if number % 2:
         lines = [found.start() for found in re.finditer(r"(?m)^(?:tramp|write|pun) .*$", text)]
         at = text.index(" ", random.choice(lines)) + random.randrange(1, 9)
-        text = text[:at] + f"{int(text[at], 16) ^ 1:x}" + text[at + 1:]
-    else:
-        tramp = int(random.choice(re.findall(r"(?m)^tramp ([0-9a-f]+)", text)), 16) if number % 4 else None
-        place = tramp or int(random.choice(WRITES.found("report", text))[0], 16)
-        offset = next(offset + place - start for offset, start, length in segments(data) if start <= place < start + length)
-        data[offset] ^= 1 << random.randrange(8)
-    with open("report", "w", encoding="ascii") as file:
-        file.write(text)
-    with open("patched", "wb") as file:
-        file.write(data)
-    return "patched", "report"
+        return data, text[:at] + f"{int(text[at], 16) ^ 1:x}" + text[at + 1:]
+    tramp = int(random.choice(re.findall(r"(?m)^tramp ([0-9a-f]+)", text)), 16) if number % 4 else None
+    place = tramp or int(random.choice(WRITES.found("report", text))[0], 16)
+    offset = next(offset + place - start for _, _, offset, start, length in entries(data) if start <= place < start + length)
+    return data[:offset] + bytes([data[offset] ^ 1 << random.randrange(8)]) + data[offset + 1:], text
 
 
-def segments(data: bytes) -> list[tuple[int, int, int]]:
-    """Of each part that is loaded the place in the file, the address and the length."""
+def entries(data: bytes) -> list[tuple[int, int, int, int, int]]:
+    """Of each part that is loaded its place in the table, its flags, the place in the file, the address and the length."""
     table, count = int.from_bytes(data[32:40], "little"), int.from_bytes(data[56:58], "little")
-    rows = [data[at:at + 56] for at in range(table, table + 56 * count, 56)]
-    return [(int.from_bytes(row[8:16], "little"), int.from_bytes(row[16:24], "little"), int.from_bytes(row[32:40], "little"))
-            for row in rows if row[0] == 1]
+    rows = [(at, *ENTRY.unpack_from(data, at)) for at in range(table, table + ENTRY.size * count, ENTRY.size)]
+    return [(at, flags, offset, start, length) for at, kind, flags, offset, start, _, length, _, _ in rows if kind == LOADED]
+
+
+def mapped(data: bytes, entry: int) -> bytes:
+    """The file of the loader form with what its stub maps in its table, in place of the stub and its page, and the original's entry."""
+    stub_at = int.from_bytes(data[24:32], "little")
+    parts = entries(data)
+    number = next(i for i, (_, _, _, start, length) in enumerate(parts) if start <= stub_at < start + length)
+    first = parts[number][2] + stub_at - parts[number][3] + RECORDS
+    left_out = {parts[number][0], next(at for at, _, _, start, _ in parts if start == int.from_bytes(data[first - RECORDS + 4:][:4], "little"))}
+    table, count = int.from_bytes(data[32:40], "little"), int.from_bytes(data[56:58], "little")
+    kept = [data[at:at + ENTRY.size] for at in range(table, table + ENTRY.size * count, ENTRY.size) if at not in left_out]
+    for at in range(first, len(data), RECORD.size):
+        start, length, offset = RECORD.unpack_from(data, at)
+        if not start:
+            break
+        kept.append(ENTRY.pack(LOADED, 5, offset, start, start, length, length, 0x1000))
+    kept.sort(key=lambda row: ENTRY.unpack(row)[3])
+    head = bytearray(data[:64])
+    head[24:32], head[32:40], head[56:58] = entry.to_bytes(8, "little"), len(data).to_bytes(8, "little"), len(kept).to_bytes(2, "little")
+    return bytes(head) + data[64:] + b"".join(kept)
+
+
+def write(path: str, data: bytes) -> None:
+    with open(path, "wb") as file:
+        file.write(data)
 
 
 def judge(tool: str, name: str, stem: str, changes: int) -> str:
     """What `check` says of the file and of changed ones, and whether the original comes back."""
-    said = verdict(tool, name, stem, f"{stem}.patched", f"{stem}.report")
-    refused = [verdict(tool, name, stem, *changed(stem, number)) for number in range(changes)]
+    data, text = read_bytes(f"{stem}.patched"), read_text(f"{stem}.report")
+    has_stub = entry_of(f"{stem}.patched") != entry_of(name)
+    shown = mapped(data, entry_of(name)) if has_stub else data
+    refused = []
+    for number in range(-1, changes):
+        file, report = changed(shown, text, number) if number >= 0 else (shown, text)
+        write("patched", file)
+        write("report", report.encode())
+        refused.append(verdict(tool, name, stem))
+        kept = data[:64] + file[64:len(data)]
+        write(f"{stem}.patched", kept)
+        write(f"{stem}.report", report.encode())
+        told = subprocess.run([sys.executable, VAKNUHOL, "check", name], capture_output=True, text=True)
+        if told.returncode != (number >= 0):
+            sys.exit(f"{name}, change {number}: {told.stdout}{told.stderr}")
+    said = refused.pop(0)
+    write(f"{stem}.patched", data)
+    write(f"{stem}.report", text.encode())
     vaknuhol("unpatch", f"{stem}.patched", "back")
     is_back = read_bytes("back") == read_bytes(name)
     if said != "check yes" or "check yes" in refused or not is_back:
         sys.exit(f"{name}: {said}; changed: {refused}; {'the' if is_back else 'not the'} original comes back")
-    return f"{said}; {len(refused)} changes are refused; the original comes back"
+    form = "loader form" if has_stub else "plain form"
+    return f"{form}: {said}; {len(refused)} changes are refused; the original comes back"
 
 
 def measure(tool: str, name: str, words: argparse.Namespace) -> None:

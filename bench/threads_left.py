@@ -1,12 +1,13 @@
 #!/usr/bin/env python3
 """Which sites are left where threads share memory, why, and which of them one thread's rewriting leaves, too.
 
-    threads_left.py [--leaders] [--kinds N] PROGRAM...
+    threads_left.py [--leaders] [--kinds N] [--form FORM].. PROGRAM...
 
 Of each static program three lists of sites are patched: of each function, of each block that ends in a direct jump, and of each block the
 instruction that `vaknuhol` takes first; with --leaders the first instruction, and of the jumps these themselves. Each list is patched by
-`e9tool threads`, where it refuses the file, since its table would be too long, with the first RESERVE of `vaknuhol`'s that will do; and,
-which shows what the loader form would give, by `e9tool load` with `count`. A list that is too long for one file is parted. A row for each:
+`e9tool threads`, where it refuses the file, since its table would be too long, with the first RESERVE of `vaknuhol`'s that will do (FORM
+`plain`); by the same in the loader form (`loader`); and, for one thread, by `e9tool load` with `count` (`load`). A list that is too long for
+one file is parted. A row for each:
 
     sites; left; patched by B1, B2, T1, T2, T3; left as NotRelocatable, NoPlan, Shared; the RESERVE that was needed.
 
@@ -46,7 +47,8 @@ from vaknuhol.recording.site_choice import with_sites  # noqa: E402
 SCHEMES, COUNT = ("B1", "B2", "T1", "T2", "T3"), action_of("count")
 OUTCOMES = re.compile(r"\nsite ([0-9a-f]+) [0-9]+ (\w+)(?=\n)")
 FORMS: dict[str, Callable[[str, str, str], list[str]]] = {
-    "threads": lambda program, starts, sites: ["threads", program, starts, sites, "out", "report:report"],
+    "plain": lambda program, starts, sites: ["threads", program, starts, sites, "out", "report:report"],
+    "loader": lambda program, starts, sites: ["threads", program, starts, sites, "out", "form:loader", "report:report"],
     "load": lambda program, starts, sites: ["load", program, starts, sites, "count", "out", "report"],
 }
 Sites = list[int]
@@ -64,12 +66,12 @@ def site_lists(listing: Listing, leaders: bool) -> dict[str, Sites]:
     return {name: sorted(set(map(last if name == "jumps" else first, of))) for name, of in chosen.items()}
 
 
-def outcomes(command: str, program: str, sites: Sites, near: int) -> tuple[list[tuple[int, str]], int]:
+def outcomes(form: str, program: str, sites: Sites, near: int) -> tuple[list[tuple[int, str]], int]:
     """The outcome of each site, and the number of the first RESERVE, from one on, that did."""
     with open("sites", "w", encoding="ascii") as file:
         file.write(list_text(sites))
     for number in range(near, len(RESERVES)):
-        words = [find_tool(), *FORMS[command](program, "starts", "sites"), *RESERVES[number]]
+        words = [find_tool(), *FORMS[form](program, "starts", "sites"), *RESERVES[number]]
         done = subprocess.run(words, capture_output=True, text=True, check=False)
         if " TooManySegments " not in done.stdout:
             break
@@ -110,36 +112,37 @@ def kinds(left: Iterable[tuple[int, str]], listing: Listing, most: int) -> str:
     return "; ".join(f"{count} {name}" for name, count in counts.most_common(most))
 
 
-def show(program: str, leaders: bool, most: int) -> None:
+def show(program: str, leaders: bool, most: int, forms: list[str]) -> None:
     """Prints the rows of a program."""
     listing = Listing(program, os.getcwd())
     with open("starts", "wb") as file:
         file.write(listing.starts_text())
     for name, sites in site_lists(listing, leaders).items():
-        for command in FORMS:
+        for form in forms:
             found, near = [], 0
             for part in parts_of(sites):
-                of_part, near = outcomes(command, program, part, near)
+                of_part, near = outcomes(form, program, part, near)
                 found += of_part
             counts = collections.Counter(outcome for _, outcome in found)
             left = [(at, outcome) for at, outcome in found if outcome in LEFT]
-            cells = [os.path.basename(program), name, command, len(found), f"{len(left)} ({100 * len(left) / max(len(found), 1):.2f} %)",
+            cells = [os.path.basename(program), name, form, len(found), f"{len(left)} ({100 * len(left) / max(len(found), 1):.2f} %)",
                      " ".join(f"{it} {counts[it]}" for it in SCHEMES), " ".join(f"{it} {counts[it]}" for it in LEFT), " ".join(RESERVES[near])]
             print(f"| {' | '.join(map(str, cells))} |", flush=True)
             if left:
-                print(f"  left by {command}: {kinds(left, listing, most)}", flush=True)
+                print(f"  left by {form}: {kinds(left, listing, most)}", flush=True)
 
 
 def main() -> None:
     parser = argparse.ArgumentParser(description=__doc__, formatter_class=argparse.RawDescriptionHelpFormatter)
     parser.add_argument("--leaders", action="store_true", help="first instructions of blocks, and the jumps themselves")
     parser.add_argument("--kinds", type=int, default=4, metavar="N", help="how many kinds are shown of what is left (4)")
+    parser.add_argument("--form", action="append", choices=FORMS, help="the forms (all)")
     parser.add_argument("programs", nargs="+", metavar="PROGRAM")
     words = parser.parse_args()
     for program in [os.path.realpath(path) for path in words.programs]:
         with tempfile.TemporaryDirectory() as folder:
             os.chdir(folder)
-            show(program, words.leaders, words.kinds)
+            show(program, words.leaders, words.kinds, words.form or list(FORMS))
         os.chdir(TOP)
 
 

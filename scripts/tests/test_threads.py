@@ -11,6 +11,8 @@ import pytest
 from tests.calls import SOURCES, run
 from tests.command import PARTS, alike, call, changed, known, patched_below
 from tests.programs import Programs
+from vaknuhol.program.kernel import entries_of, entry_of
+from vaknuhol.program.program_file import read_bytes
 from vaknuhol.recording.record_file import Record
 
 TIMES, SUM = 100000, "19999800000\n"
@@ -121,6 +123,30 @@ def test_a_dump_of_a_program_that_waits_has_all_its_counts(threads):
 def test_a_table_that_is_too_long_for_threads_is_refused(threads):
     _, told = call("count", "threads", "--threads", "--entries", "5", "--into", "none", status=125)
     assert "in the loader form, too" in told and not patched_below("none"), told
+
+
+def test_a_table_that_is_too_long_for_threads_is_written_in_the_loader_form(counted):
+    """With the same counts; what `check` writes again has the same bytes, unless some are changed, and the original
+    comes back."""
+    (path,) = call("count", "threads", "--threads", "--patch-only")[0].split()
+    few = entries_of(path) - 1
+    words = ["count", "threads", "--threads", "--entries", str(few), "--into", "few"]
+    printed, told = call(*words, "--record", "loaded")
+    assert printed == SUM and f"in the loader form, since the table may have {few} entries" in told, told
+    assert known("loaded") == known(counted) and Record("loaded").for_threads
+    (path,) = call(*words, "--patch-only")[0].split()
+    assert entries_of(path) <= few and entry_of(path) != entry_of("threads")
+    again = f"{path}: loader form, written again with "
+    assert call("check", "threads", "--into", "few")[0] == f"{again}the same bytes\n"
+    call("unpatch", path, "again")
+    assert read_bytes("again") == read_bytes("threads")
+    for name in (path, f"{path.removesuffix('.patched')}.report"):
+        data = read_bytes(name)
+        with open(name, "wb") as file:
+            file.write(data[:-2] + bytes([data[-2] ^ 1]) + data[-1:])
+        assert call("check", "threads", "--into", "few", status=1)[0] == f"{again}other bytes\n"
+        with open(name, "wb") as file:
+            file.write(data)
 
 
 def test_with_no_threads_a_program_is_warned_of_as_it_is_patched_and_as_it_starts_one(threads):

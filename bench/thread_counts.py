@@ -111,7 +111,7 @@ def mapped(data: bytes, entry: int) -> bytes:
         if not start:
             break
         kept.append(ENTRY.pack(LOADED, 5, offset, start, start, length, length, 0x1000))
-    kept.sort(key=lambda row: ENTRY.unpack(row)[3])
+    kept.sort(key=lambda row: int(ENTRY.unpack(row)[3]))
     head = bytearray(data[:64])
     head[24:32], head[32:40], head[56:58] = entry.to_bytes(8, "little"), len(data).to_bytes(8, "little"), len(kept).to_bytes(2, "little")
     return bytes(head) + data[64:] + b"".join(kept)

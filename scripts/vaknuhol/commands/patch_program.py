@@ -7,9 +7,8 @@ instruction of its block, in up to four rounds. If the program header table woul
 called; with --no-loader, new code is kept nearer and nearer. e9tool is $E9TOOL if that is set, otherwise
 crates/e9tool/out/e9tool of this repository, the one in PATH, or the unproved one beside the first.
 
-With --count --threads e9tool's `threads` is called: the program may have threads, and no count is lost. The files are
-PROGRAM.threads.patched, PROGRAM.threads.report and so on, and if the table would get too long, new code is kept nearer
-and nearer.
+With --count --threads e9tool's `threads` is called, with `form:loader` if the table would get too long: the program may
+have threads, and no count is lost. The files are PROGRAM.threads.patched, PROGRAM.threads.report and so on.
 
 The exit status is 0 if each chosen block is patched, 1 if some were left, and 2 if something is refused.
 """

@@ -100,6 +100,8 @@ static void replaced(pid_t pid) {
         drop_task(it, "exec", 0);
     int has_program = is_ours(pid);
     run->processes += has_program && !run->processes;
+    if (has_program)
+        tell_original(pid);
     if (has_program || !run->is_stand_in)
         add_task(pid, pid, has_program && to_call_stop(pid, &(int){0}) ? space_of(pid, 0) : NULL);
     else if (pid == run->first)

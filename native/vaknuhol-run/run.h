@@ -39,6 +39,7 @@ struct patch {
     char mark[16], head[512], left[128], warning[512]; /* of a record: its head, and of a ring its line on blocks left; told at the first thread */
     uint32_t kind, has_counters, for_threads, slots, sites, event_length, comparison_count, row_count, tramp_count, text_length;
     uint64_t private_at, private_length, data_length;
+    uint64_t headers_at, header_count, entry; /* of the original, as the kernel tells them to it; a count of 0 where they aren't known */
     struct {
         uint32_t reg, sign;
         uint64_t value;
@@ -84,6 +85,9 @@ int make_own(struct space *it, pid_t tid);
 int read_range(struct space *it, pid_t tid);
 /* A space that nobody is in any more: its counts go into the record, and a ring is kept. */
 void drop_space(struct space *it);
+
+/* vector.c: the auxiliary vector of a process that becomes the patched program, at exec's stop, has the original's program headers and entry. */
+void tell_original(pid_t tid);
 
 /* outside.c: at the stop before a signal's delivery a thread is put to a start of the original. */
 void before_delivery(struct space *space, pid_t tid, int number);

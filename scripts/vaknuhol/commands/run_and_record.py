@@ -42,5 +42,5 @@ def main() -> int:
     report = Report(words.report)
     run = Run(report)
     check_program(path, report, run)
-    with as_file(words.record) as record, passing_table(report, run) as table:
+    with as_file(words.record) as record, passing_table(report, run, path) as table:
         return run_recorded(table, path, [words.program, *words.words], record)[0]

@@ -56,7 +56,7 @@ def patched_file(words: argparse.Namespace) -> tuple[str, str]:
     (part,) = kept.parts
     if part.entries() > kept.runs_here:
         refuse_too_many(part.files.patched, part.entries(), kept.runs_here)
-    return part.files.patched, kept_table(part.files.stem, part.report, part.run)
+    return part.files.patched, kept_table(part.files, part.report, part.run)
 
 
 def do(words: argparse.Namespace) -> int:

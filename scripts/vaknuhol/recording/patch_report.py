@@ -9,7 +9,7 @@ import hashlib
 import os
 import re
 from collections.abc import Iterable, Iterator
-from typing import Any
+from typing import Any, NamedTuple
 
 from vaknuhol.arguments import Refusal
 from vaknuhol.program.program_file import Program, file_hash, read_text
@@ -57,10 +57,19 @@ class Lines:
 
 ADDRESS, CODE = "([0-9a-f]+)", "((?:[0-9a-f]{2})+)"
 ACTION, PRIVATE = Lines("action", "(.*)"), Lines("private", f"{ADDRESS} [0-9]+")
+ORIGIN = Lines("origin", f"([0-9]+) ([0-9]+) ([0-9]+) {ADDRESS}")
 SITES = Lines("site", f"{ADDRESS} ([0-9]+) ([A-Za-z0-9]+)")
 TRAMPS, WRITES = Lines("tramp", f"{ADDRESS} {ADDRESS} (event|plain)"), Lines("write", f"{ADDRESS} {CODE} {CODE}")
 NEAR = rf"\nsite {ADDRESS} [0-9]+ T3((?:\n(?:tramp|write|pun) .*)*)"
 SHORT_JUMP, SHORT_LENGTH = 0xEB, 2
+
+
+class Origin(NamedTuple):
+    """What a report says of the original file: its length, and three fields of its header."""
+    length: int
+    phoff: int
+    phnum: int
+    entry: int
 
 
 class Report:
@@ -99,6 +108,12 @@ class Report:
     def record_place(self) -> tuple[int, int]:
         """Where the record lies in memory, and how many bytes it has."""
         return self.private + SCRATCH, self.action.length(self.sites())
+
+    def origin(self) -> Origin | None:
+        """What it says of the original file; nothing, in version 1."""
+        for length, phoff, phnum, entry in ORIGIN.found(self.path, self.text):
+            return Origin(int(length), int(phoff), int(phnum), int(entry, 16))
+        return None
 
     def sites(self) -> int:
         """How many numbers of sites a record has: up to the highest one that is patched."""

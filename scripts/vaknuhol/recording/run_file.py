@@ -12,14 +12,15 @@ from collections.abc import Iterator
 from vaknuhol.outputs import write_whole
 from vaknuhol.recording.actions import MOST_COMPARISONS, REGISTERS, SIGNS, Action, Ring
 from vaknuhol.recording.event_undo import undo_of
-from vaknuhol.recording.patch_files import Run
+from vaknuhol.recording.original_headers import told_to_original
+from vaknuhol.recording.patch_files import Run, RunFiles
 from vaknuhol.recording.patch_report import SCRATCH, Report, outcome_counts
 from vaknuhol.recording.record_file import FOR_THREADS, NOT_KNOWN, line_of
 from vaknuhol.recording.thread_use import SHARING, meant
 
-MARK, ENDING, PAGE = b"vakrun 3\n", "run", 4096
+MARK, ENDING, PAGE = b"vakrun 4\n", "run", 4096
 FRONT = struct.Struct("<16s512s")
-BODY = struct.Struct(f"<128s512s10I3Q{MOST_COMPARISONS * 'IIQ'}80s")
+BODY = struct.Struct(f"<128s512s10I6Q{MOST_COMPARISONS * 'IIQ'}80s")
 COVER, COUNT, RING = range(3)
 LEFT, PLAIN, NOWHERE = 0xFFFFFFFF, 0xFFFFFFFF, 0xFFFFFFFE
 MOST_TRAMPOLINE, ROW_BYTES, TRAMP_BYTES = 128, 8, 12
@@ -86,8 +87,8 @@ def comparisons_of(action: Action) -> list[tuple[int, int, int]]:
             for comparison in action.comparisons]
 
 
-def table_of(report: Report, run: Run) -> bytes:
-    """The run file."""
+def table_of(report: Report, run: Run, patched: str) -> bytes:
+    """The run file of a patched file."""
     action, length = report.action, report.record_place()[1]
     kind = RING if action.is_ring else COUNT if action.adds else COVER
     tramps = rows_of_tramps(tramps_of(report))
@@ -96,27 +97,28 @@ def table_of(report: Report, run: Run) -> bytes:
     numbers = [kind, kind == COUNT or report.for_threads, report.for_threads, action.slots if isinstance(action, Ring)
                else 0, report.sites(), len(undo),
                len(comparisons), len(rows) // ROW_BYTES, len(tramps) // TRAMP_BYTES, len(lines), report.private,
-               -(-(SCRATCH + length) // PAGE) * PAGE, length]
+               -(-(SCRATCH + length) // PAGE) * PAGE, length,
+               *told_to_original(report, patched)]
     for comparison in (*comparisons, *[(0, 0, 0)] * (MOST_COMPARISONS - len(comparisons))):
         numbers += comparison
     body = BODY.pack(left_line(report, run).encode(), warning.encode(), *numbers, undo)
     return b"".join((front_of(report, run), body, rows, tramps, lines.encode()))
 
 
-def kept_table(stem: str, report: Report, run: Run) -> str:
+def kept_table(files: RunFiles, report: Report, run: Run) -> str:
     """The path of the run file beside a kept patched file; it is written where none of this patch is there."""
-    path, front = f"{stem}.{report.action.file_part}.{ENDING}", front_of(report, run)
+    path, front = f"{files.stem}.{report.action.file_part}.{ENDING}", front_of(report, run)
     with contextlib.suppress(OSError), open(path, "rb") as file:
         if file.read(len(front)) == front:
             return path
-    write_whole({path: table_of(report, run)})
+    write_whole({path: table_of(report, run, files.patched)})
     return path
 
 
 @contextlib.contextmanager
-def passing_table(report: Report, run: Run) -> Iterator[str]:
+def passing_table(report: Report, run: Run, patched: str) -> Iterator[str]:
     """The path of a run file that is gone afterwards."""
     with tempfile.TemporaryDirectory(prefix="vaknuhol.") as folder:
         path = os.path.join(folder, ENDING)
-        write_whole({path: table_of(report, run)})
+        write_whole({path: table_of(report, run, patched)})
         yield path

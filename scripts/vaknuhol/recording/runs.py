@@ -77,7 +77,7 @@ def run_parts(parts: list[Part], command: list[str], record: str) -> tuple[int, 
 
 def run_part(part: Part, command: list[str], record: str) -> tuple[int, bool]:
     """Runs one patched file; its status, and whether its record was written."""
-    return run_recorded(kept_table(part.files.stem, part.report, part.run), part.files.patched, command, record)
+    return run_recorded(kept_table(part.files, part.report, part.run), part.files.patched, command, record)
 
 
 def run(kept: Kept, command: list[str], record: str) -> tuple[int, Record | None]:

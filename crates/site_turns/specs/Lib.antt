@@ -13,4 +13,5 @@ pub mod PlannedState
 pub mod Planning
 pub mod PlanLaws
 pub mod LockedRuns
+pub mod StartInsns
 pub mod Turned

@@ -6,6 +6,7 @@ ghost use Rattle.image_check.specs.Rules.{HasCode};
 ghost use Rattle.site_turns.specs.Planning.{lines_of, AreCodesBy};
 ghost use Rattle.site_turns.specs.Turned.{events_case, line_at, CanBuild, AddsCodes};
 
+use crate::start_insn::insn_at;
 use code_bytes::code::Code;
 use elf_emit::built::Built;
 use elf_read::elf::Elf;
@@ -58,11 +59,19 @@ impl Coding for EventSetting<'_> {
     ghost is_code = { λ s. HasCode (events_case s) };
 
     fn code_of(&self, number: u32, tramp: &Tramp) -> Code {
-        let entry = self.starts.at(tramp.start).unwrap();
-        let insn = entry.form.as_ref().unwrap();
-        let bytes = &self.elf.window(entry.addr)[..usize::from(entry.len)];
+        let Some(at) = insn_at(self.elf, self.starts, tramp.start) else {
+            unreachable!();
+        };
         let event = event_of(self.action, number, tramp);
-        build(insn, bytes, entry.addr, tramp.place, event, self.private.lo).unwrap()
+        build(
+            at.insn,
+            at.bytes,
+            at.entry.addr,
+            tramp.place,
+            event,
+            self.private.lo,
+        )
+        .unwrap()
     }
 }
 

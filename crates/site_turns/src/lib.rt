@@ -15,3 +15,4 @@ pub mod plan;
 pub mod planned;
 mod progress;
 mod setting;
+pub mod start_insn;

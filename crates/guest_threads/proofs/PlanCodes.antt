@@ -1,20 +1,24 @@
 -- The code that is built for a trampoline for threads.
-use Rattle.std.proofs.Common.{◌≡◌, ℕ, ◌+◌, Bool, true, List, length, take, Option, Some, None, Result, Ok, Err, Bor, refl, sym, ap, ap₂, ◌∙◌, subst}
-use Rattle.std.specs.Option.{is_some, option_copied}
-use Rattle.std.specs.Prelude.{MatchResult, IfOk, IsOk, IsSome}
+use Rattle.std.proofs.Common.{◌≡◌, ℕ, ◌+◌, Bool, true, List, length, Option, Some, None, Result, Ok, Err, refl, sym, ap, ap₂, ◌∙◌, subst}
+use Rattle.std.specs.Option.{is_some}
+use Rattle.std.specs.Prelude.{MatchResult, IfOk, IsOk}
 use Rattle.std.proofs.lemmas.Bool.{false≢true}
 use Rattle.cpu_state.specs.Bytes.{Stands}
 use Rattle.elf_read.specs.Image.{image_of}
+use Rattle.elf_read.specs.Refusals.{refusal}
 use Rattle.length_decode.specs.Spelling.{Fields, IsInstruction, spelling}
 use Rattle.code_bytes.specs.declared.code.Code.{Code}
 use Rattle.insn_form.specs.declared.form.Insn.{Insn}
 use Rattle.relocate_insn.specs.declared.relocation.NotRelocatable.{NotRelocatable}
 use Rattle.start_entries.specs.declared.entry.StartEntry.{StartEntry}
+use Rattle.start_entries.specs.Finding.{entry_at}
+use Rattle.start_entries.specs.Laws.{IsBuilt}
 use Rattle.image_check.specs.Reports.{Line}
 use Rattle.image_check.proofs.CodeAtStarts.{IsReadAt, read_at, found_address}
 use Rattle.trampoline.specs.Atomic.{thread_len, back, can_by}
 use Rattle.site_turns.specs.Modes.{can_in_threads}
-use Rattle.site_turns.proofs.TrampolineCodes.{IsTaken, taken_spelled}
+use Rattle.site_turns.specs.StartInsns.{form_from, form_at, IsInsnAt}
+use Rattle.site_turns.proofs.TrampolineCodes.{taken_spelled}
 use Rattle.site_turns.proofs.LeadingPlans.{mapped_some}
 use Rattle.thread_runs.specs.Building.{size_if}
 use Rattle.thread_runs.specs.ThreadCode.{code_if}
@@ -32,32 +36,29 @@ built_ok b e i len (Err z) h f l t =
     let d : is_some (thread_len i e.len e.addr) ≡ true = mapped_some (λ n. n + back i) (thread_len i e.len e.addr) (ap (λ (o : Option Insn). is_some (can_by o e.len e.addr)) (sym f) ∙ h) in
     absurd (false≢true (ap is_some (sym t) ∙ ap (λ n. is_some (thread_len i n e.addr)) l ∙ d))
 
--- an entry that can be displaced is known
-pub form_some : (e : StartEntry) → is_some (can_in_threads e) ≡ true → is_some e.form ≡ true
-form_some e h = by_form e.form h
+-- where a start is listed whose instruction can be displaced for threads, the instruction is known
+pub form_known : (es : List StartEntry) (start : ℕ) → is_some (entry_at es start) ≡ true
+    → ((e : StartEntry) → entry_at es start ≡ Some e → is_some (can_in_threads e) ≡ true) → form_at es start ≡ None → ⊥
+form_known es start h k f = by_entry (entry_at es start) refl
   where
-    by_form : (o : Option Insn) → is_some (can_by o e.len e.addr) ≡ true → is_some o ≡ true
-    by_form None k = k
-    by_form (Some i) k = refl
-
--- what a reference to something shows is something
-pub copied_there : (o : Option (Bor Insn)) → is_some (option_copied o) ≡ true → IsSome o
-copied_there None h = absurd (false≢true h)
-copied_there (Some i) h = refl
+    by_entry : (o : Option StartEntry) → entry_at es start ≡ o → ⊥
+    by_entry None e = false≢true (sym (ap is_some e) ∙ h)
+    by_entry (Some e) o = let known : e.form ≡ None = sym (ap form_from o) ∙ f in
+        false≢true (ap (λ (z : Option Insn). is_some (can_by z e.len e.addr)) (sym known) ∙ k e o)
 
 -- the code that is built is the trampoline's
-pub has_code : (file : List ℕ) (es : List StartEntry) (e : StartEntry) (i : Insn) (n : ℕ) (ws : List ℕ) (l : Line) (private : ℕ) (code : Code)
-    (r : Result Code NotRelocatable) (got : IsTaken file es l.tramp.start e i n ws) → r ≡ Ok code
-    → ((f : Fields) → IsInstruction f → take n ws ≡ spelling f → IfOk r (λ (z : Code). z.bytes ≡ code_if l.tramp.event private l.number f (e.addr + length (take n ws)) l.tramp.place))
+pub has_code : (file : List ℕ) (es : List StartEntry) (e : StartEntry) (i : Insn) (bs : List ℕ) (l : Line) (private : ℕ) (code : Code)
+    (r : Result Code NotRelocatable) → refusal 0x10000 file ≡ None → IsBuilt file es → IsInsnAt file es l.tramp.start e i bs → r ≡ Ok code
+    → ((f : Fields) → IsInstruction f → bs ≡ spelling f → IfOk r (λ (z : Code). z.bytes ≡ code_if l.tramp.event private l.number f (e.addr + length bs) l.tramp.place))
     → HasThreadCode (image_of file) private l code.bytes
-has_code file es e i n ws l private code r got u b =
-    let q : IsReadAt file e i = read_at file es l.tramp.start e i got.accepted got.own got.at got.form in
+has_code file es e i bs l private code r accepted own got u b =
+    let q : IsReadAt file e i = read_at file es l.tramp.start e i accepted own got.at got.form in
     let a : e.addr ≡ l.tramp.start = found_address es l.tramp.start e got.at in
     let f = q.fields in
-    let spelled = taken_spelled file es l.tramp.start e i n ws got in
-    let next : e.addr + length (take n ws) ≡ l.tramp.start + length (spelling f) = ap₂ (λ x y. x + y) a (ap length spelled) in
-    let is : code.bytes ≡ code_if l.tramp.event private l.number f (e.addr + length (take n ws)) l.tramp.place =
-    subst (λ (z : Result Code NotRelocatable). IfOk z (λ (z : Code). z.bytes ≡ code_if l.tramp.event private l.number f (e.addr + length (take n ws)) l.tramp.place)) u
+    let spelled = taken_spelled file es l.tramp.start e i bs accepted own got in
+    let next : e.addr + length bs ≡ l.tramp.start + length (spelling f) = ap₂ (λ x y. x + y) a (ap length spelled) in
+    let is : code.bytes ≡ code_if l.tramp.event private l.number f (e.addr + length bs) l.tramp.place =
+    subst (λ (z : Result Code NotRelocatable). IfOk z (λ (z : Code). z.bytes ≡ code_if l.tramp.event private l.number f (e.addr + length bs) l.tramp.place)) u
     (b f q.is spelled) in
     record {
       fields = f;

@@ -16,6 +16,7 @@ use site_turns::error::TurnError;
 use site_turns::mode::Mode;
 use site_turns::plan::{TurnedSites, turn_sites};
 use site_turns::planned::Planned;
+use site_turns::start_insn::insn_at;
 use start_entries::starts::Starts;
 use std::alloc::Global;
 use thread_runs::thread_trampoline;
@@ -35,14 +36,14 @@ impl Coding for ThreadSetting<'_> {
     ghost is_code = { code_in };
 
     fn code_of(&self, number: u32, tramp: &Tramp) -> Code {
-        let entry = self.starts.at(tramp.start).unwrap();
-        let insn = entry.form.as_ref().unwrap();
-        let bytes = &self.elf.window(entry.addr)[..usize::from(entry.len)];
+        let Some(at) = insn_at(self.elf, self.starts, tramp.start) else {
+            unreachable!();
+        };
         thread_trampoline(
             tramp.event,
-            insn,
-            bytes,
-            entry.addr,
+            at.insn,
+            at.bytes,
+            at.entry.addr,
             tramp.place,
             number,
             self.private.lo,

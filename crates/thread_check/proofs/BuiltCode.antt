@@ -1,10 +1,11 @@
 -- The code that is built for a trampoline is the one that it has for threads.
-use Rattle.std.proofs.Common.{◌≡◌, inl, inr, ℕ, ◌+◌, ◌<◌, false, true, List, ◌++◌, length, length-append, take, get_or, map, Option, Some, None, refl, sym, ap, ◌∙◌, subst, arith}
+use Rattle.std.proofs.Common.{◌≡◌, inl, inr, ℕ, ◌+◌, ◌<◌, false, true, List, ◌++◌, length, length-append, get_or, map, Option, Some, None, refl, sym, ap, ◌∙◌, subst, arith}
 use Rattle.std.specs.Option.{is_some, option_map}
 use Rattle.std.proofs.lemmas.Option.{slice_get-map, slice_get-get_or}
 use Rattle.pun_base.specs.Memory.{Bytes}
 use Rattle.cpu_state.specs.Bytes.{Stands}
 use Rattle.elf_read.specs.Image.{image_of}
+use Rattle.elf_read.specs.Refusals.{refusal}
 use Rattle.length_decode.specs.Spelling.{Fields, IsInstruction, spelling}
 use Rattle.insn_form.specs.declared.form.Insn.{Insn}
 use Rattle.insn_form.specs.Displacing.{displaced_len}
@@ -12,6 +13,7 @@ use Rattle.insn_form.specs.Step.{next_after}
 use Rattle.trampoline.specs.Atomic.{is_atomic, thread_len, back, can_by}
 use Rattle.start_entries.specs.declared.entry.StartEntry.{StartEntry}
 use Rattle.start_entries.specs.Finding.{entry_at}
+use Rattle.start_entries.specs.Laws.{IsBuilt}
 use Rattle.patch_report.specs.Grammar.{IsTold}
 use Rattle.patch_report.specs.Values.{BodyValue}
 use Rattle.patch_report.proofs.ReportBounds.{bounded}
@@ -25,7 +27,8 @@ use Rattle.image_check.specs.declared.verdict.Verdict.{Verdict}
 use Rattle.image_check.specs.declared.verdict.Verdict.TheVariants.{Yes, No}
 use Rattle.image_check.proofs.CodeAtStarts.{IsReadAt, read_at, found_address}
 use Rattle.image_check.proofs.ReportLines.{number_low, place_low}
-use Rattle.site_turns.proofs.TrampolineCodes.{IsTaken, within, taken_spelled}
+use Rattle.site_turns.specs.StartInsns.{form_from, form_at, IsInsnAt}
+use Rattle.site_turns.proofs.TrampolineCodes.{taken_len, taken_spelled}
 use Rattle.thread_runs.specs.Building.{size_if}
 use Rattle.thread_runs.specs.ThreadCode.{event_len, event_if, thread_work, code_if}
 use Rattle.thread_runs.proofs.WorkSize.{told}
@@ -40,23 +43,23 @@ mapped_from f None n h = absurd cc
 mapped_from f (Some k) n h = (k, refl)
 
 -- the code that is built of what is taken of the file
-pub built : (c : Case) (l : Line) (file : List ℕ) (e : StartEntry) (i : Insn) (n : ℕ) (ws code : List ℕ) (private : ℕ)
-    → c.original ≡ image_of file → (got : IsTaken file c.listed l.tramp.start e i n ws) → e.shared ≡ false → private ≡ c.report.private.0
-    → ((f : Fields) → IsInstruction f → take n ws ≡ spelling f → code ≡ code_if l.tramp.event private l.number f (e.addr + length (take n ws)) l.tramp.place)
-    → size_if l.tramp.event i (length (take n ws)) e.addr ≡ Some (length code) → IsThreadCode c l code
-built c l file e i n ws code private o got alone p k s =
-    let q : IsReadAt file e i = read_at file c.listed l.tramp.start e i got.accepted got.own got.at got.form in
-    let spelled = taken_spelled file c.listed l.tramp.start e i n ws got in
-    let size : length (take n ws) ≡ e.len = sym (within file c.listed l.tramp.start e i n ws got) ∙ got.len in
+pub built : (c : Case) (l : Line) (file : List ℕ) (e : StartEntry) (i : Insn) (bs code : List ℕ) (private : ℕ)
+    → refusal 0x10000 file ≡ None → IsBuilt file c.listed → c.original ≡ image_of file → IsInsnAt file c.listed l.tramp.start e i bs → e.shared ≡ false → private ≡ c.report.private.0
+    → ((f : Fields) → IsInstruction f → bs ≡ spelling f → code ≡ code_if l.tramp.event private l.number f (e.addr + length bs) l.tramp.place)
+    → size_if l.tramp.event i (length bs) e.addr ≡ Some (length code) → IsThreadCode c l code
+built c l file e i bs code private accepted own o got alone p k s =
+    let q : IsReadAt file e i = read_at file c.listed l.tramp.start e i accepted own got.at got.form in
+    let spelled = taken_spelled file c.listed l.tramp.start e i bs accepted own got in
+    let size : length bs ≡ e.len = taken_len file c.listed l.tramp.start e i bs accepted own got in
     let a : e.addr ≡ l.tramp.start = found_address c.listed l.tramp.start e got.at in
-    let w = mapped_from _ (thread_len i (length (take n ws)) e.addr) (length code) s in
+    let w = mapped_from _ (thread_len i (length bs) e.addr) (length code) s in
     let long : thread_len i e.len e.addr ≡ Some w.0 = ap (λ z. thread_len i z e.addr) (sym size) ∙ w.1 in
     let low = q.low in
     let long_is = q.size in
-    let next : e.addr + length (take n ws) ≡ next_after e.addr q.fields = omega (arith, size, low, long_is) in
+    let next : e.addr + length bs ≡ next_after e.addr q.fields = omega (arith, size, low, long_is) in
     let event = event_if l.tramp.event private l.number in
-    let work = thread_work q.fields (e.addr + length (take n ws)) (l.tramp.place + event_len l.tramp.event) in
-    let longer : 0 < length work = work_long q.fields (e.addr + length (take n ws)) (l.tramp.place + event_len l.tramp.event) w.0 e.len e.addr q.is q.size
+    let work = thread_work q.fields (e.addr + length bs) (l.tramp.place + event_len l.tramp.event) in
+    let longer : 0 < length work = work_long q.fields (e.addr + length bs) (l.tramp.place + event_len l.tramp.event) w.0 e.len e.addr q.is q.size
     (ap (λ (x : Insn). thread_len x e.len e.addr) (sym q.insn) ∙ long) in
     let written : length code ≡ length (event ++ work) = ap length (k q.fields q.is spelled) in
     record {
@@ -77,20 +80,21 @@ built c l file e i n ws code private o got alone p k s =
     }
 
 -- where nothing is built, the instruction can't be displaced
-pub not_built : (c : Case) (l : Line) (file : List ℕ) (e : StartEntry) (i : Insn) (n : ℕ) (ws : List ℕ)
-    → (got : IsTaken file c.listed l.tramp.start e i n ws) → thread_len i (length (take n ws)) e.addr ≡ None → IsCodeFound c l None
-not_built c l file e i n ws got s =
-    let size : length (take n ws) ≡ e.len = sym (within file c.listed l.tramp.start e i n ws got) ∙ got.len in
+pub not_built : (c : Case) (l : Line) (file : List ℕ) (e : StartEntry) (i : Insn) (bs : List ℕ)
+    → refusal 0x10000 file ≡ None → IsBuilt file c.listed → IsInsnAt file c.listed l.tramp.start e i bs → thread_len i (length bs) e.addr ≡ None → IsCodeFound c l None
+not_built c l file e i bs accepted own got s =
+    let size : length bs ≡ e.len = taken_len file c.listed l.tramp.start e i bs accepted own got in
     inl (ap moved_from got.at ∙ ap (λ (z : Option Insn). can_by z e.len e.addr) got.form
     ∙ ap (option_map (λ n. n + back i)) (ap (λ z. thread_len i z e.addr) (sym size) ∙ s))
 
--- where no start is listed, nothing can be displaced
-pub not_listed : (c : Case) (l : Line) → entry_at c.listed l.tramp.start ≡ None → IsCodeFound c l None
-not_listed c l h = inl (ap moved_from h)
-
--- where an instruction is unknown, it can't be displaced
-pub not_known : (c : Case) (l : Line) (e : StartEntry) → entry_at c.listed l.tramp.start ≡ Some e → e.form ≡ None → IsCodeFound c l None
-not_known c l e h f = inl (ap moved_from h ∙ ap (λ (z : Option Insn). can_by z e.len e.addr) f)
+-- where no instruction is known at a start, none can be displaced
+pub not_known : (c : Case) (l : Line) → form_at c.listed l.tramp.start ≡ None → IsCodeFound c l None
+not_known c l f = by_entry (entry_at c.listed l.tramp.start) refl
+  where
+    by_entry : (o : Option StartEntry) → entry_at c.listed l.tramp.start ≡ o → IsCodeFound c l None
+    by_entry None e = inl (ap moved_from e)
+    by_entry (Some e) o = let known : e.form ≡ None = sym (ap form_from o) ∙ f in
+        inl (ap moved_from o ∙ ap (λ (z : Option Insn). can_by z e.len e.addr) known)
 
 -- where an entry is marked, its instruction shares a byte
 pub not_alone : (c : Case) (l : Line) (e : StartEntry) → entry_at c.listed l.tramp.start ≡ Some e → e.shared ≡ true → IsCodeFound c l None

@@ -15,6 +15,7 @@ use image_check::flat::ReportLine;
 use image_check::jumps::jump_at;
 use image_check::verdict::Verdict;
 use patch_report::report::Report;
+use site_turns::start_insn::insn_at;
 use start_entries::starts::Starts;
 use thread_runs::thread_trampoline;
 
@@ -27,22 +28,18 @@ fn code_of(orig: &Elf<'_>, starts: &Starts, report: &Report, line: &ReportLine) 
     ensures { (p : List ℕ) → IsCodeFound
         (case_of orig.now.bytes p starts.now report.now.body) (line_of line.now) result }
 {
-    let Some(entry) = starts.at(line.tramp.start) else {
+    let Some(at) = insn_at(orig, starts, line.tramp.start) else {
         return None;
     };
-    if entry.shared {
+    if at.entry.shared {
         return None;
     }
-    let Some(insn) = entry.form else {
-        return None;
-    };
     let private = report.private().lo;
-    let bytes = &orig.window(entry.addr)[..usize::from(entry.len)];
     match thread_trampoline(
         line.tramp.event,
-        &insn,
-        bytes,
-        entry.addr,
+        at.insn,
+        at.bytes,
+        at.entry.addr,
         line.tramp.place,
         line.number,
         private,

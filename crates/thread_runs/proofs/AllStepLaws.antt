@@ -2,6 +2,7 @@
 use Rattle.insn_form.proofs.AlikeMemories.{alike_act, alike_step}
 use Rattle.thread_runs.specs.StepLaws.{StepLaws}
 use Rattle.thread_runs.proofs.ThreadEventInstructions.{event_step, event_goes, saved_back}
+use Rattle.thread_runs.proofs.CoverStep.{cover_step, cover_goes}
 use Rattle.thread_runs.proofs.EffectSteps.{effect_step}
 use Rattle.thread_runs.proofs.RelocatedTouches.{holds_slot, saves_held, worked_core, leads_told, not_locked_is, work_touches}
 use Rattle.thread_runs.proofs.WorkTails.{work_long, tail_touches, tail_inside, tail_step}
@@ -12,6 +13,8 @@ step_laws = record {
   alike = alike_step;
   events = event_step;
   goes = event_goes;
+  cover = cover_step;
+  covers = cover_goes;
   saved = saved_back;
   held = saves_held;
   slots = holds_slot;

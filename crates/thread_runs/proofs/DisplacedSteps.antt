@@ -3,6 +3,7 @@ use Rattle.std.proofs.Common.{◌≡◌, inl, inr, ℕ, ◌+◌, ◌<◌, ◌≤
 use Rattle.std.specs.Prelude.{Contains}
 use Rattle.std.proofs.lemmas.Bool.{and_parts, and_from, and_left, or_right, cond-false, eqb-true, eq-eqb, false_from_ne_true}
 use Rattle.pun_base.specs.Memory.{Bytes}
+use Rattle.pun_base.specs.declared.action.Base.{Base}
 use Rattle.length_decode.specs.Spelling.{Fields, spelling}
 use Rattle.cpu_state.specs.Fixed.{IsFixed}
 use Rattle.cpu_state.specs.Processor.{IsProcessorCore, GiveWords}
@@ -23,18 +24,19 @@ use Rattle.start_entries.specs.Standing.{AreEntries}
 use Rattle.image_step.specs.Listed.{is_start, is_listed_byte}
 use Rattle.thread_runs.specs.Guest.{Thread, machine_of, thread_of}
 use Rattle.thread_runs.specs.ThreadCode.{thread_work}
+use Rattle.thread_runs.specs.Threading.Part.{Whole, Save, Marked}
 use Rattle.thread_runs.specs.Work.{Tail, left, InTail, IsWork, AtWork, Worked}
 use Rattle.thread_runs.specs.Work.Tail.{Out, Back, Jump, Ecx}
 use Rattle.thread_runs.specs.Threading.{ThreadSite, Threading, next_of, work_at, is_new, is_hidden, is_kept, in_event, saves, is_counted, relocated_at, is_code_of, IsThreadSound}
 use Rattle.thread_runs.specs.Watching.{Watched, Watch, leads_to, led_on, behind, is_effect, projection, stale_after}
 use Rattle.thread_runs.specs.Premises.{IsQuietAt, reads_nothing_of}
 use Rattle.thread_runs.specs.StepLaws.{StepLaws, writes_of}
-use Rattle.thread_runs.proofs.ThreadPlaces.{part_only, kept_not, no_site, site_here, effect_there, effect_never, in_code, work_in, part_is, part_true, part_past, counted_len}
+use Rattle.thread_runs.proofs.ThreadPlaces.{part_only, kept_not, no_site, site_here, effect_there, effect_never, part_in, work_in, part_is, part_true, part_past, part_small, save_small, mark_from, mark_end, mark_some}
 use Rattle.thread_runs.proofs.KeptRelation.{keeps_code}
-use Rattle.thread_runs.proofs.StandingCode.{fields_of, site_stands, work_stands, code_length, counter_kept}
+use Rattle.thread_runs.proofs.StandingCode.{fields_of, site_stands, work_stands, code_length, mark_kept}
 use Rattle.thread_runs.proofs.OutsideSteps.{alike_on, none_more, all_zero, calm_projection, start_uncounted}
 use Rattle.thread_runs.proofs.ThreadEventSteps.{same_test}
-use Rattle.thread_runs.proofs.WatchedRelation.{Phase, ThreadKept, Base, Made}
+use Rattle.thread_runs.proofs.WatchedRelation.{Phase, ThreadKept, marked, Ground, Made}
 
 module _ (r : Threading) (A : AreEntries r.original r.listed) (S : IsThreadSound r) (L : StepLaws) where
   module _ (site : ThreadSite) (listed : Contains r.sites site) where
@@ -57,10 +59,11 @@ module _ (r : Threading) (A : AreEntries r.original r.listed) (S : IsThreadSound
     -- past the first address of the relocated code nothing is counted
     pub past_uncounted : (x : ℕ) → at < x → x < at + length (thread_work F nx at) → (t : ThreadSite) → Contains r.sites t → is_counted t x ≡ false
     past_uncounted x a b t h = false_from_ne_true (is_counted t x) (λ p.
-        let q = part_is 21 33 x t p in
-        let same : t ≡ site = S.apart t site h listed x (in_code r A S L.long t h x q.2 (omega (arith, q.0)) (omega (arith, q.1))) (omega (arith, a), omega (arith, b, code_length r A S site listed)) in
+        let q = part_is Marked x t p in
+        let same : t ≡ site = S.apart t site h listed x (part_in r A S L.long Marked t h x p) (omega (arith, a), omega (arith, b, code_length r A S site listed)) in
         let z : work_at t ≡ work_at site = ap work_at same in
-        omega (arith, q.1, a, z, counted_len t q.2))
+        let small = part_small Marked t.event in
+        omega (arith, q.1, a, z, small))
 
     -- where a thread stands after its effect step nothing is counted
     pub landed_uncounted : (k : Tail) (p : Thread) (to : Machine) → IsWork F site.entry.addr nx at to → InTail F nx at k p.core p.rip to → is_start r.listed p.rip ≡ true → (t : ThreadSite) → Contains r.sites t → is_counted t to.rip ≡ false
@@ -70,7 +73,7 @@ module _ (r : Threading) (A : AreEntries r.original r.listed) (S : IsThreadSound
     landed_uncounted Ecx p to W h start t k = let q = L.tail_inside F site.entry.addr nx at Ecx p.core p.rip to (omega arith) W h in past_uncounted to.rip q.0 q.1 t k
 
     -- where a thread is at a site's relocated code, and its projection is equal but at the site, both are at the instruction's work
-    pub at_work : (M : Bytes) (w : Watch) (one : Watched) → Base r S M w.stale w.mem one → one.now.rip ≡ at → one.projected.rip ≡ site.entry.addr → one.now.core ≡ one.projected.core
+    pub at_work : (M : Bytes) (w : Watch) (one : Watched) → Ground r S M w.stale w.mem one → one.now.rip ≡ at → one.projected.rip ≡ site.entry.addr → one.now.core ≡ one.projected.core
         → one.now.world ≡ one.projected.world → reads_nothing_of w.stale F (machine_of M one.projected) ≡ true → IsQuietAt r (machine_of w.mem one.projected)
         → AtWork (is_hidden r) w.stale F nx at (machine_of M one.projected) (machine_of w.mem one.now)
     at_work M w one R here start core world reads quiet =
@@ -90,7 +93,7 @@ module _ (r : Threading) (A : AreEntries r.original r.listed) (S : IsThreadSound
         }
 
     module _ (M : Bytes) (w : Watch) (one : Watched) (f : Fields) (to : Machine)
-        (steps : ThreadStepsBy f (machine_of w.mem one.now) to) (R : Base r S M w.stale w.mem one) where
+        (steps : ThreadStepsBy f (machine_of w.mem one.now) to) (R : Ground r S M w.stale w.mem one) where
       abbrev u : Machine
       u = machine_of w.mem one.now
 
@@ -106,8 +109,8 @@ module _ (r : Threading) (A : AreEntries r.original r.listed) (S : IsThreadSound
 
       -- in the relocated code staleness goes with what is written
       stale_is : is_code_of r site (S.sites site listed) x0 → at ≤ x0 → (x : ℕ) → stale' x ≡ still w.stale (writes_at (thread_task f (next_after x0 f)) (next_after x0 f) u) x
-      stale_is c l x = cond-false (saves r x0) _ _ (part_only r A S L.long site listed x0 0 1 (omega arith) c ∙ part_past 0 1 x0 site (omega arith) l)
-          ∙ cond-false (in_event r x0) _ _ (part_only r A S L.long site listed x0 0 32 (omega arith) c ∙ part_past 0 32 x0 site (omega arith) l)
+      stale_is c l x = cond-false (saves r x0) _ _ (part_only r A S L.long site listed x0 Save c ∙ part_past Save x0 site (save_small site.event) l)
+          ∙ cond-false (in_event r x0) _ _ (part_only r A S L.long site listed x0 Whole c ∙ part_past Whole x0 site (omega arith) l)
 
       -- a step of a thread after its effect step leaves what is due: the original makes no step
       pub made_tail : (k : Tail) → 0 < left k → InTail F nx at k one.projected.core one.projected.rip u → one.now.world ≡ one.projected.world → Made r S stale' M M one w.mem to
@@ -127,9 +130,9 @@ module _ (r : Threading) (A : AreEntries r.original r.listed) (S : IsThreadSound
             went = inl (eff, refl, p);
             alike = subst (λ (z : Bytes). AreAlike (is_hidden r) stale' M z) (sym N.mem) (alike_on (is_hidden r) w.stale stale' M w.mem stays R.alike);
             own = R.own;
-            counted = λ t h' v. record {
+            counted = λ t h' b v. record {
               more = 0;
-              number = none_more _ _ _ (counter_kept r A S t h' v w.mem to.mem (λ x e. ap (λ (z : Bytes). z x) N.mem)) (R.numbers t h' v).1;
+              number = none_more b (marked r b t to.mem) (marked r b t w.mem) (mark_kept r A S t h' b v w.mem to.mem (λ x e. ap (λ (z : Bytes). z x) N.mem));
               even = all_zero (is_effect r x0 && eqb one.projected.rip t.entry.addr) (is_counted t to.rip) (is_counted t x0)
                   (and_left (is_effect r x0) (eqb one.projected.rip t.entry.addr) eff)
                   (landed_uncounted N.tail one.projected to W' N.there kept.start t h') (past_uncounted x0 q.0 q.1 t h');
@@ -161,7 +164,7 @@ module _ (r : Threading) (A : AreEntries r.original r.listed) (S : IsThreadSound
           let s : Machine = machine_of M one.projected in
           let W : IsWork F s.rip nx at u = subst (λ (z : ℕ). IsWork F z nx at u) (sym start) (work_stands r A S site listed u R.other) in
           let c : is_code_of r site (S.sites site listed) x0 = work_in r A S L.long site listed x0 here in
-          let out : in_event r x0 ≡ false = part_only r A S L.long site listed x0 0 32 (omega arith) c ∙ part_past 0 32 x0 site (omega arith) (omega (arith, here)) in
+          let out : in_event r x0 ≡ false = part_only r A S L.long site listed x0 Whole c ∙ part_past Whole x0 site (omega arith) (omega (arith, here)) in
           sym (L.touches F f nx at s u W here core world steps.at w.stale).0 ∙ fresh out
 
       -- the step at the relocated code's first byte is an effect step beside the instruction's own
@@ -215,10 +218,10 @@ module _ (r : Threading) (A : AreEntries r.original r.listed) (S : IsThreadSound
               went = inr (record { is = T.effect; to = s'; steps = (F, X.own); mem = refl; thread = z });
               alike = T.mem;
               own = keeps_code r.original F (machine_of M one.projected) s' X.own R.own;
-              counted = λ t h v. record {
+              counted = λ t h b v. record {
                 more = 0;
-                number = none_more _ _ _ (counter_kept r A S t h v w.mem to.mem T.stays) (R.numbers t h v).1;
-                even = evenly t h v T.effect (landed_uncounted X.tail (thread_of s') to W' X.there start' t h);
+                number = none_more b (marked r b t to.mem) (marked r b t w.mem) (mark_kept r A S t h b v w.mem to.mem T.stays);
+                even = evenly t h b v T.effect (landed_uncounted X.tail (thread_of s') to W' X.there start' t h);
               };
               processor = subst (λ (t : Thread). IsProcessorCore t.core) (sym z) T.processor.core;
               words = subst (λ (t : Thread). GiveWords t.world) (sym z) T.processor.world;
@@ -226,15 +229,15 @@ module _ (r : Threading) (A : AreEntries r.original r.listed) (S : IsThreadSound
             },
           )
         where
-          evenly : (t : ThreadSite) → Contains r.sites t → t.event ≡ true → is_effect r x0 ≡ true → is_counted t to.rip ≡ false
+          evenly : (t : ThreadSite) → Contains r.sites t → (b : Base) → t.event ≡ Some b → is_effect r x0 ≡ true → is_counted t to.rip ≡ false
               → ◌≡◌ {A = ℕ} (cond (is_effect r x0 && eqb one.projected.rip t.entry.addr) 1 0 + cond (is_counted t to.rip) 1 0) (cond (is_counted t x0) 1 0 + 0)
-          evenly t h v eff none =
+          evenly t h d v eff none =
               let same : (is_effect r x0 && eqb one.projected.rip t.entry.addr) ≡ is_counted t x0 = same_test _ _
               (λ b. let q = eqb-true one.projected.rip t.entry.addr (and_parts (is_effect r x0) (eqb one.projected.rip t.entry.addr) b).1 in
               let y : t ≡ site = S.once t site h listed (sym q ∙ start) in let pl : work_at t ≡ work_at site = ap work_at y in
-              part_true 21 33 x0 t v (omega (arith, pl, here, counted_len t v)) (omega (arith, pl, here, counted_len t v)))
-              (λ b. let q = part_is 21 33 x0 t b in
-              let y : t ≡ site = S.apart t site h listed x0 (in_code r A S L.long t h x0 v (omega (arith, q.0)) (omega (arith, q.1))) (work_in r A S L.long site listed x0 here) in
+              let g = mark_from t.event in let k = mark_end t.event (mark_some t.event d v) in
+              part_true Marked x0 t (omega (arith, pl, here, g)) (omega (arith, pl, here, k)))
+              (λ b. let y : t ≡ site = S.apart t site h listed x0 (part_in r A S L.long Marked t h x0 b) (work_in r A S L.long site listed x0 here) in
               and_from (is_effect r x0) (eqb one.projected.rip t.entry.addr) eff (eq-eqb one.projected.rip t.entry.addr (start ∙ sym (ap (λ (v : ThreadSite). v.entry.addr) y)))) in
               let b1 : ◌≡◌ {A = ℕ} (cond (is_effect r x0 && eqb one.projected.rip t.entry.addr) 1 0) (cond (is_counted t x0) 1 0) = ap (λ b. cond b 1 0) same in
               let b2 : ◌≡◌ {A = ℕ} (cond (is_counted t to.rip) 1 0) 0 = cond-false (is_counted t to.rip) 1 0 none in

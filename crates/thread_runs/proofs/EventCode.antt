@@ -1,5 +1,6 @@
--- The seven instructions of an event.
+-- The seven instructions of an event that counts.
 use Rattle.std.proofs.Common.{◌≡◌, ℕ, ◌+◌, ◌-◌, ◌*◌, ◌%◌, ◌^◌, ◌<◌, true, false, List, [], ◌∷◌, ◌++◌, length, Some, None, refl, subst, arith}
+use Rattle.pun_base.specs.declared.action.Base.TheVariants.{Count}
 use Rattle.cpu_alu.specs.declared.operation.Width.TheVariants.{W64}
 use Rattle.cpu_alu.specs.declared.operation.AluOp.TheVariants.{Inc}
 use Rattle.cpu_state.specs.declared.state.Core.{Core}
@@ -108,7 +109,7 @@ back_of At6 a = []
 back_of At7 a = []
 
 -- an event is the code before a point, the instruction at it, and the code after that
-parts_at : (k : Point) (p i : ℕ) → is_inside k ≡ true → thread_event p i ≡ front_of k (counter_at p i) ++ (spelling (fields_at k (counter_at p i)) ++ back_of k (counter_at p i))
+parts_at : (k : Point) (p i : ℕ) → is_inside k ≡ true → thread_event Count p i ≡ front_of k (counter_at p i) ++ (spelling (fields_at k (counter_at p i)) ++ back_of k (counter_at p i))
 parts_at At7 p i h = absurd cc
 parts_at k p i h = refl
 
@@ -128,7 +129,7 @@ offset_small At0 = omega arith
 offset_small k = omega arith
 
 -- the instruction at a point stands where the event's code stands
-pub known_at : (p i at : ℕ) (k : Point) (v : Machine) → is_inside k ≡ true → v.rip ≡ at + offset k → IsFixed v.mem at (thread_event p i) → at + 32 < 2 ^ 31
+pub known_at : (p i at : ℕ) (k : Point) (v : Machine) → is_inside k ≡ true → v.rip ≡ at + offset k → IsFixed v.mem at (thread_event Count p i) → at + 32 < 2 ^ 31
     → IsKnown v (fields_at k (counter_at p i)) (at + offset (following k)) (op_at k (counter_at p i))
 known_at p i at k v h r c l =
     let a = counter_at p i in

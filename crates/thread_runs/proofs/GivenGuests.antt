@@ -1,23 +1,24 @@
 -- A delivery that meets the premises keeps the relation between the watched guest and the original's.
-use Rattle.std.proofs.Common.{◌≡◌, ◌≢◌, inl, inr, ℕ, ◌+◌, ◌%◌, ◌^◌, Bool, true, false, cond, eqb, List, [], ◌∷◌, ◌++◌, length, map, Some, None, refl, sym, ap, ap₂, ◌∙◌, subst, arith}
+use Rattle.std.proofs.Common.{◌≡◌, inl, inr, ℕ, ◌+◌, Bool, true, false, cond, eqb, List, [], ◌∷◌, ◌++◌, length, Some, None, refl, sym, ap, ap₂, ◌∙◌, subst, arith}
 use Rattle.std.specs.Prelude.{Contains, count_by, slice_get, slice_set}
 use Rattle.std.proofs.lemmas.Bool.{cases_eq, and_parts, cond-false}
 use Rattle.pun_base.specs.Memory.{Bytes}
+use Rattle.pun_base.specs.declared.action.Base.{Base}
 use Rattle.cpu_state.specs.declared.world.MemWrite.{MemWrite}
-use Rattle.cpu_state.specs.Bytes.{avoids, number_at}
+use Rattle.cpu_state.specs.Bytes.{avoids}
 use Rattle.insn_form.specs.Plan.{or_first, lacking_writes}
 use Rattle.insn_form.specs.Machine.{put_all, avoids_writes}
-use Rattle.insn_form.specs.Alike.{AreAlike, still}
+use Rattle.insn_form.specs.Alike.{AreAlike}
 use Rattle.insn_form.proofs.AlikeMemories.{lacking_in_alike, carried_alike}
 use Rattle.insn_form.proofs.FrameRule.{put_all_keeps}
 use Rattle.insn_form.proofs.TouchedMemory.{writes_both, put_all_perms}
 use Rattle.start_entries.specs.Standing.{AreEntries}
 use Rattle.image_step.specs.declared.delivery.Delivery.{Delivery}
-use Rattle.image_step.specs.Listed.{is_start, is_listed_byte}
+use Rattle.image_step.specs.Listed.{is_listed_byte}
 use Rattle.image_check.proofs.DeliveredStates.{written_code}
-use Rattle.thread_runs.specs.Guest.{Thread, Guest, machine_of}
-use Rattle.thread_runs.specs.ThreadCode.{counter_at}
-use Rattle.thread_runs.specs.Threading.{ThreadSite, Threading, is_new, is_hidden, is_saved, has_saved, is_counted, IsThreadSound}
+use Rattle.thread_runs.specs.Guest.{Thread, Guest}
+use Rattle.thread_runs.specs.ThreadCode.{mark_at, mark_len}
+use Rattle.thread_runs.specs.Threading.{ThreadSite, Threading, is_new, is_hidden, is_saved, is_counted, IsThreadSound}
 use Rattle.thread_runs.specs.Watching.{Watched, Watch}
 use Rattle.thread_runs.specs.StepLaws.{StepLaws}
 use Rattle.thread_runs.specs.GuestDeliveries.{Takes, given, LeadsBy, Receives}
@@ -25,9 +26,9 @@ use Rattle.thread_runs.specs.WatchedDeliveries.{WatchWith, writes_byte, watched_
 use Rattle.patch_report.proofs.ListPlaces.{some_is}
 use Rattle.thread_runs.proofs.ListUpdates.{set_here, set_away, map_set, get_map, count_set}
 use Rattle.thread_runs.proofs.KeptRelation.{run_more, last_more, lacking_on, other_kept}
-use Rattle.thread_runs.proofs.StandingCode.{counter_kept}
+use Rattle.thread_runs.proofs.StandingCode.{mark_kept}
 use Rattle.thread_runs.proofs.OutsideSteps.{start_uncounted}
-use Rattle.thread_runs.proofs.WatchedRelation.{HasRoom, ThreadKept, Related}
+use Rattle.thread_runs.proofs.WatchedRelation.{shown_after, marked, ThreadKept, Related}
 use Rattle.thread_runs.proofs.WatchedSteps.{phase_outside}
 
 -- writes that leave the hidden set alone are held in both memories or in neither
@@ -93,15 +94,15 @@ module _ (r : Threading) (A : AreEntries r.original r.listed) (S : IsThreadSound
         other_kept r S L.slots w.mem v.mem other (λ t z s. put_all_keeps (is_saved other.now.core) w.mem d.writes z (D.apart j other n g t) s) (R.each j other g))
   ]
 
-  -- the number of each counter
-  counted : (s : ThreadSite) → Contains r.sites s → s.event ≡ true
-      → number_at v.mem (counter_at r.private s.number) 8 ≡ (count_by (λ e. eqb e.at s.entry.addr) v.log + count_by (λ t. is_counted s t.now.rip) v.threads) % 2 ^ 64
-  counted s c i =
-      let n = counter_kept r A S s c i w.mem v.mem news in
+  -- what each event marks
+  marks : (s : ThreadSite) → Contains r.sites s → (b : Base) → s.event ≡ Some b
+      → marked r b s v.mem ≡ shown_after b (count_by (λ e. eqb e.at s.entry.addr) v.log + count_by (λ t. is_counted s t.now.rip) v.threads)
+  marks s c b i =
       let p = count_set (λ (t : Watched). is_counted s t.now.rip) w.threads k one one' D.there in
       let before : is_counted s one.now.rip ≡ false = start_uncounted r A S L one.now.rip s c D.fits.here in
       let after : is_counted s d.rip ≡ false = start_uncounted r A S L d.rip s c D.fits.there in
-      omega (arith, n, R.counted s c i, unchanged p before after)
+      let n = unchanged p before after in
+      mark_kept r A S s c b i w.mem v.mem news ∙ R.marks s c b i ∙ ap (λ z. shown_after b (count_by (λ e. eqb e.at s.entry.addr) v.log + z)) (sym n)
     where
       unchanged : {m n : ℕ} → n + cond (is_counted s one.now.rip) 1 0 ≡ m + cond (is_counted s d.rip) 1 0 → is_counted s one.now.rip ≡ false → is_counted s d.rip ≡ false → n ≡ m
       unchanged q b c =
@@ -120,10 +121,10 @@ module _ (r : Threading) (A : AreEntries r.original r.listed) (S : IsThreadSound
     alike = carried_alike (is_hidden r) w.stale (writes_byte d) R.end.mem w.mem d.writes R.alike (λ z. refl);
     own = written_code r.original R.end.mem d.writes held R.own;
     other = written_code r.patched w.mem d.writes D.fits.held R.other;
-    room = λ s c i. let m = R.room s c i in record {
-      read = lacking_on 4 w.mem v.mem (counter_at r.private s.number) 8 (put_all_perms w.mem d.writes) ∙ m.read;
-      written = lacking_on 2 w.mem v.mem (counter_at r.private s.number) 8 (put_all_perms w.mem d.writes) ∙ m.written;
+    room = λ s c b i. let m = R.room s c b i in record {
+      read = lacking_on 4 w.mem v.mem (mark_at b r.private s.number) (mark_len b) (put_all_perms w.mem d.writes) ∙ m.read;
+      written = lacking_on 2 w.mem v.mem (mark_at b r.private s.number) (mark_len b) (put_all_perms w.mem d.writes) ∙ m.written;
     };
-    counted = counted;
+    marks = marks;
     each = each;
   }

@@ -1,8 +1,9 @@
 -- A step of one thread keeps the relation between the watched guest and the original's.
-use Rattle.std.proofs.Common.{◌≡◌, ◌≢◌, inl, inr, ℕ, zero, suc, ◌+◌, ◌*◌, ◌%◌, ◌^◌, ◌<◌, Bool, true, false, cond, eqb, List, [], ◌∷◌, ◌++◌, map, Some, refl, sym, ap, ap₂, ◌∙◌, subst, arith}
+use Rattle.std.proofs.Common.{◌≡◌, ◌≢◌, inl, inr, ℕ, zero, suc, ◌+◌, ◌*◌, ◌<◌, Bool, true, false, cond, eqb, List, [], ◌∷◌, ◌++◌, Some, refl, sym, ap, ap₂, ◌∙◌, subst, arith}
 use Rattle.std.specs.Prelude.{Contains, count_by, slice_get, slice_set}
 use Rattle.std.proofs.lemmas.Bool.{cond-true, cond-false, cases_eq, and_parts, or_left, or_right, eq-eqb}
 use Rattle.pun_base.specs.Memory.{Bytes}
+use Rattle.pun_base.specs.declared.action.Base.{Base}
 use Rattle.length_decode.specs.Spelling.{Fields}
 use Rattle.cpu_state.specs.declared.state.Core.{Core}
 use Rattle.cpu_state.specs.Bytes.{advanced, allows, byte_of, lacking, number_at}
@@ -17,13 +18,14 @@ use Rattle.start_entries.specs.declared.entry.StartEntry.{StartEntry}
 use Rattle.thread_runs.specs.Guest.{Thread, Guest, machine_of, thread_of, Moves, last_guest}
 use Rattle.thread_runs.specs.GuestDeliveries.{GuestItem, Goes, LeadsBy, IsInterleavedWith}
 use Rattle.thread_runs.specs.WatchedDeliveries.{made_after}
-use Rattle.thread_runs.specs.ThreadCode.{counter_at, slot}
-use Rattle.thread_runs.specs.Event.{Point, offset, is_inside, HasSaved}
+use Rattle.thread_runs.specs.ThreadCode.{mark_at, mark_len, slot}
+use Rattle.thread_runs.specs.Event.{Point, offset, is_inside, has_point, HasSaved}
 use Rattle.thread_runs.specs.Event.Point.{At0, At7}
 use Rattle.thread_runs.specs.Relation.{point_at}
 use Rattle.thread_runs.specs.Work.{Tail, InTail}
 use Rattle.thread_runs.specs.Work.Tail.{Out, Back, Jump, Ecx}
-use Rattle.thread_runs.specs.Threading.{ThreadSite, Threading, is_part, has_saved, is_one_of, is_saved, is_counted, IsThreadSound}
+use Rattle.thread_runs.specs.Threading.Part.{Saved}
+use Rattle.thread_runs.specs.Threading.{ThreadSite, Threading, part_to, is_part, has_saved, is_one_of, is_saved, is_counted, IsThreadSound}
 use Rattle.thread_runs.specs.Watching.{Watched, Watch, EffectStep, is_effect, projection, stale_after, watched_after}
 use Rattle.thread_runs.specs.Premises.{touches_none, LeavesSaved}
 use Rattle.thread_runs.specs.StepLaws.{HoldsSlot}
@@ -33,8 +35,8 @@ use Rattle.image_step.specs.Listed.{is_start}
 use Rattle.thread_runs.specs.Threading.{is_hidden}
 use Rattle.patch_report.proofs.ListPlaces.{some_is, any_at, place_of}
 use Rattle.thread_runs.proofs.ListUpdates.{set_here, set_away, map_set, map_same, get_map, count_set, count_more}
-use Rattle.thread_runs.proofs.ThreadPlaces.{part_true, point_inside}
-use Rattle.thread_runs.proofs.WatchedRelation.{ThreadKept, HasRoom, Related, Changes, Made}
+use Rattle.thread_runs.proofs.ThreadPlaces.{part_true, point_inside, point_saving}
+use Rattle.thread_runs.proofs.WatchedRelation.{ThreadKept, HasRoom, shown_after, marked, Related, Changes, Made}
 
 -- runs that grow at the end
 pub run_more : (listed : List StartEntry) (is : List GuestItem) (g : Guest) (gs : List Guest) (i : GuestItem) (h : Guest) → IsInterleavedWith listed is g gs
@@ -64,11 +66,11 @@ pub lacking_on : (p : ℕ) (m w : Bytes) (a n : ℕ) → ((x : ℕ) → perms_at
 lacking_on p m w a zero h = refl
 lacking_on p m w a (suc n) h = ap₂ (λ b o. cond b o (Some a)) (same_allows p (w a) (m a) (h a)) (lacking_on p m w (advanced a 1) n h)
 
--- eight bytes that can be read and written still can after a step
-pub keeps_room : (a : ℕ) (f : Fields) (s t : Machine) → ThreadStepsBy f s t → HasRoom s.mem a → HasRoom t.mem a
-keeps_room a f s t st h = record {
-  read = lacking_on 4 s.mem t.mem a 8 (keeps_perms f s t st) ∙ h.read;
-  written = lacking_on 2 s.mem t.mem a 8 (keeps_perms f s t st) ∙ h.written;
+-- bytes that can be read and written still can after a step
+pub keeps_room : (a n : ℕ) (f : Fields) (s t : Machine) → ThreadStepsBy f s t → HasRoom s.mem a n → HasRoom t.mem a n
+keeps_room a n f s t st h = record {
+  read = lacking_on 4 s.mem t.mem a n (keeps_perms f s t st) ∙ h.read;
+  written = lacking_on 2 s.mem t.mem a n (keeps_perms f s t st) ∙ h.written;
 }
 
 -- a number whose bytes stay is the same
@@ -112,7 +114,7 @@ module _ (r : Threading) (S : IsThreadSound r) (H : HoldsSlot) where
         site = q.site;
         listed = q.listed;
         point = q.point;
-        counts = q.counts;
+        inside = q.inside;
         here = q.here;
         there = q.there;
         core = q.core;
@@ -120,17 +122,18 @@ module _ (r : Threading) (S : IsThreadSound r) (H : HoldsSlot) where
         old = q.old;
         saved = saved_on m w q.point one.projected.core (λ i n l.
             let same : slot one.now.core ≡ slot one.projected.core = H q.point one.projected.core one.now.core k.processor q.core in
-            subst (λ (z : ℕ). number_at w z 8 ≡ number_at m z 8) same (number_on m w (slot one.now.core) 8 (h (inside q.site q.listed q.point (q.counts i) i q.here n l)))) q.saved;
+            subst (λ (z : ℕ). number_at w z 8 ≡ number_at m z 8) same (number_on m w (slot one.now.core) 8 (h (inside q.site q.listed q.point (q.inside i) i q.here n l)))) q.saved;
       })))
       | inr (inr (inr q)) ↦ inr (inr (inr (record { site = q.site; listed = q.listed; tail = q.tail; more = q.more; there = tail_on m w one.now (S.sites q.site q.listed).fields _ _ q.tail _ _ q.there; world = q.world })))
     ];
   }
     where
-      inside : (s : ThreadSite) → Contains r.sites s → (p : Point) → s.event ≡ true → is_inside p ≡ true → one.now.rip ≡ point_at s p → offset p ≢ 0 → offset p < 32 → has_saved r one.now.rip ≡ true
-      inside s c p counts j here n l =
+      inside : (s : ThreadSite) → Contains r.sites s → (p : Point) → has_point s.event p ≡ true → is_inside p ≡ true → one.now.rip ≡ point_at s p → offset p ≢ 0 → offset p < 32 → has_saved r one.now.rip ≡ true
+      inside s c p k j here n l =
           let e : one.now.rip ≡ s.place + offset p = here ∙ point_inside s p j in
           let i = place_of r.sites s c in
-          any_at (is_part 1 32 one.now.rip) r.sites i.0 s i.1 (part_true 1 32 one.now.rip s counts (omega (arith, e, n)) (omega (arith, e, l)))
+          let to : part_to Saved s.event ≡ 32 = ap (part_to Saved) (point_saving s.event p k n) in
+          any_at (is_part Saved one.now.rip) r.sites i.0 s i.1 (part_true Saved one.now.rip s (omega (arith, e, n)) (omega (arith, e, l, to)))
 
   -- the whole relation after a step
   module _ (a : Guest) (made : List GuestItem) (w : Watch) (k : ℕ) (one : Watched) (there : slice_get w.threads k ≡ Some one) (f : Fields) (to : Machine)
@@ -151,20 +154,24 @@ module _ (r : Threading) (S : IsThreadSound r) (H : HoldsSlot) where
           other_kept w.mem to.mem other (λ h. untouched (is_saved other.now.core) f (machine_of w.mem one.now) to steps (free j other n g h)) (R.each j other g))
     ]
 
-    -- each counter of v
-    counted_after : (e : Bool) → is_effect r one.now.rip ≡ e → (s : ThreadSite) → Contains r.sites s → s.event ≡ true
-        → Changes r e s w.mem to.mem one.projected.rip one.now.rip to.rip
-        → number_at to.mem (counter_at r.private s.number) 8 ≡ (count_by (λ x. eqb x.at s.entry.addr) v.log + count_by (λ x. is_counted s x.now.rip) v.threads) % 2 ^ 64
-    counted_after true e s c i q =
+    -- what each event marks in v
+    marks_after : (e : Bool) → is_effect r one.now.rip ≡ e → (s : ThreadSite) → Contains r.sites s → (b : Base) → s.event ≡ Some b
+        → Changes r e b s w.mem to.mem one.projected.rip one.now.rip to.rip
+        → marked r b s to.mem ≡ shown_after b (count_by (λ x. eqb x.at s.entry.addr) v.log + count_by (λ x. is_counted s x.now.rip) v.threads)
+    marks_after true e s c b i q =
         let log : v.log ≡ w.log ++ record { thread = k; at = one.projected.rip } ∷ [] = cond-true (is_effect r one.now.rip) _ _ e in
         let n1 = ap (λ (z : List EffectStep). count_by (λ x. eqb x.at s.entry.addr) z) log ∙ count_more (λ (x : EffectStep). eqb x.at s.entry.addr) w.log (record { thread = k; at = one.projected.rip }) in
         let n2 = count_set (λ (x : Watched). is_counted s x.now.rip) w.threads k one one' there in
-        omega (arith, q.number, q.even, n1, n2, R.counted s c i)
-    counted_after false e s c i q =
+        let n3 : count_by (λ x. eqb x.at s.entry.addr) w.log + count_by (λ x. is_counted s x.now.rip) w.threads + q.more
+        ≡ count_by (λ x. eqb x.at s.entry.addr) v.log + count_by (λ x. is_counted s x.now.rip) v.threads = omega (arith, q.even, n1, n2) in
+        q.number (count_by (λ x. eqb x.at s.entry.addr) w.log + count_by (λ x. is_counted s x.now.rip) w.threads) (R.marks s c b i) ∙ ap (shown_after b) n3
+    marks_after false e s c b i q =
         let log : v.log ≡ w.log = cond-false (is_effect r one.now.rip) _ _ e in
         let n1 = ap (λ (z : List EffectStep). count_by (λ x. eqb x.at s.entry.addr) z) log in
         let n2 = count_set (λ (x : Watched). is_counted s x.now.rip) w.threads k one one' there in
-        omega (arith, q.number, q.even, n1, n2, R.counted s c i)
+        let n3 : count_by (λ x. eqb x.at s.entry.addr) w.log + count_by (λ x. is_counted s x.now.rip) w.threads + q.more
+        ≡ count_by (λ x. eqb x.at s.entry.addr) v.log + count_by (λ x. is_counted s x.now.rip) v.threads = omega (arith, q.even, n1, n2) in
+        q.number (count_by (λ x. eqb x.at s.entry.addr) w.log + count_by (λ x. is_counted s x.now.rip) w.threads) (R.marks s c b i) ∙ ap (shown_after b) n3
 
     -- a step that leaves what is due and touches none of the bytes that others saved keeps the relation, if its projection is at a start
     pub kept_by : (m' : Bytes) → LeavesSaved r w k f (machine_of w.mem one.now) → is_start r.listed one'.projected.rip ≡ true
@@ -180,7 +187,7 @@ module _ (r : Threading) (S : IsThreadSound r) (H : HoldsSlot) where
         own = subst (λ (z : Bytes). SameCode r.original z) q.1 M.own;
         other = code;
         room = room;
-        counted = counted;
+        marks = marks;
         each = each;
       }
       | inr q ↦ (let h : Guest = record { threads = slice_set R.end.threads k (thread_of q.to); mem = q.to.mem } in
@@ -201,7 +208,7 @@ module _ (r : Threading) (S : IsThreadSound r) (H : HoldsSlot) where
             own = subst (λ (z : Bytes). SameCode r.original z) q.mem M.own;
             other = code;
             room = room;
-            counted = counted;
+            marks = marks;
             each = each;
           })
     ]
@@ -209,12 +216,12 @@ module _ (r : Threading) (S : IsThreadSound r) (H : HoldsSlot) where
         code : SameCode r.patched to.mem
         code = keeps_code r.patched f (machine_of w.mem one.now) to steps R.other
 
-        room : (s : ThreadSite) → Contains r.sites s → s.event ≡ true → HasRoom to.mem (counter_at r.private s.number)
-        room s c i = keeps_room (counter_at r.private s.number) f (machine_of w.mem one.now) to steps (R.room s c i)
+        room : (s : ThreadSite) → Contains r.sites s → (b : Base) → s.event ≡ Some b → HasRoom to.mem (mark_at b r.private s.number) (mark_len b)
+        room s c b i = keeps_room (mark_at b r.private s.number) (mark_len b) f (machine_of w.mem one.now) to steps (R.room s c b i)
 
-        counted : (s : ThreadSite) → Contains r.sites s → s.event ≡ true
-            → number_at to.mem (counter_at r.private s.number) 8 ≡ (count_by (λ x. eqb x.at s.entry.addr) v.log + count_by (λ x. is_counted s x.now.rip) v.threads) % 2 ^ 64
-        counted s c i = counted_after (is_effect r one.now.rip) refl s c i (M.counted s c i)
+        marks : (s : ThreadSite) → Contains r.sites s → (b : Base) → s.event ≡ Some b
+            → marked r b s to.mem ≡ shown_after b (count_by (λ x. eqb x.at s.entry.addr) v.log + count_by (λ x. is_counted s x.now.rip) v.threads)
+        marks s c b i = marks_after (is_effect r one.now.rip) refl s c b i (M.counted s c b i)
 
         each : (j : ℕ) (other : Watched) → slice_get v.threads j ≡ Some other → ThreadKept r S to.mem other
         each = each_after m' free (record { processor = M.processor; words = M.words; start = start; phase = M.phase })

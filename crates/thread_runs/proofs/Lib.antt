@@ -4,6 +4,7 @@ pub mod ThreadSteps
 pub mod KnownCodeSteps
 pub mod EventCode
 pub mod ThreadEventInstructions
+pub mod CoverStep
 pub mod LockInc
 pub mod KnownPieces
 pub mod WorkCopies

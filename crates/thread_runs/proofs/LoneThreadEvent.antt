@@ -1,7 +1,8 @@
--- The event of a thread that runs alone: seven steps, which count one.
+-- The event that counts, of a thread that runs alone: seven steps, which count one.
 use Rattle.std.proofs.Common.{◌≡◌, ℕ, ◌+◌, ◌*◌, ◌%◌, ◌^◌, true, false, List, [], ◌∷◌, refl, sym, ap, ◌∙◌, subst, arith, true≢false}
 use Rattle.std.proofs.lemmas.Bool.{false_from_ne_true}
 use Rattle.pun_base.specs.Memory.{Bytes}
+use Rattle.pun_base.specs.declared.action.Base.TheVariants.{Count}
 use Rattle.cpu_state.specs.declared.state.Core.{Core}
 use Rattle.cpu_state.specs.Bytes.{number_at, put_list, bytes_of}
 use Rattle.cpu_state.proofs.Readback.{bytes_of_length, read_back}
@@ -55,7 +56,7 @@ module _ (p i place : ℕ) (s : Machine) (h : CanCountAlone p i place s) where
             core = g.2.core;
             saved = saved g.0.mem g.2.mem;
             rip = g.2.rip;
-            stands = fixed_on v.mem g.0.mem place (thread_event p i) (keeps_code v.mem f v g.0 st (λ x y z. refl)) t.event.stands;
+            stands = fixed_on v.mem g.0.mem place (thread_event Count p i) (keeps_code v.mem f v g.0 st (λ x y z. refl)) t.event.stands;
             low = h.low;
             room = h.room;
           };

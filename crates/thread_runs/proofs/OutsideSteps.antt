@@ -1,8 +1,9 @@
 -- Steps of threads outside the trampolines: at kept starts, and at displaced ones.
-use Rattle.std.proofs.Common.{◌≡◌, ◌⊎◌, inl, inr, ℕ, ◌+◌, ◌%◌, ◌^◌, Bool, true, false, not, ◌&&◌, cond, eqb, Option, None, Ok, ℤ, refl, sym, ap, ◌∙◌, subst, arith}
+use Rattle.std.proofs.Common.{◌≡◌, ◌⊎◌, inl, inr, ℕ, ◌+◌, Bool, true, false, not, ◌&&◌, cond, eqb, Option, Some, None, Ok, ℤ, refl, sym, ap, ◌∙◌, subst, arith}
 use Rattle.std.specs.Prelude.{Contains}
 use Rattle.std.proofs.lemmas.Bool.{or_right, not_from_true, and_parts, and_left, and_right, cond-true, cond-false, ne_eqb, eq-eqb, true≢false, false≢true, not-true, false_from_ne_true}
 use Rattle.pun_base.specs.Memory.{Bytes}
+use Rattle.pun_base.specs.declared.action.Base.{Base}
 use Rattle.length_decode.specs.Spelling.{Fields, spelling}
 use Rattle.cpu_state.specs.Bytes.{advanced}
 use Rattle.cpu_state.specs.Fixed.{IsFixed}
@@ -32,20 +33,21 @@ use Rattle.relocate_insn.proofs.PieceSteps.{gone_to}
 use Rattle.start_entries.specs.Standing.{AreEntries}
 use Rattle.image_step.specs.Listed.{is_start, is_listed_byte}
 use Rattle.thread_runs.specs.Guest.{Thread, machine_of, thread_of}
-use Rattle.thread_runs.specs.Event.{Point, is_inside, Holds, HasSaved}
+use Rattle.thread_runs.specs.Event.{Point, is_inside, has_point, Holds, HasSaved}
 use Rattle.thread_runs.specs.Event.Point.{At0, At7}
+use Rattle.thread_runs.specs.Threading.Part.{Whole, Save, Marked}
 use Rattle.thread_runs.specs.Threading.{ThreadSite, Threading, is_new, is_hidden, is_site, is_kept, in_event, saves, is_counted, relocated_at, ByTwoJumps, IsThreadSound}
 use Rattle.thread_runs.specs.Watching.{Watched, Watch, is_effect, behind, projection, stale_after}
 use Rattle.thread_runs.specs.Premises.{IsQuietAt, reads_nothing_of}
 use Rattle.thread_runs.specs.StepLaws.{StepLaws}
 use Rattle.patch_report.proofs.ListPlaces.{any_at, place_of}
 use Rattle.image_check.proofs.LoadedCode.{jump_acts}
-use Rattle.thread_runs.proofs.ThreadPlaces.{start_old, part_never, start_no_site, site_of, effect_kept, effect_never, old_uncounted, in_code, place_in, plain_len, part_is}
-use Rattle.thread_runs.proofs.StandingCode.{own_at, counter_kept}
+use Rattle.thread_runs.proofs.ThreadPlaces.{start_old, part_never, start_no_site, site_of, effect_kept, effect_never, old_uncounted, part_in, place_in, plain_len, mark_late, point_first, part_is}
+use Rattle.thread_runs.proofs.StandingCode.{own_at, mark_kept}
 use Rattle.thread_runs.proofs.KeptRelation.{keeps_code}
 use Rattle.start_entries.specs.Leading.{JumpsTo}
 use Rattle.thread_runs.specs.Relation.{point_at, has_rax, Outside, AtSecond}
-use Rattle.thread_runs.proofs.WatchedRelation.{Phase, ThreadKept, Base, Made}
+use Rattle.thread_runs.proofs.WatchedRelation.{Phase, ThreadKept, shown_after, marked, Ground, Made}
 
 -- memories that are alike are so by each set that has the same stale bytes
 pub alike_on : (hidden p q : ℕ → Bool) (m w : Bytes) → ((x : ℕ) → q x ≡ p x) → AreAlike hidden p m w → AreAlike hidden q m w
@@ -56,9 +58,9 @@ pub jump_writes : (set : ℕ → Bool) (next : ℕ) (i : Insn) (rel : ℤ) (c : 
 unfolding effect
 jump_writes set next i rel c e h = subst (λ (i : Insn). writes_avoid set (resolved_insn next i) next c e ≡ true) (sym h) refl
 
--- a number that stays is the one before with nothing added
-pub none_more : (n m k : ℕ) → n ≡ m → m ≡ k % 2 ^ 64 → n ≡ (m + 0) % 2 ^ 64
-none_more n m k e h = omega (arith, e, h)
+-- a number that stays shows no event more
+pub none_more : (b : Base) (n m : ℕ) → n ≡ m → (k : ℕ) → m ≡ shown_after b k → n ≡ shown_after b (k + 0)
+none_more b n m e k h = let z : k ≡ k + 0 = omega arith in e ∙ h ∙ ap (shown_after b) z
 
 -- tests that all fail count nothing before and after
 pub all_zero : (b c d : Bool) → b ≡ false → c ≡ false → d ≡ false → ◌≡◌ {A = ℕ} (cond b 1 0 + cond c 1 0) (cond d 1 0 + 0)
@@ -78,10 +80,11 @@ module _ (r : Threading) (A : AreEntries r.original r.listed) (S : IsThreadSound
   -- nothing is counted at the first address of a trampoline
   pub place_uncounted : (x : ℕ) (site : ThreadSite) → Contains r.sites site → x ≡ site.place → (t : ThreadSite) → Contains r.sites t → is_counted t x ≡ false
   place_uncounted x site h e t k = false_from_ne_true (is_counted t x) (λ b.
-      let v = part_is 21 33 x t b in
-      let same : t ≡ site = S.apart t site k h x (in_code r A S L.long t k x v.2 (omega (arith, v.0)) (omega (arith, v.1))) (place_in r A S L.long site h x e) in
+      let v = part_is Marked x t b in
+      let same : t ≡ site = S.apart t site k h x (part_in r A S L.long Marked t k x b) (place_in r A S L.long site h x e) in
       let p : t.place ≡ site.place = ap (λ (y : ThreadSite). y.place) same in
-      omega (arith, v.0, e, p))
+      let late = mark_late t.event (omega (arith, v.1, e, p)) in
+      omega (arith, v.0, e, p, late))
 
   -- a thread that comes to a site's trampoline, with its projection at the site, is at the first point
   pub come : (site : ThreadSite) → Contains r.sites site → (m : Bytes) (now projected : Thread) → now.rip ≡ site.place → projected.rip ≡ site.entry.addr → now.core ≡ projected.core
@@ -89,13 +92,13 @@ module _ (r : Threading) (A : AreEntries r.original r.listed) (S : IsThreadSound
   come site h m now projected here there core world = by_event site.event refl
     where
       -- the phase at a point at which the thread has the registers and flags of its projection
-      standing : (point : Point) → (is_inside point ≡ true → site.event ≡ true) → now.rip ≡ point_at site point → Holds point projected.core now.core → HasSaved point projected.core m
-          → has_rax point ≡ false → Phase r S m now projected
-      standing point counts place holds saved free = inr (inr (inl (record {
+      standing : (point : Point) → (is_inside point ≡ true → has_point site.event point ≡ true) → now.rip ≡ point_at site point → Holds point projected.core now.core
+          → HasSaved point projected.core m → has_rax point ≡ false → Phase r S m now projected
+      standing point inside place holds saved free = inr (inr (inl (record {
         site = site;
         listed = h;
         point = point;
-        counts = counts;
+        inside = inside;
         here = place;
         there = there;
         core = holds;
@@ -104,12 +107,12 @@ module _ (r : Threading) (A : AreEntries r.original r.listed) (S : IsThreadSound
         old = λ e. absurd (false≢true (sym free ∙ e));
       })))
 
-      by_event : (b : Bool) → site.event ≡ b → Phase r S m now projected
-      by_event true e = standing At0 (λ i. e) (omega (arith, here)) core tt refl
-      by_event false e = standing At7 (λ i. absurd (false≢true i)) (omega (arith, here, plain_len site e)) core tt refl
+      by_event : (o : Option Base) → site.event ≡ o → Phase r S m now projected
+      by_event (Some b) e = standing At0 (λ i. ap (λ (z : Option Base). has_point z At0) e ∙ point_first b) (omega (arith, here)) core tt refl
+      by_event None e = standing At7 (λ i. absurd (false≢true i)) (omega (arith, here, plain_len site e)) core tt refl
 
   module _ (M : Bytes) (w : Watch) (one : Watched) (f : Fields) (to : Machine)
-      (steps : ThreadStepsBy f (machine_of w.mem one.now) to) (R : Base r S M w.stale w.mem one) (old : is_new r one.now.rip ≡ false) where
+      (steps : ThreadStepsBy f (machine_of w.mem one.now) to) (R : Ground r S M w.stale w.mem one) (old : is_new r one.now.rip ≡ false) where
     abbrev s : Machine
     s = machine_of M one.now
 
@@ -127,8 +130,8 @@ module _ (r : Threading) (A : AreEntries r.original r.listed) (S : IsThreadSound
 
     -- at an address that isn't new staleness goes with what is written
     pub stale_is : (x : ℕ) → stale' x ≡ still w.stale (writes_at (thread_task f next) next s) x
-    stale_is x = cond-false (saves r x0) _ _ (part_never r A S L.long x0 0 1 (omega arith) old)
-        ∙ cond-false (in_event r x0) _ _ (part_never r A S L.long x0 0 32 (omega arith) old)
+    stale_is x = cond-false (saves r x0) _ _ (part_never r A S L.long x0 Save old)
+        ∙ cond-false (in_event r x0) _ _ (part_never r A S L.long x0 Whole old)
 
     -- the thread's own relation to its projection holds before the step
     kept : ThreadKept r S w.mem one
@@ -169,9 +172,9 @@ module _ (r : Threading) (A : AreEntries r.original r.listed) (S : IsThreadSound
           alike = subst (λ (z : Bytes). AreAlike (is_hidden r) stale' M z) (sym mem)
               (alike_on (is_hidden r) w.stale stale' M w.mem (λ x. stale_is x ∙ ap (λ b. w.stale x && not b) (jump_calm target j x) ∙ and_true (w.stale x)) R.alike);
           own = R.own;
-          counted = λ t h i. record {
+          counted = λ t h b i. record {
             more = 0;
-            number = none_more _ _ _ (counter_kept r A S t h i w.mem to.mem (λ x e. ap (λ (z : Bytes). z x) mem)) (R.numbers t h i).1;
+            number = none_more b (marked r b t to.mem) (marked r b t w.mem) (mark_kept r A S t h b i w.mem to.mem (λ x e. ap (λ (z : Bytes). z x) mem));
             even = all_zero (is_effect r x0 && eqb one.projected.rip t.entry.addr) (is_counted t to.rip) (is_counted t x0)
                 (and_left (is_effect r x0) (eqb one.projected.rip t.entry.addr) eff)
                 (ap (is_counted t) rip ∙ uncounted t h) (old_uncounted r A S L.long x0 t h old);
@@ -205,7 +208,7 @@ module _ (r : Threading) (A : AreEntries r.original r.listed) (S : IsThreadSound
         let there' = subst (λ (z : Fields). IsFixed r.original x0 (spelling z)) g own.original in
         let at_s : IsAt s f = record { spelled = steps.at.spelled; here = fixed_stands M x0 (spelling f) (fixed_on r.original M x0 (spelling f) R.own there') } in
         let quiet' = q.leaves f steps.at.spelled (fixed_stands r.original x0 (spelling f) there') in
-        let reads = fresh (part_never r A S L.long x0 0 32 (omega arith) old) in
+        let reads = fresh (part_never r A S L.long x0 Whole old) in
         let both : IsAlike (is_hidden r) w.stale s u = record { core = refl; world = refl; mem = R.alike } in
         let X = (L.alike thread_task (is_hidden r) w.stale f s u both refl at_s steps.at quiet' reads).1 to steps in
         let p : projection r one w.mem to ≡ thread_of to = cond-true (is_kept r x0) (thread_of to) _ here in
@@ -220,9 +223,9 @@ module _ (r : Threading) (A : AreEntries r.original r.listed) (S : IsThreadSound
             went = inr (record { is = effect_kept r A S L.long x0 here; to = X.0; steps = subst (λ (t : Thread). ThreadStep (machine_of M t) X.0) o.same (f, X.1.own); mem = refl; thread = z });
             alike = alike_on (is_hidden r) (still w.stale (writes_at (thread_task f next) next s)) stale' X.0.mem to.mem stale_is X.1.alike.mem;
             own = keeps_code r.original f s X.0 X.1.own R.own;
-            counted = λ t h i. record {
+            counted = λ t h b i. record {
               more = 0;
-              number = none_more _ _ _ (counter_kept r A S t h i w.mem to.mem still_new) (R.numbers t h i).1;
+              number = none_more b (marked r b t to.mem) (marked r b t w.mem) (mark_kept r A S t h b i w.mem to.mem still_new);
               even = all_zero (is_effect r x0 && eqb one.projected.rip t.entry.addr) (is_counted t to.rip) (is_counted t x0)
                   (and_right (is_effect r x0) (eqb one.projected.rip t.entry.addr) (ne_eqb one.projected.rip t.entry.addr (λ same. no_site t h (ap (λ (y : Thread). y.rip) o.same ∙ same))))
                   (start_uncounted to.rip t h go) (start_uncounted x0 t h o.start);

@@ -5,6 +5,7 @@ use Rattle.std.specs.Option.{is_some}
 use Rattle.std.proofs.lemmas.List.{length-append}
 use Rattle.std.proofs.lemmas.Bool.{and_parts, eqb-true, eq-eqb, leb-true, ltb-true, true≢false, false≢true, not-true}
 use Rattle.pun_base.specs.Memory.{Cell, Bytes}
+use Rattle.pun_base.specs.declared.action.Base.{Base}
 use Rattle.cpu_state.specs.Bytes.{advanced, number_at}
 use Rattle.cpu_state.specs.Fixed.{IsFixed}
 use Rattle.length_decode.specs.Spelling.{Fields, IsInstruction, spelling}
@@ -16,13 +17,13 @@ use Rattle.start_entries.specs.Standing.{AreEntries}
 use Rattle.image_step.specs.Listed.{is_start, is_known_start}
 use Rattle.image_check.proofs.LoadedCode.{stands_fixed, fixed_at}
 use Rattle.image_check.proofs.RelatedStates.{allowed_some}
-use Rattle.thread_runs.specs.ThreadCode.{thread_event, event_len, event_if, thread_work, code_if, counter_at}
+use Rattle.thread_runs.specs.ThreadCode.{mark_at, mark_len, thread_event, event_len, event_if, thread_work, code_if}
 use Rattle.trampoline.specs.Atomic.{thread_len}
 use Rattle.thread_runs.specs.Work.{IsWork}
 use Rattle.thread_runs.specs.Threading.{ThreadSite, Threading, next_of, work_at, is_new, is_site, is_kept, is_one_of, IsThreadSound}
 use Rattle.patch_report.proofs.ListPlaces.{found, any_at, contains_at, place_of}
-use Rattle.thread_runs.proofs.ThreadPlaces.{any_none}
 use Rattle.thread_runs.proofs.ThreadTrampolines.{event_long}
+use Rattle.thread_runs.proofs.ThreadPlaces.{any_none}
 use Rattle.thread_runs.proofs.KeptRelation.{number_on}
 
 -- the instruction at a start, in the original and in the patched image
@@ -76,9 +77,9 @@ module _ (r : Threading) (A : AreEntries r.original r.listed) (S : IsThreadSound
       let i = A.each s.entry k.listed in
       stands_fixed r.original s.entry.addr (spelling k.fields) (omega (arith, i.low, k.len)) (λ x l g. (i.executed x l (omega (arith, k.len, g))).1) k.stands
 
-  -- the event of a site that counts stands at its trampoline's place in each memory that has the patched image's code
-  pub event_stands : (s : ThreadSite) (h : Contains r.sites s) → s.event ≡ true → (m : Bytes) → SameCode r.patched m → IsFixed m s.place (thread_event r.private s.number)
-  event_stands s h e m c = subst (λ (b : Bool). IsFixed m s.place (event_if b r.private s.number)) e
+  -- the event of a site stands at its trampoline's place in each memory that has the patched image's code
+  pub event_stands : (s : ThreadSite) (h : Contains r.sites s) (b : Base) → s.event ≡ Some b → (m : Bytes) → SameCode r.patched m → IsFixed m s.place (thread_event b r.private s.number)
+  event_stands s h b e m c = subst (λ (z : Option Base). IsFixed m s.place (event_if z r.private s.number)) e
       (fixed_front m s.place (event_if s.event r.private s.number) (thread_work (fields_of s h) (next_of s) (work_at s)) (fixed_on r.patched m s.place (code_if s.event r.private s.number (fields_of s h) (next_of s) s.place) c (S.sites s h).code))
 
   -- the trampoline of a site has the event's bytes and those of the relocated code
@@ -105,10 +106,10 @@ module _ (r : Threading) (A : AreEntries r.original r.listed) (S : IsThreadSound
         place_low = omega (arith, k.low, n);
       }
 
-  -- the bytes of a counter are new
-  pub counter_new : (s : ThreadSite) (h : Contains r.sites s) → s.event ≡ true → (x : ℕ) → counter_at r.private s.number ≤ x → x < counter_at r.private s.number + 8 → is_new r x ≡ true
-  counter_new s h e x a b =
-      let q = S.counters s h e x a (omega (arith, b)) in
+  -- what an event marks is new
+  pub mark_new : (s : ThreadSite) (h : Contains r.sites s) (b : Base) → s.event ≡ Some b → (x : ℕ) → mark_at b r.private s.number ≤ x → x < mark_at b r.private s.number + mark_len b → is_new r x ≡ true
+  mark_new s h b e x i j =
+      let q = S.marks s h b e x i j in
       ap₂ (λ (o p : Option Cell). is_some o && not (is_some p)) q.0 q.1
 
   -- where n addresses from a on don't wrap round, each of them lies from a on and below a + n
@@ -122,9 +123,9 @@ module _ (r : Threading) (A : AreEntries r.original r.listed) (S : IsThreadSound
       by_test true e go k = let f = eqb-true x a e in (omega (arith, f), omega (arith, f))
       by_test false e go k = let q = go k in (omega (arith, q.0), omega (arith, q.1))
 
-  -- what keeps new bytes keeps the counters' numbers
-  pub counter_kept : (s : ThreadSite) (h : Contains r.sites s) → s.event ≡ true → (m w : Bytes) → ((x : ℕ) → is_new r x ≡ true → w x ≡ m x)
-      → number_at w (counter_at r.private s.number) 8 ≡ number_at m (counter_at r.private s.number) 8
-  counter_kept s h c m w k = number_on m w (counter_at r.private s.number) 8 (λ x e.
-      let low = S.low s h c in
-      let q = one_in (counter_at r.private s.number) 8 x (omega (arith, low)) e in k x (counter_new s h c x q.0 q.1))
+  -- what keeps new bytes keeps the numbers that events mark
+  pub mark_kept : (s : ThreadSite) (h : Contains r.sites s) (b : Base) → s.event ≡ Some b → (m w : Bytes) → ((x : ℕ) → is_new r x ≡ true → w x ≡ m x)
+      → number_at w (mark_at b r.private s.number) (mark_len b) ≡ number_at m (mark_at b r.private s.number) (mark_len b)
+  mark_kept s h b c m w k = number_on m w (mark_at b r.private s.number) (mark_len b) (λ x e.
+      let low = S.low s h b c in
+      let q = one_in (mark_at b r.private s.number) (mark_len b) x (omega (arith, low)) e in k x (mark_new s h b c x q.0 q.1))

@@ -6,15 +6,18 @@ use Rattle.std.specs.Option.{is_some}
 use Rattle.std.specs.List.{list_any}
 use Rattle.std.proofs.lemmas.Bool.{cases_Bool, and_parts, and_from, cond-true, eqb-true, eq-eqb, ne_eqb, leb-true, ltb-true, le-leb, lt-ltb, false_from_ne_true, true≢false, false≢true}
 use Rattle.pun_base.specs.Memory.{Cell}
+use Rattle.pun_base.specs.declared.action.Base.{Base}
+use Rattle.pun_base.specs.declared.action.Base.TheVariants.{Cover, Count}
 use Rattle.start_entries.specs.declared.entry.StartEntry.{StartEntry}
 use Rattle.start_entries.specs.Standing.{AreEntries}
 use Rattle.image_step.specs.Listed.{is_start}
 use Rattle.thread_runs.specs.ThreadCode.{event_len, event_if, thread_work, code_if}
-use Rattle.thread_runs.specs.Threading.{ThreadSite, Threading, next_of, work_at, is_new, is_site, is_kept, is_part, is_counted, site_if, relocated_at, is_code_of, IsThreadSound}
+use Rattle.thread_runs.specs.Threading.{ThreadSite, Threading, next_of, work_at, is_new, is_site, is_kept, Part, part_from, part_to, is_part, is_counted, site_if, relocated_at, is_code_of, IsThreadSound}
+use Rattle.thread_runs.specs.Threading.Part.{Whole, Save, Saved, Marked}
 use Rattle.thread_runs.specs.Watching.{is_effect, is_there}
 use Rattle.thread_runs.specs.StepLaws.{WorkLong}
-use Rattle.thread_runs.specs.Event.{Point, offset, is_inside}
-use Rattle.thread_runs.specs.Event.Point.{At7}
+use Rattle.thread_runs.specs.Event.{Point, offset, is_inside, has_point}
+use Rattle.thread_runs.specs.Event.Point.{At0, At7}
 use Rattle.thread_runs.specs.Relation.{point_at}
 use Rattle.thread_runs.proofs.ThreadTrampolines.{event_long}
 use Rattle.patch_report.proofs.ListPlaces.{found, any_at, contains_at, place_of, some_is}
@@ -49,32 +52,73 @@ pub relocated_none : (x : ℕ) (ss : List ThreadSite) → ((i : ℕ) (t : Thread
 relocated_none x [] h = refl
 relocated_none x (t ∷ ts) h = ap (λ b. site_if b t (relocated_at ts x)) (ne_eqb (work_at t) x (h 0 t refl)) ∙ relocated_none x ts (λ j u k g. h (suc j) u k g)
 
--- an address from byte lo on and below byte hi of a site's trampoline is in that part of it, where the site counts
-pub part_true : (lo hi x : ℕ) (s : ThreadSite) → s.event ≡ true → s.place + lo ≤ x → x < s.place + hi → is_part lo hi x s ≡ true
-part_true lo hi x s e a b = and_from s.event (leb (s.place + lo) x && ltb x (s.place + hi)) e
-    (and_from (leb (s.place + lo) x) (ltb x (s.place + hi)) (le-leb (s.place + lo) x a) (lt-ltb x (s.place + hi) b))
+-- an address from the first byte of a part of a site's event on, and below its end, is in that part
+pub part_true : (p : Part) (x : ℕ) (s : ThreadSite) → s.place + part_from p s.event ≤ x → x < s.place + part_to p s.event → is_part p x s ≡ true
+part_true p x s a b = and_from (leb (s.place + part_from p s.event) x) (ltb x (s.place + part_to p s.event)) (le-leb (s.place + part_from p s.event) x a) (lt-ltb x (s.place + part_to p s.event) b)
 
--- an address in a part of a trampoline lies from its byte lo on and below its byte hi, and the site counts
-pub part_is : (lo hi x : ℕ) (s : ThreadSite) → is_part lo hi x s ≡ true → (s.place + lo ≤ x) × (x < s.place + hi) × (s.event ≡ true)
-part_is lo hi x s h =
-    let p = and_parts s.event (leb (s.place + lo) x && ltb x (s.place + hi)) h in
-    let q = and_parts (leb (s.place + lo) x) (ltb x (s.place + hi)) p.1 in
-    (leb-true (s.place + lo) x q.0, ltb-true x (s.place + hi) q.1, p.0)
+-- an address in a part of an event lies from the part's first byte on and below its end
+pub part_is : (p : Part) (x : ℕ) (s : ThreadSite) → is_part p x s ≡ true → (s.place + part_from p s.event ≤ x) × (x < s.place + part_to p s.event)
+part_is p x s h =
+    let q = and_parts (leb (s.place + part_from p s.event) x) (ltb x (s.place + part_to p s.event)) h in
+    (leb-true (s.place + part_from p s.event) x q.0, ltb-true x (s.place + part_to p s.event) q.1)
 
 -- an address below a part isn't in it
-pub part_low : (lo hi x : ℕ) (s : ThreadSite) → x < s.place + lo → is_part lo hi x s ≡ false
-part_low lo hi x s h = false_from_ne_true (is_part lo hi x s) (λ k. let q = part_is lo hi x s k in omega (arith, q.0, h))
+pub part_low : (p : Part) (x : ℕ) (s : ThreadSite) → x < s.place + part_from p s.event → is_part p x s ≡ false
+part_low p x s h = false_from_ne_true (is_part p x s) (λ k. let q = part_is p x s k in omega (arith, q.0, h))
 
 -- an address after a part isn't in it
-pub part_high : (lo hi x : ℕ) (s : ThreadSite) → s.place + hi ≤ x → is_part lo hi x s ≡ false
-part_high lo hi x s h = false_from_ne_true (is_part lo hi x s) (λ k. let q = part_is lo hi x s k in omega (arith, q.1, h))
+pub part_high : (p : Part) (x : ℕ) (s : ThreadSite) → s.place + part_to p s.event ≤ x → is_part p x s ≡ false
+part_high p x s h = false_from_ne_true (is_part p x s) (λ k. let q = part_is p x s k in omega (arith, q.1, h))
+
+-- no part goes beyond the first byte after the event
+pub part_small : (p : Part) (e : Option Base) → part_to p e ≤ event_len e + 1
+part_small Whole e = omega arith
+part_small Save (Some Cover) = omega arith
+part_small Save (Some Count) = omega arith
+part_small Save None = omega arith
+part_small Saved (Some Cover) = omega arith
+part_small Saved (Some Count) = omega arith
+part_small Saved None = omega arith
+part_small Marked (Some Cover) = omega arith
+part_small Marked (Some Count) = omega arith
+part_small Marked None = omega arith
+
+-- the instruction that saves rax is one of the event's
+pub save_small : (e : Option Base) → part_to Save e ≤ event_len e
+save_small (Some Cover) = omega arith
+save_small (Some Count) = omega arith
+save_small None = omega arith
+
+-- an event marks before the relocated code
+pub mark_from : (e : Option Base) → part_from Marked e ≤ event_len e
+mark_from (Some Cover) = omega arith
+mark_from (Some Count) = omega arith
+mark_from None = omega arith
+
+-- it doesn't mark before its first instruction
+pub mark_late : (e : Option Base) → 0 < part_to Marked e → 0 < part_from Marked e
+mark_late (Some Cover) h = omega arith
+mark_late (Some Count) h = omega arith
+mark_late None h = absurd (omega (arith, h))
+
+-- what is after the mark ends with the first byte of the relocated code
+pub mark_end : (e : Option Base) → 0 < part_to Marked e → part_to Marked e ≡ event_len e + 1
+mark_end (Some Cover) h = refl
+mark_end (Some Count) h = refl
+mark_end None h = absurd (omega (arith, h))
+
+-- each event marks
+pub mark_some : (e : Option Base) (b : Base) → e ≡ Some b → 0 < part_to Marked e
+mark_some (Some Cover) b h = omega arith
+mark_some (Some Count) b h = omega arith
+mark_some None b h = absurd cc
 
 -- the event of a site that counts has 32 bytes
-pub counted_len : (s : ThreadSite) → s.event ≡ true → event_len s.event ≡ 32
+pub counted_len : (s : ThreadSite) → s.event ≡ Some Count → event_len s.event ≡ 32
 counted_len s e = ap event_len e
 
--- a site that doesn't count has no event
-pub plain_len : (s : ThreadSite) → s.event ≡ false → event_len s.event ≡ 0
+-- a site without an event has no code before its relocated code
+pub plain_len : (s : ThreadSite) → s.event ≡ None → event_len s.event ≡ 0
 plain_len s e = ap event_len e
 
 -- a point inside the event lies as many bytes after the place as it is said
@@ -82,13 +126,33 @@ pub point_inside : (s : ThreadSite) (k : Point) → is_inside k ≡ true → poi
 point_inside s k i = cond-true (is_inside k) (s.place + offset k) (work_at s) i
 
 -- so does each point of a site that counts
-pub point_counted : (s : ThreadSite) (k : Point) → s.event ≡ true → point_at s k ≡ s.place + offset k
+pub point_counted : (s : ThreadSite) (k : Point) → s.event ≡ Some Count → point_at s k ≡ s.place + offset k
 point_counted s At7 e = ap (λ z. s.place + z) (counted_len s e)
 point_counted s k e = refl
 
--- an address from the relocated code on is in no part of the event
-pub part_past : (lo hi x : ℕ) (s : ThreadSite) → hi ≤ 32 → work_at s ≤ x → is_part lo hi x s ≡ false
-part_past lo hi x s b h = false_from_ne_true (is_part lo hi x s) (λ k. let q = part_is lo hi x s k in omega (arith, q.1, h, b, counted_len s q.2))
+-- a point that an event has lies in its code
+pub point_low : (e : Option Base) (k : Point) → has_point e k ≡ true → offset k < event_len e
+point_low None k h = absurd (false≢true h)
+point_low (Some Cover) At0 h = omega arith
+point_low (Some Cover) k h = absurd (false≢true h)
+point_low (Some Count) At7 h = absurd (false≢true h)
+point_low (Some Count) k h = omega arith
+
+-- past its first point only an event that counts has points
+pub point_saving : (e : Option Base) (k : Point) → has_point e k ≡ true → offset k ≢ 0 → e ≡ Some Count
+point_saving None k h n = absurd (false≢true h)
+point_saving (Some Cover) At0 h n = absurd (n refl)
+point_saving (Some Cover) k h n = absurd (false≢true h)
+point_saving (Some Count) k h n = refl
+
+-- each event has a first point
+pub point_first : (b : Base) → has_point (Some b) At0 ≡ true
+point_first Cover = refl
+point_first Count = refl
+
+-- an address from the relocated code on is in no part of the event that ends with it
+pub part_past : (p : Part) (x : ℕ) (s : ThreadSite) → part_to p s.event ≤ event_len s.event → work_at s ≤ x → is_part p x s ≡ false
+part_past p x s b h = part_high p x s (omega (arith, b, h))
 
 -- a byte that is held before is not new
 new_parts : (o q : Option Cell) → is_some q ≡ true → (is_some o && not (is_some q)) ≡ false
@@ -108,9 +172,13 @@ module _ (r : Threading) (A : AreEntries r.original r.listed) (S : IsThreadSound
         W k.fields (next_of s) (work_at s) k.size s.entry.len s.entry.addr k.spelled k.len k.displaced,
       )
 
-  -- each of the first 33 addresses of a site's trampoline is one of its code, where the site counts
-  pub in_code : (s : ThreadSite) (h : Contains r.sites s) (x : ℕ) → s.event ≡ true → s.place ≤ x → x < s.place + 33 → is_code_of r s (S.sites s h) x
-  in_code s h x e a b = (a, omega (arith, b, longer s h, counted_len s e))
+  -- each address of a site's event is one of its code, and so is the next one
+  pub in_code : (s : ThreadSite) (h : Contains r.sites s) (x : ℕ) → s.place ≤ x → x < s.place + (event_len s.event + 1) → is_code_of r s (S.sites s h) x
+  in_code s h x a b = (a, omega (arith, b, longer s h))
+
+  -- so is each address of a part of the event
+  pub part_in : (p : Part) (s : ThreadSite) (h : Contains r.sites s) (x : ℕ) → is_part p x s ≡ true → is_code_of r s (S.sites s h) x
+  part_in p s h x e = let q = part_is p x s e in in_code s h x (omega (arith, q.0)) (omega (arith, q.1, part_small p s.event))
 
   -- the first address of a site's trampoline is one of its code
   pub place_in : (s : ThreadSite) (h : Contains r.sites s) (x : ℕ) → x ≡ s.place → is_code_of r s (S.sites s h) x
@@ -121,9 +189,9 @@ module _ (r : Threading) (A : AreEntries r.original r.listed) (S : IsThreadSound
   work_in s h x e = (omega (arith, e), omega (arith, e, longer s h))
 
   -- each point of a site's trampoline is one of its code
-  pub point_in : (s : ThreadSite) (h : Contains r.sites s) (p : Point) (x : ℕ) → (is_inside p ≡ true → s.event ≡ true) → x ≡ point_at s p → is_code_of r s (S.sites s h) x
+  pub point_in : (s : ThreadSite) (h : Contains r.sites s) (p : Point) (x : ℕ) → (is_inside p ≡ true → has_point s.event p ≡ true) → x ≡ point_at s p → is_code_of r s (S.sites s h) x
   point_in s h At7 x c e = work_in s h x e
-  point_in s h p x c e = in_code s h x (c refl) (omega (arith, e)) (omega (arith, e))
+  point_in s h p x c e = let l = point_low s.event p (c refl) in in_code s h x (omega (arith, e)) (omega (arith, e, l))
 
   -- each address of a site's code is new
   pub code_new : (s : ThreadSite) (h : Contains r.sites s) (x : ℕ) → is_code_of r s (S.sites s h) x → is_new r x ≡ true
@@ -142,19 +210,16 @@ module _ (r : Threading) (A : AreEntries r.original r.listed) (S : IsThreadSound
   code_unlisted s h x c = false_from_ne_true (is_start r.listed x) (λ k. true≢false (sym (code_new s h x c) ∙ start_old x k))
 
   -- in the code of a site tests by address speak of this site alone
-  pub part_only : (s : ThreadSite) (h : Contains r.sites s) (x lo hi : ℕ) → hi ≤ 33 → is_code_of r s (S.sites s h) x → list_any (is_part lo hi x) r.sites ≡ is_part lo hi x s
-  part_only s h x lo hi b c = any_only (is_part lo hi x) r.sites s h (λ t k p. let q = part_is lo hi x t p in
-      S.apart t s k h x (in_code t k x q.2 (omega (arith, q.0)) (omega (arith, q.1, b))) c)
+  pub part_only : (s : ThreadSite) (h : Contains r.sites s) (x : ℕ) (p : Part) → is_code_of r s (S.sites s h) x → list_any (is_part p x) r.sites ≡ is_part p x s
+  part_only s h x p c = any_only (is_part p x) r.sites s h (λ t k e. S.apart t s k h x (part_in p t k x e) c)
 
-  -- an address that isn't new is in no part of a trampoline up to its byte 33
-  pub part_never : (x lo hi : ℕ) → hi ≤ 33 → is_new r x ≡ false → list_any (is_part lo hi x) r.sites ≡ false
-  part_never x lo hi b n = any_none (is_part lo hi x) r.sites (λ t k p. let q = part_is lo hi x t p in
-      true≢false (sym (code_new t k x (in_code t k x q.2 (omega (arith, q.0)) (omega (arith, q.1, b)))) ∙ n))
+  -- an address that isn't new is in no part of an event
+  pub part_never : (x : ℕ) (p : Part) → is_new r x ≡ false → list_any (is_part p x) r.sites ≡ false
+  part_never x p n = any_none (is_part p x) r.sites (λ t k e. true≢false (sym (code_new t k x (part_in p t k x e)) ∙ n))
 
   -- at an address that isn't new no site is counted
   pub old_uncounted : (x : ℕ) (s : ThreadSite) → Contains r.sites s → is_new r x ≡ false → is_counted s x ≡ false
-  old_uncounted x s h n = false_from_ne_true (is_counted s x) (λ p. let q = part_is 21 33 x s p in
-      true≢false (sym (code_new s h x (in_code s h x q.2 (omega (arith, q.0)) (omega (arith, q.1)))) ∙ n))
+  old_uncounted x s h n = false_from_ne_true (is_counted s x) (λ e. true≢false (sym (code_new s h x (part_in Marked s h x e)) ∙ n))
 
   -- no address of a site's code is a kept start
   pub kept_not : (s : ThreadSite) (h : Contains r.sites s) (x : ℕ) → is_code_of r s (S.sites s h) x → is_kept r x ≡ false

@@ -2,6 +2,8 @@
 use Rattle.std.proofs.Common.{◌≡◌, ℕ, ◌+◌, Bool, true, false, not, cond, eqb, List, [], ◌++◌, length, length-append, Option, Some, None, refl, sym, ap, ◌∙◌, arith}
 use Rattle.std.specs.Option.{option_map}
 use Rattle.std.proofs.lemmas.List.{append-nil}
+use Rattle.pun_base.specs.declared.action.Base.{Base}
+use Rattle.pun_base.specs.declared.action.Base.TheVariants.{Cover, Count}
 use Rattle.length_decode.specs.Spelling.{Fields}
 use Rattle.insn_form.specs.declared.form.Spot.TheVariants.{Reg, High, Mem}
 use Rattle.insn_form.specs.declared.form.Target.TheVariants.{Rel, Through}
@@ -35,7 +37,7 @@ work_is (Asked form) p f next to r work goes h e g = let q : r ≡ None = cc in 
 work_is Ending p f next to r work goes h e g = let q : r ≡ None = cc in λ i. work_by (q i) (e i) (g i) to next
 
 -- a trampoline that calls through no register has as many bytes as its size says
-plain : (b : Bool) (x : Insn) (len addr next to : ℕ) (r : Option ℕ) (work : List ℕ) (goes : Bool) → r ≡ None → goes ≡ falls x → displaced_len x len addr ≡ Some (length work)
+plain : (b : Option Base) (x : Insn) (len addr next to : ℕ) (r : Option ℕ) (work : List ℕ) (goes : Bool) → r ≡ None → goes ≡ falls x → displaced_len x len addr ≡ Some (length work)
     → option_map (λ n. event_len b + n + cond (falls x) 5 0) (displaced_len x len addr) ≡ Some (event_len b + length (work_by r work goes to next))
 plain b x len addr next to r work goes q g d =
     let l : length (work_by r work goes to next) ≡ length work + length (back_if goes (to + length work) next) = ap (λ z. length (work_by z work goes to next)) q ∙ length-append work (back_if goes (to + length work) next) in
@@ -43,7 +45,7 @@ plain b x len addr next to r work goes q g d =
     ap (option_map (λ n. event_len b + n + cond (falls x) 5 0)) d ∙ ap Some (omega (arith, l, back))
 
 -- the work has as many bytes as the relocated code of elsewhere and the jump back
-pub work_long : (b : Bool) (x : Insn) (len addr next to : ℕ) (r : Option ℕ) (work : List ℕ) (goes : Bool) → call_register x ≡ Some r → goes ≡ falls x → displaced_len x len addr ≡ Some (length work)
+pub work_long : (b : Option Base) (x : Insn) (len addr next to : ℕ) (r : Option ℕ) (work : List ℕ) (goes : Bool) → call_register x ≡ Some r → goes ≡ falls x → displaced_len x len addr ≡ Some (length work)
     → size_if b x len addr ≡ Some (event_len b + length (work_by r work goes to next))
 work_long b (Exact (Call (Through (Reg a)))) len addr next to r work goes h g d = by_rsp (eqb a 4) h
   where
@@ -63,11 +65,12 @@ work_long b (Exact op) len addr next to r work goes h g d = let q : r ≡ None =
 work_long b (Asked form) len addr next to r work goes h g d = let q : r ≡ None = cc in plain b (Asked form) len addr next to r work goes q g d
 work_long b Ending len addr next to r work goes h g d = let q : r ≡ None = cc in plain b Ending len addr next to r work goes q g d
 
--- an event has 32 bytes, where there is one
-pub event_long : (b : Bool) (p i : ℕ) → length (event_if b p i) ≡ event_len b
-event_long true p i = refl
-event_long false p i = refl
+-- an event has as many bytes as it is said
+pub event_long : (b : Option Base) (p i : ℕ) → length (event_if b p i) ≡ event_len b
+event_long (Some Cover) p i = refl
+event_long (Some Count) p i = refl
+event_long None p i = refl
 
 -- a trampoline has the bytes of its event, where there is one, and those after it
-pub event_more : (b : Bool) (p i : ℕ) (w : List ℕ) → event_len b + length w ≡ length (event_if b p i ++ w)
+pub event_more : (b : Option Base) (p i : ℕ) (w : List ℕ) → event_len b + length w ≡ length (event_if b p i ++ w)
 event_more b p i w = let n = event_long b p i in omega (arith, n, length-append (event_if b p i) w)

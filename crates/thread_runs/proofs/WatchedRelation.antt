@@ -1,7 +1,9 @@
 -- What each step keeps between the original's guest and the watched patched one.
 use Rattle.std.proofs.Common.{◌≡◌, ◌⊎◌, ℕ, ◌+◌, ◌%◌, ◌^◌, ◌<◌, Bool, true, false, ◌&&◌, cond, eqb, List, map, Some, None}
-use Rattle.std.specs.Prelude.{Contains, slice_get}
+use Rattle.std.specs.Prelude.{Contains, slice_get, count_by}
 use Rattle.pun_base.specs.Memory.{Bytes}
+use Rattle.pun_base.specs.declared.action.Base.{Base}
+use Rattle.pun_base.specs.declared.action.Base.TheVariants.{Cover, Count}
 use Rattle.cpu_state.specs.Bytes.{lacking, number_at}
 use Rattle.cpu_state.specs.Processor.{IsProcessorCore, GiveWords}
 use Rattle.insn_form.specs.Machine.{Machine}
@@ -11,12 +13,11 @@ use Rattle.relocate_insn.proofs.FixedCode.{SameCode}
 use Rattle.image_step.specs.Listed.{is_start}
 use Rattle.thread_runs.specs.Guest.{Thread, Guest, machine_of, thread_of, last_guest}
 use Rattle.thread_runs.specs.GuestDeliveries.{GuestItem, IsInterleavedWith}
-use Rattle.thread_runs.specs.ThreadCode.{counter_at}
+use Rattle.thread_runs.specs.ThreadCode.{mark_at, mark_len}
 use Rattle.thread_runs.specs.Work.{Tail, left, InTail}
 use Rattle.thread_runs.specs.Threading.{ThreadSite, Threading, next_of, work_at, is_hidden, is_counted, IsThreadSound}
 use Rattle.thread_runs.specs.Watching.{Watched, Watch, is_effect, projection}
 use Rattle.thread_runs.specs.Relation.{Outside, AtSecond, AtEvent}
-use Rattle.thread_runs.specs.Theorem.{AreCounted}
 
 -- after the effect step
 pub record OnWay (r : Threading) (S : IsThreadSound r) (m : Bytes) (now projected : Thread) : Type 0 where
@@ -38,18 +39,31 @@ pub record ThreadKept (r : Threading) (S : IsThreadSound r) (m : Bytes) (one : W
   pub start : is_start r.listed one.projected.rip ≡ true
   pub phase : Phase r S m one.now one.projected
 
--- a site's counter can be read and written
-pub record HasRoom (m : Bytes) (a : ℕ) : Type 0 where
-  pub read : lacking 4 m a 8 ≡ None
-  pub written : lacking 2 m a 8 ≡ None
+-- what an event marks can be read and written
+pub record HasRoom (m : Bytes) (a n : ℕ) : Type 0 where
+  pub read : lacking 4 m a n ≡ None
+  pub written : lacking 2 m a n ≡ None
+
+-- the number that a mark shows after so many events: a counter counts them, and a byte is 1 after the first
+abbrev pub shown_after : Base → ℕ → ℕ
+shown_after Cover n = cond (eqb n 0) 0 1
+shown_after Count n = n % 2 ^ 64
+
+-- the number that the event of a site marks
+abbrev pub marked : Threading → Base → ThreadSite → Bytes → ℕ
+marked r b s m = number_at m (mark_at b r.private s.number) (mark_len b)
+
+-- what each event marks shows the number of the site's effect steps and of the threads between the mark and their effect step
+abbrev pub AreMarked : Threading → Watch → Type 0
+AreMarked r w = (s : ThreadSite) → Contains r.sites s → (b : Base) → s.event ≡ Some b
+    → marked r b s w.mem ≡ shown_after b (count_by (λ e. eqb e.at s.entry.addr) w.log + count_by (λ t. is_counted s t.now.rip) w.threads)
 
 -- What one step of a thread rests on: how its memory lies beside the original's, and where it stands.
-pub record Base (r : Threading) (S : IsThreadSound r) (m : Bytes) (stale : ℕ → Bool) (u : Bytes) (one : Watched) : Type 0 where
+pub record Ground (r : Threading) (S : IsThreadSound r) (m : Bytes) (stale : ℕ → Bool) (u : Bytes) (one : Watched) : Type 0 where
   pub alike : AreAlike (is_hidden r) stale m u
   pub own : SameCode r.original m
   pub other : SameCode r.patched u
-  pub room : (s : ThreadSite) → Contains r.sites s → s.event ≡ true → HasRoom u (counter_at r.private s.number)
-  pub numbers : (s : ThreadSite) → Contains r.sites s → s.event ≡ true → (n : ℕ) × (number_at u (counter_at r.private s.number) 8 ≡ n % 2 ^ 64)
+  pub room : (s : ThreadSite) → Contains r.sites s → (b : Base) → s.event ≡ Some b → HasRoom u (mark_at b r.private s.number) (mark_len b)
   pub kept : ThreadKept r S u one
 
 -- what each item keeps of a watched guest: what was made so far is a run of the original, with equal threads and memory but for hidden and stale bytes
@@ -62,8 +76,8 @@ pub record Related (r : Threading) (S : IsThreadSound r) (a : Guest) (made : Lis
   pub alike : AreAlike (is_hidden r) w.stale end.mem w.mem
   pub own : SameCode r.original end.mem
   pub other : SameCode r.patched w.mem
-  pub room : (s : ThreadSite) → Contains r.sites s → s.event ≡ true → HasRoom w.mem (counter_at r.private s.number)
-  pub counted : AreCounted r w
+  pub room : (s : ThreadSite) → Contains r.sites s → (b : Base) → s.event ≡ Some b → HasRoom w.mem (mark_at b r.private s.number) (mark_len b)
+  pub marks : AreMarked r w
   pub each : (k : ℕ) (one : Watched) → slice_get w.threads k ≡ Some one → ThreadKept r S w.mem one
 
 -- what one step makes: a trampoline step leaves the original as it is, an effect step is one of the original's
@@ -78,29 +92,28 @@ pub record Acts (effect : Bool) (m m' : Bytes) (t t' : Thread) : Type 0 where
   pub mem : m' ≡ to.mem
   pub thread : t' ≡ thread_of to
 
--- how the number of a counter changes, beside the threads that are counted and the effect steps
-pub record Changes (r : Threading) (effect : Bool) (s : ThreadSite) (m m' : Bytes) (at rip rip' : ℕ) : Type 0 where
+-- how what the event of a site marks changes, beside the threads that are counted and the effect steps
+pub record Changes (r : Threading) (effect : Bool) (b : Base) (s : ThreadSite) (m m' : Bytes) (at rip rip' : ℕ) : Type 0 where
   pub more : ℕ
-  pub number : number_at m' (counter_at r.private s.number) 8 ≡ (number_at m (counter_at r.private s.number) 8 + more) % 2 ^ 64
+  pub number : (n : ℕ) → marked r b s m ≡ shown_after b n → marked r b s m' ≡ shown_after b (n + more)
   pub even : cond (effect && eqb at s.entry.addr) 1 0 + cond (is_counted s rip') 1 0 ≡ cond (is_counted s rip) 1 0 + more
 
--- what one step leaves: the original's step or none, memory alike again, the counters as they are due, and the thread's new phase
+-- what one step leaves: the original's step or none, memory alike again, what events mark as it is due, and the thread's new phase
 pub record Made (r : Threading) (S : IsThreadSound r) (stale' : ℕ → Bool) (m m' : Bytes) (one : Watched) (u : Bytes) (to : Machine) : Type 0 where
   pub went : Calm (is_effect r one.now.rip) m m' one.projected (projection r one u to) ⊎ Acts (is_effect r one.now.rip) m m' one.projected (projection r one u to)
   pub alike : AreAlike (is_hidden r) stale' m' to.mem
   pub own : SameCode r.original m'
-  pub counted : (s : ThreadSite) → Contains r.sites s → s.event ≡ true → Changes r (is_effect r one.now.rip) s u to.mem one.projected.rip one.now.rip to.rip
+  pub counted : (s : ThreadSite) → Contains r.sites s → (b : Base) → s.event ≡ Some b → Changes r (is_effect r one.now.rip) b s u to.mem one.projected.rip one.now.rip to.rip
   pub processor : IsProcessorCore (projection r one u to).core
   pub words : GiveWords (projection r one u to).world
   pub phase : Phase r S to.mem (thread_of to) (projection r one u to)
 
 -- the relation, seen from one thread
-pub base_of : (r : Threading) (S : IsThreadSound r) (a : Guest) (made : List GuestItem) (w : Watch) (R : Related r S a made w) (k : ℕ) (one : Watched) → slice_get w.threads k ≡ Some one → Base r S R.end.mem w.stale w.mem one
+pub base_of : (r : Threading) (S : IsThreadSound r) (a : Guest) (made : List GuestItem) (w : Watch) (R : Related r S a made w) (k : ℕ) (one : Watched) → slice_get w.threads k ≡ Some one → Ground r S R.end.mem w.stale w.mem one
 base_of r S a made w R k one e = record {
   alike = R.alike;
   own = R.own;
   other = R.other;
   room = R.room;
-  numbers = λ s c e. (_, R.counted s c e);
   kept = R.each k one e;
 }

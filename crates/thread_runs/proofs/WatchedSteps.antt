@@ -1,10 +1,12 @@
 -- One step of the watched guest keeps the relation, which shows what the theorem says and holds at the start.
-use Rattle.std.proofs.Common.{◌≡◌, ◌⊎◌, inl, inr, ℕ, zero, suc, ◌+◌, ◌*◌, ◌^◌, ◌<◌, ◌≤◌, Bool, true, false, not, ◌&&◌, cond, leb, ltb, List, [], ◌∷◌, map, Option, Some, None, refl, sym, ap, ap₂, ◌∙◌, subst, arith}
+use Rattle.std.proofs.Common.{◌≡◌, ◌⊎◌, inl, inr, ℕ, zero, suc, ◌+◌, ◌*◌, ◌^◌, ◌<◌, ◌≤◌, Bool, true, false, not, ◌&&◌, ◌||◌, cond, eqb, leb, ltb, List, [], ◌∷◌, map, Option, Some, None, refl, sym, ap, ap₂, ◌∙◌, subst, arith}
 use Rattle.std.specs.Prelude.{Contains, slice_get, slice_set, count_by}
 use Rattle.std.specs.Option.{is_some}
-use Rattle.std.specs.List.{AllByRecursion, list_any}
-use Rattle.std.proofs.lemmas.Bool.{and_from, or_parts, not_from_false, cond-true, cond-false, true≢false}
+use Rattle.std.specs.List.{list_any}
+use Rattle.std.proofs.lemmas.Bool.{and_from, or_parts, not_from_false, cond-true, cond-false, ne_eqb, true≢false, false≢true}
 use Rattle.pun_base.specs.Memory.{Cell, Bytes, or_else, joined}
+use Rattle.pun_base.specs.declared.action.Base.{Base}
+use Rattle.pun_base.specs.declared.action.Base.TheVariants.{Cover, Count}
 use Rattle.cpu_state.specs.Bytes.{allows, avoids, byte_of, lacking, number_at}
 use Rattle.insn_form.specs.Touched.{perms_at}
 use Rattle.insn_form.specs.Processor.{IsProcessorState}
@@ -13,14 +15,14 @@ use Rattle.start_entries.specs.declared.entry.StartEntry.{StartEntry}
 use Rattle.start_entries.specs.Standing.{AreEntries}
 use Rattle.image_step.specs.Listed.{is_start, is_listed_byte}
 use Rattle.thread_runs.specs.Guest.{Thread, Guest, machine_of, thread_of}
-use Rattle.thread_runs.specs.ThreadCode.{counter_at, slot}
-use Rattle.thread_runs.specs.Event.{Point, offset, is_inside, Holds, HasSaved}
+use Rattle.thread_runs.specs.ThreadCode.{mark_at, mark_len, slot}
+use Rattle.thread_runs.specs.Event.{Point, offset, is_inside, has_point, Holds, HasSaved}
 use Rattle.thread_runs.specs.Event.Point.{At0, At1, At2, At3, At4, At5, At6, At7}
 use Rattle.thread_runs.specs.Threading.{ThreadSite, Threading, next_of, work_at, is_new, is_hidden, is_site, is_kept, is_counted, relocated_at, is_code_of, IsThreadSound}
-use Rattle.thread_runs.specs.Watching.{Watched, Watch, watch_of, projection, stale_after, watched_after, Watches}
+use Rattle.thread_runs.specs.Watching.{Watched, Watch, EffectStep, watch_of, projection, stale_after, watched_after, Watches}
 use Rattle.thread_runs.specs.Premises.{StandAtStarts, IsProper}
 use Rattle.thread_runs.specs.Relation.{has_rax, point_at, Outside, AtSecond, AtEvent, BehindEffect, IsBeside}
-use Rattle.thread_runs.specs.Theorem.{AreStartGuests, AreCounted}
+use Rattle.thread_runs.specs.Theorem.{AreStartGuests, AreCounted, AreCovered}
 use Rattle.thread_runs.specs.GuestDeliveries.{GuestItem}
 use Rattle.thread_runs.specs.WatchedDeliveries.{WatchWith, made_after}
 use Rattle.thread_runs.specs.TheoremWithDeliveries.{IsGuestFollowedWith}
@@ -33,9 +35,9 @@ use Rattle.thread_runs.proofs.ThreadPlaces.{any_none, effect_kept, effect_there,
 use Rattle.thread_runs.proofs.KeptRelation.{kept_by}
 use Rattle.thread_runs.proofs.StandingCode.{fields_of, code_length, work_stands}
 use Rattle.thread_runs.proofs.OutsideSteps.{made_kept, made_displaced, made_second, start_uncounted}
-use Rattle.thread_runs.proofs.ThreadEventSteps.{made_event}
+use Rattle.thread_runs.proofs.ThreadEventSteps.{made_event, made_cover}
 use Rattle.thread_runs.proofs.DisplacedSteps.{made_tail, reads_too, at_work, effect_told, made_effect}
-use Rattle.thread_runs.proofs.WatchedRelation.{OnWay, Phase, ThreadKept, Base, Related, base_of, Made}
+use Rattle.thread_runs.proofs.WatchedRelation.{OnWay, Phase, ThreadKept, shown_after, Ground, Related, base_of, Made}
 
 -- where each byte of a range has a permission, none of the range lacks it
 held_none : (p : ℕ) (m : Bytes) (a n : ℕ) → a + n < 2 ^ 64 → ((x : ℕ) → a ≤ x → x < a + n → allows p (m x) ≡ true) → lacking p m a n ≡ None
@@ -55,6 +57,39 @@ count_none p [] h = refl
 count_none p (x ∷ xs) h =
     let b : ◌≡◌ {A = ℕ} (cond (p x) 1 0) 0 = cond-false (p x) 1 0 (h 0 x refl) in
     omega (arith, count_cons p x xs, b, count_none p xs (λ i y e. h (suc i) y e))
+
+-- where some element passes, at least one is counted
+count_some : {X : Type 0} (p : X → Bool) (xs : List X) → list_any p xs ≡ true → 0 < count_by p xs
+count_some p [] h = absurd (false≢true h)
+count_some p (x ∷ xs) h = by_first (p x) refl (count_some p xs)
+  where
+    by_first : (b : Bool) → p x ≡ b → (list_any p xs ≡ true → 0 < count_by p xs) → 0 < count_by p (x ∷ xs)
+    by_first true e rest = let b : ◌≡◌ {A = ℕ} (cond (p x) 1 0) 1 = cond-true (p x) 1 0 e in omega (arith, count_cons p x xs, b)
+    by_first false e rest = let k = rest (sym (ap (λ b. b || list_any p xs) e) ∙ h) in omega (arith, count_cons p x xs, k)
+
+-- where none passes, none is counted
+count_any : {X : Type 0} (p : X → Bool) (xs : List X) → list_any p xs ≡ false → count_by p xs ≡ 0
+count_any p [] h = refl
+count_any p (x ∷ xs) h =
+    let q = or_parts (p x) (list_any p xs) h in
+    let b : ◌≡◌ {A = ℕ} (cond (p x) 1 0) 0 = cond-false (p x) 1 0 q.0 in
+    omega (arith, count_cons p x xs, b, count_any p xs q.1)
+
+-- two counts show in one byte whether some element of either list passes
+any_counted : {X Y : Type 0} (p : X → Bool) (xs : List X) (q : Y → Bool) (ys : List Y) → shown_after Cover (count_by p xs + count_by q ys) ≡ cond (list_any p xs || list_any q ys) 1 0
+any_counted p xs q ys = by_tests (list_any p xs) (list_any q ys) refl refl
+  where
+    one : 0 < count_by p xs + count_by q ys → ◌≡◌ {A = ℕ} (cond (eqb (count_by p xs + count_by q ys) 0) 0 1) 1
+    one h = cond-false (eqb (count_by p xs + count_by q ys) 0) 0 1 (ne_eqb (count_by p xs + count_by q ys) 0 (λ e. omega (arith, e, h)))
+
+    by_tests : (b c : Bool) → list_any p xs ≡ b → list_any q ys ≡ c → ◌≡◌ {A = ℕ} (cond (eqb (count_by p xs + count_by q ys) 0) 0 1) (cond (b || c) 1 0)
+    by_tests true c e f = one (omega (arith, count_some p xs e))
+    by_tests false true e f = one (omega (arith, count_some q ys f))
+    by_tests false false e f = let z : count_by p xs + count_by q ys ≡ 0 = omega (arith, count_any p xs e, count_any q ys f) in ap (λ n. cond (eqb n 0) 0 1) z
+
+-- the number that one byte spells is the byte
+one_byte : (m : Bytes) (a : ℕ) → byte_of (m a) ≡ number_at m a 1
+one_byte m a = let z : number_at m a 1 ≡ byte_of (m a) + 256 * 0 = refl in omega (arith, z)
 
 -- an element of a mapped list
 map_back : {X Y : Type 0} (f : X → Y) (xs : List X) (k : ℕ) (y : Y) → slice_get (map f xs) k ≡ Some y → (x : X) × (slice_get xs k ≡ Some x) × (f x ≡ y)
@@ -77,7 +112,7 @@ module _ (r : Threading) (A : AreEntries r.original r.listed) (S : IsThreadSound
   stepped a made k w v R m P =
       subst (λ (z : Watch). Related r S a (made_after r k m.one made) z) (sym m.after) (by_phase kept.phase)
     where
-      B : Base r S R.end.mem w.stale w.mem m.one
+      B : Ground r S R.end.mem w.stale w.mem m.one
       B = base_of r S a made w R k m.one m.there
 
       kept : ThreadKept r S w.mem m.one
@@ -102,13 +137,17 @@ module _ (r : Threading) (A : AreEntries r.original r.listed) (S : IsThreadSound
           let q = made_kept r A S L R.end.mem w m.one m.fields m.to m.steps B (start_old r A S L.long m.one.now.rip o.start) o is (P.quiet (effect_kept r A S L.long m.one.now.rip is)) P.fresh stand in
           done q.0 q.1
 
-      event : (site : ThreadSite) → Contains r.sites site → site.event ≡ true → (p : Point) → is_inside p ≡ true → m.one.now.rip ≡ site.place + offset p → m.one.projected.rip ≡ site.entry.addr
+      event : (o : Option Base) (site : ThreadSite) → Contains r.sites site → site.event ≡ o → (p : Point) → has_point o p ≡ true → is_inside p ≡ true → m.one.now.rip ≡ site.place + offset p → m.one.projected.rip ≡ site.entry.addr
           → Holds p m.one.projected.core m.one.now.core → m.one.now.world ≡ m.one.projected.world → HasSaved p m.one.projected.core w.mem
           → (has_rax p ≡ true → avoids (is_new r) (slot m.one.projected.core) 8 ≡ true) → Related r S a (made_after r k m.one made) (watched_after r k w m.one m.fields m.to)
-      event site listed counts p i e at core world saved old =
-          done R.end.mem (made_event r A S L R.end.mem w m.one m.fields m.to m.steps B P.saved site listed counts p i e at core world saved old)
+      event None site listed is p h i e at core world saved old = absurd (false≢true h)
+      event (Some Count) site listed is p h i e at core world saved old =
+          done R.end.mem (made_event r A S L R.end.mem w m.one m.fields m.to m.steps B site listed P.saved is p i e at core world saved old)
+      event (Some Cover) site listed is At0 h i e at core world saved old =
+          done R.end.mem (made_cover r A S L R.end.mem w m.one m.fields m.to m.steps B site listed is (omega (arith, e)) at core world)
+      event (Some Cover) site listed is p h i e at core world saved old = absurd (false≢true h)
 
-      by_point : (site : ThreadSite) → Contains r.sites site → (p : Point) → (is_inside p ≡ true → site.event ≡ true) → m.one.now.rip ≡ point_at site p → m.one.projected.rip ≡ site.entry.addr
+      by_point : (site : ThreadSite) → Contains r.sites site → (p : Point) → (is_inside p ≡ true → has_point site.event p ≡ true) → m.one.now.rip ≡ point_at site p → m.one.projected.rip ≡ site.entry.addr
           → Holds p m.one.projected.core m.one.now.core → m.one.now.world ≡ m.one.projected.world → HasSaved p m.one.projected.core w.mem
           → (has_rax p ≡ true → avoids (is_new r) (slot m.one.projected.core) 8 ≡ true) → Related r S a (made_after r k m.one made) (watched_after r k w m.one m.fields m.to)
       by_point site listed At7 c e at core world saved old =
@@ -120,18 +159,18 @@ module _ (r : Threading) (A : AreEntries r.original r.listed) (S : IsThreadSound
           let T = effect_told r A S L site listed R.end.mem w m.one m.fields m.to m.steps B e at work in
           let q = made_effect r A S L site listed R.end.mem w m.one m.fields m.to m.steps B e at T stand in
           done q.0 q.1
-      by_point site listed At0 c e at core world saved old = event site listed (c refl) At0 refl e at core world saved old
-      by_point site listed At1 c e at core world saved old = event site listed (c refl) At1 refl e at core world saved old
-      by_point site listed At2 c e at core world saved old = event site listed (c refl) At2 refl e at core world saved old
-      by_point site listed At3 c e at core world saved old = event site listed (c refl) At3 refl e at core world saved old
-      by_point site listed At4 c e at core world saved old = event site listed (c refl) At4 refl e at core world saved old
-      by_point site listed At5 c e at core world saved old = event site listed (c refl) At5 refl e at core world saved old
-      by_point site listed At6 c e at core world saved old = event site listed (c refl) At6 refl e at core world saved old
+      by_point site listed At0 c e at core world saved old = event site.event site listed refl At0 (c refl) refl e at core world saved old
+      by_point site listed At1 c e at core world saved old = event site.event site listed refl At1 (c refl) refl e at core world saved old
+      by_point site listed At2 c e at core world saved old = event site.event site listed refl At2 (c refl) refl e at core world saved old
+      by_point site listed At3 c e at core world saved old = event site.event site listed refl At3 (c refl) refl e at core world saved old
+      by_point site listed At4 c e at core world saved old = event site.event site listed refl At4 (c refl) refl e at core world saved old
+      by_point site listed At5 c e at core world saved old = event site.event site listed refl At5 (c refl) refl e at core world saved old
+      by_point site listed At6 c e at core world saved old = event site.event site listed refl At6 (c refl) refl e at core world saved old
 
       by_phase : Phase r S w.mem m.one.now m.one.projected → Related r S a (made_after r k m.one made) (watched_after r k w m.one m.fields m.to)
       by_phase (inl o) = outside o (is_site r m.one.now.rip) refl
       by_phase (inr (inl q)) = done R.end.mem (made_second r A S L R.end.mem w m.one m.fields m.to m.steps B (second_old m.one.now m.one.projected q) q)
-      by_phase (inr (inr (inl q))) = by_point q.site q.listed q.point q.counts q.here q.there q.core q.world q.saved q.old
+      by_phase (inr (inr (inl q))) = by_point q.site q.listed q.point q.inside q.here q.there q.core q.world q.saved q.old
       by_phase (inr (inr (inr q))) = done R.end.mem (made_tail r A S L q.site q.listed R.end.mem w m.one m.fields m.to m.steps B q.tail q.more q.there q.world)
 
   -- what the relation shows. A thread on its way out is in the code: told in the original's memory, where the code stands
@@ -146,7 +185,7 @@ module _ (r : Threading) (A : AreEntries r.original r.listed) (S : IsThreadSound
   phase_outside m now projected c (inl o) h = o.same
   phase_outside m now projected c (inr (inl q)) h = absurd (true≢false (sym h ∙ ap (is_start r.listed) q.here ∙ q.jumps.unlisted))
   phase_outside m now projected c (inr (inr (inl q))) h = absurd (true≢false (sym h ∙ code_unlisted r A S L.long q.site q.listed now.rip
-      (point_in r A S L.long q.site q.listed q.point now.rip q.counts q.here)))
+      (point_in r A S L.long q.site q.listed q.point now.rip q.inside q.here)))
   phase_outside m now projected c (inr (inr (inr q))) h = absurd (true≢false (sym h ∙ code_unlisted r A S L.long q.site q.listed now.rip (way_inside m now projected c q)))
 
   -- where a thread stands beside its projection
@@ -168,8 +207,8 @@ module _ (r : Threading) (A : AreEntries r.original r.listed) (S : IsThreadSound
   beside : (m : Bytes) (one : Watched) → ThreadKept r S m one → IsBeside r m one
   beside m one K = record { processor = K.processor; words = K.words; start = K.start; place = beside_at m one.now one.projected K.phase }
 
-  -- the relation shows that the guest is followed, and that each counter has its number
-  pub shown : (a : Guest) (x : WatchWith) → Related r S a x.made x.watch → IsGuestFollowedWith r a x × AreCounted r x.watch
+  -- the relation shows that the guest is followed, that each counter has its number, and each byte that covers is 1 where its site was reached
+  pub shown : (a : Guest) (x : WatchWith) → Related r S a x.made x.watch → IsGuestFollowedWith r a x × AreCounted r x.watch × AreCovered r x.watch
   shown a x R = let w = x.watch in (
     record {
       states = R.states;
@@ -182,10 +221,12 @@ module _ (r : Threading) (A : AreEntries r.original r.listed) (S : IsThreadSound
         each = all_from (λ (t : Watched). IsBeside r w.mem t) w.threads (λ t i. beside w.mem t (R.each i.0 t i.1));
         own = λ x e n. ap (λ (g : Guest). g.mem x) R.last ∙ R.own x e n;
         other = R.other;
-        counters = λ s c i. ((R.room s c i).read, (R.room s c i).written);
+        marks = λ s c b i. ((R.room s c b i).read, (R.room s c b i).written);
       };
     },
-    R.counted,
+    λ s c i. R.marks s c Count i,
+    λ s c i. one_byte w.mem (mark_at Cover r.private s.number) ∙ R.marks s c Cover i
+        ∙ any_counted (λ (e : EffectStep). eqb e.at s.entry.addr) w.log (λ (t : Watched). is_counted s t.now.rip) w.threads,
   )
 
   -- guests that start together are in the relation
@@ -199,14 +240,15 @@ module _ (r : Threading) (A : AreEntries r.original r.listed) (S : IsThreadSound
     alike = record { bytes = λ x h s. same x h; perms = λ x h. ap (λ (o : Option Cell). perms_of o) (same x h) };
     own = λ x e w. at_a x ∙ held_first (r.original x) (G.further x) (allowed_some 1 (r.original x) e);
     other = λ x e w. at_b x ∙ held_first (r.patched x) (G.further x) (allowed_some 1 (r.patched x) e);
-    room = λ s c v. let low = S.low s c v in record {
-      read = held_none 4 b.mem (counter_at r.private s.number) 8 (omega (arith, low)) (λ x i j. ap (allows 4) (zero_at s c v x i j));
-      written = held_none 2 b.mem (counter_at r.private s.number) 8 (omega (arith, low)) (λ x i j. ap (allows 2) (zero_at s c v x i j));
+    room = λ s c d v. let low = S.low s c d v in record {
+      read = held_none 4 b.mem (mark_at d r.private s.number) (mark_len d) (omega (arith, low)) (λ x i j. ap (allows 4) (zero_at s c d v x i j));
+      written = held_none 2 b.mem (mark_at d r.private s.number) (mark_len d) (omega (arith, low)) (λ x i j. ap (allows 2) (zero_at s c d v x i j));
     };
-    counted = λ s c v. let low = S.low s c v in
-        let n = zero_number b.mem (counter_at r.private s.number) 8 (omega (arith, low)) (λ x i j. ap byte_of (zero_at s c v x i j)) in
+    marks = λ s c d v. let low = S.low s c d v in
+        let n = zero_number b.mem (mark_at d r.private s.number) (mark_len d) (omega (arith, low)) (λ x i j. ap byte_of (zero_at s c d v x i j)) in
         let k = count_none (λ (t : Watched). is_counted s t.now.rip) (watch_of b).threads (λ i t e. uncounted s c i t e) in
-        omega (arith, n, k);
+        let z : count_by (λ (e : EffectStep). eqb e.at s.entry.addr) (watch_of b).log + count_by (λ (t : Watched). is_counted s t.now.rip) (watch_of b).threads ≡ 0 = omega (arith, k) in
+        n ∙ sym (ap (shown_after d) z ∙ shown_first d);
     each = λ k one e. let q = map_back (λ (t : Thread). record { now = t; projected = t }) b.threads k one e in
         let p = all_in (λ (t : Thread). IsProcessorState (machine_of a.mem t) × (t.rip ≡ r.entry)) a.threads q.0 G.each (k, ap (λ (l : List Thread). slice_get l k) (sym G.threads) ∙ q.1) in
         let s = all_in (λ (t : Watched). is_start r.listed t.projected.rip ≡ true) (watch_of b).threads one stand (k, e) in
@@ -245,8 +287,12 @@ module _ (r : Threading) (A : AreEntries r.original r.listed) (S : IsThreadSound
       same : (x : ℕ) → is_hidden r x ≡ false → a.mem x ≡ b.mem x
       same x h = at_a x ∙ ap (λ o. or_else o (G.further x)) (images x h) ∙ sym (at_b x)
 
-      zero_at : (s : ThreadSite) → Contains r.sites s → s.event ≡ true → (x : ℕ) → counter_at r.private s.number ≤ x → x < counter_at r.private s.number + 8 → b.mem x ≡ Some (record { byte = 0; perms = 6 })
-      zero_at s c v x i j = let z = (S.counters s c v x i (omega (arith, j))).0 in at_b x ∙ held_first (r.patched x) (G.further x) (ap is_some z) ∙ z
+      shown_first : (d : Base) → shown_after d 0 ≡ 0
+      shown_first Cover = refl
+      shown_first Count = refl
+
+      zero_at : (s : ThreadSite) → Contains r.sites s → (d : Base) → s.event ≡ Some d → (x : ℕ) → mark_at d r.private s.number ≤ x → x < mark_at d r.private s.number + mark_len d → b.mem x ≡ Some (record { byte = 0; perms = 6 })
+      zero_at s c d v x i j = let z = (S.marks s c d v x i j).0 in at_b x ∙ held_first (r.patched x) (G.further x) (ap is_some z) ∙ z
 
       uncounted : (s : ThreadSite) → Contains r.sites s → (i : ℕ) (t : Watched) → slice_get (watch_of b).threads i ≡ Some t → is_counted s t.now.rip ≡ false
       uncounted s c i t e =

@@ -1,8 +1,10 @@
 -- Scheduled alone, a thread gets through a trampoline.
-use Rattle.std.proofs.Common.{◌≡◌, ◌≢◌, ◌⊎◌, inl, inr, ℕ, zero, suc, ◌+◌, ◌<◌, ◌≤◌, Bool, true, false, not, ◌||◌, List, [], ◌∷◌, ◌++◌, replicate, Option, Some, None, Ok, refl, sym, ap, ap₂, ◌∙◌, subst, arith}
+use Rattle.std.proofs.Common.{◌≡◌, ◌≢◌, ◌⊎◌, inl, inr, ℕ, zero, suc, ◌+◌, ◌<◌, ◌≤◌, Bool, true, false, not, ◌&&◌, ◌||◌, eqb, List, [], ◌∷◌, ◌++◌, replicate, Option, Some, None, Ok, refl, sym, ap, ap₂, ◌∙◌, subst, arith}
 use Rattle.std.specs.Prelude.{Contains, slice_get, slice_set}
-use Rattle.std.proofs.lemmas.Bool.{and_parts, and_from, and_left, and_right, or_from, or_parts, not_from_false, not_from_true, cond-true, cond-false, false≢true, true≢false}
+use Rattle.std.proofs.lemmas.Bool.{and_parts, and_from, and_left, and_right, or_from, or_parts, not_from_false, not_from_true, cond-true, cond-false, eq-eqb, false≢true, true≢false}
 use Rattle.pun_base.specs.Memory.{Bytes}
+use Rattle.pun_base.specs.declared.action.Base.{Base}
+use Rattle.pun_base.specs.declared.action.Base.TheVariants.{Cover, Count}
 use Rattle.length_decode.specs.Spelling.{Fields, IsInstruction, spelling}
 use Rattle.cpu_state.specs.declared.state.Core.{Core}
 use Rattle.cpu_state.specs.Bytes.{advanced, avoids, lacking, Stands}
@@ -32,28 +34,29 @@ use Rattle.start_entries.specs.Standing.{AreEntries}
 use Rattle.image_step.specs.Listed.{is_start, is_known_start}
 use Rattle.thread_runs.specs.Guest.{Thread, Guest, machine_of, thread_of}
 use Rattle.thread_runs.specs.GuestDeliveries.{GuestItem, Goes, Takes, given, LeadsBy, IsInterleavedWith}
-use Rattle.thread_runs.specs.ThreadCode.{counter_at, slot}
-use Rattle.thread_runs.specs.Event.{Point, offset, following, is_inside, Holds, HasSaved, InEvent, CanCount}
+use Rattle.thread_runs.specs.ThreadCode.{mark_at, mark_len, event_len, slot}
+use Rattle.thread_runs.specs.Event.{Point, offset, following, is_inside, Holds, HasSaved, InEvent, CanCount, AtStore, covered}
 use Rattle.thread_runs.specs.Event.Point.{At0, At1, At2, At3, At4, At5, At6, At7}
 use Rattle.thread_runs.specs.Work.{Tail, left, InTail}
 use Rattle.thread_runs.specs.Work.Tail.{Out, Back, Jump, Ecx}
-use Rattle.thread_runs.specs.Threading.{ThreadSite, Threading, next_of, work_at, is_new, is_hidden, is_site, is_kept, in_event, saves, is_one_of, is_saved, is_code_of, ByTwoJumps, IsThreadSound}
+use Rattle.thread_runs.specs.Threading.Part.{Save}
+use Rattle.thread_runs.specs.Threading.{ThreadSite, Threading, next_of, work_at, is_new, is_hidden, is_site, is_kept, part_to, in_event, saves, is_saving, saves_at, is_one_of, is_saved, is_code_of, ByTwoJumps, IsThreadSound}
 use Rattle.thread_runs.specs.Watching.{Watched, Watch, EffectStep, projection, stale_after, watched_after, is_effect, Watches}
 use Rattle.thread_runs.specs.Premises.{IsQuietAt, reads_nothing_of}
 use Rattle.thread_runs.specs.Theorem.{last_watch, IsWatched, CanGo, GetsOut}
 use Rattle.thread_runs.specs.StepLaws.{StepLaws}
-use Rattle.patch_report.proofs.ListPlaces.{some_is}
+use Rattle.patch_report.proofs.ListPlaces.{some_is, any_at, place_of}
 use Rattle.image_check.proofs.LoadedCode.{jump_acts}
 use Rattle.thread_runs.proofs.ListUpdates.{set_here}
 use Rattle.thread_runs.proofs.ThreadPlaces.{counted_len, plain_len, point_inside, point_counted, longer, start_old, start_no_site, site_of, effect_kept, effect_never, kept_not, no_site}
 use Rattle.thread_runs.proofs.KeptRelation.{keeps_code, keeps_perms, keeps_room, lacking_on}
 use Rattle.thread_runs.proofs.StandingCode.{fields_of, site_stands, own_at, work_stands, event_stands, code_length}
 use Rattle.thread_runs.proofs.OutsideSteps.{calm_projection, stale_is, made_displaced, made_second}
-use Rattle.thread_runs.proofs.ThreadEventSteps.{at_point, inside, inside_low, good_at, made_event}
+use Rattle.thread_runs.proofs.ThreadEventSteps.{at_event, inside, stale_stays, inside_low, good_at, made_event, made_cover}
 use Rattle.thread_runs.proofs.DisplacedSteps.{at_work, effect_told, made_effect, made_tail}
 use Rattle.thread_runs.proofs.WatchedSteps.{phase_outside}
 use Rattle.thread_runs.specs.Relation.{point_at, Outside}
-use Rattle.thread_runs.proofs.WatchedRelation.{Base, Related, base_of, Calm, Acts, Made}
+use Rattle.thread_runs.proofs.WatchedRelation.{Ground, Related, base_of, Calm, Acts, Made}
 
 -- what a range avoids, it avoids in a set that is no larger
 avoids_less : (p q : ℕ → Bool) (a n : ℕ) → ((x : ℕ) → p x ≡ false → q x ≡ false) → avoids p a n ≡ true → avoids q a n ≡ true
@@ -126,20 +129,19 @@ module _ (r : Threading) (A : AreEntries r.original r.listed) (S : IsThreadSound
   watches w one f to e st = record { one = one; there = e; fields = f; to = to; steps = st; after = refl }
 
   -- what a step that is made leaves to rest on
-  base_after : (m m' : Bytes) (w : Watch) (one : Watched) (f : Fields) (to : Machine) → ThreadStepsBy f (machine_of w.mem one.now) to → Base r S m w.stale w.mem one
+  base_after : (m m' : Bytes) (w : Watch) (one : Watched) (f : Fields) (to : Machine) → ThreadStepsBy f (machine_of w.mem one.now) to → Ground r S m w.stale w.mem one
       → Made r S (stale_after r w.stale one f (machine_of w.mem one.now)) m m' one w.mem to → is_start r.listed (projection r one w.mem to).rip ≡ true
-      → Base r S m' (after_watch w one f to).stale to.mem (after_thread w one f to)
+      → Ground r S m' (after_watch w one f to).stale to.mem (after_thread w one f to)
   base_after m m' w one f to st B M start = record {
     alike = M.alike;
     own = M.own;
     other = keeps_code r.patched f (machine_of w.mem one.now) to st B.other;
-    room = λ s c i. keeps_room (counter_at r.private s.number) f (machine_of w.mem one.now) to st (B.room s c i);
-    numbers = λ s c i. (_, (M.counted s c i).number);
+    room = λ s c b i. keeps_room (mark_at b r.private s.number) (mark_len b) f (machine_of w.mem one.now) to st (B.room s c b i);
     kept = record { processor = M.processor; words = M.words; start = start; phase = M.phase };
   }
 
   -- outside already
-  there_already : (m : Bytes) (w : Watch) (one : Watched) → slice_get w.threads k ≡ Some one → Base r S m w.stale w.mem one → is_start r.listed one.now.rip ≡ true → GoesOut r k w w.log one.projected m 0
+  there_already : (m : Bytes) (w : Watch) (one : Watched) → slice_get w.threads k ≡ Some one → Ground r S m w.stale w.mem one → is_start r.listed one.now.rip ≡ true → GoesOut r k w w.log one.projected m 0
   there_already m w one e B h =
       let same : one.now ≡ one.projected = phase_outside r A S L w.mem one.now one.projected B.other B.kept.phase h in
       record {
@@ -166,9 +168,9 @@ module _ (r : Threading) (A : AreEntries r.original r.listed) (S : IsThreadSound
         (effect_never r A S L.long one.now.rip b o, calm_projection r one m to b o)
 
     -- one step after the effect step, and then the rest
-    tail_on : (n : ℕ) (m : Bytes) (w : Watch) (one : Watched) (t : Tail) → 0 < left t → left t ≤ suc n → slice_get w.threads k ≡ Some one → Base r S m w.stale w.mem one
+    tail_on : (n : ℕ) (m : Bytes) (w : Watch) (one : Watched) (t : Tail) → 0 < left t → left t ≤ suc n → slice_get w.threads k ≡ Some one → Ground r S m w.stale w.mem one
         → InTail (fields_of r A S site listed) (next_of site) (work_at site) t one.projected.core one.projected.rip (machine_of w.mem one.now) → one.now.world ≡ one.projected.world
-        → ((v : Watch) (one' : Watched) (t' : Tail) → left t' ≤ n → slice_get v.threads k ≡ Some one' → Base r S m v.stale v.mem one'
+        → ((v : Watch) (one' : Watched) (t' : Tail) → left t' ≤ n → slice_get v.threads k ≡ Some one' → Ground r S m v.stale v.mem one'
         → InTail (fields_of r A S site listed) (next_of site) (work_at site) t' one'.projected.core one'.projected.rip (machine_of v.mem one'.now) → one'.now.world ≡ one'.projected.world → GoesOut r k v v.log one'.projected m n)
         → GoesOut r k w w.log one.projected m (suc n)
     tail_on n m w one t more l e B h world go =
@@ -194,7 +196,7 @@ module _ (r : Threading) (A : AreEntries r.original r.listed) (S : IsThreadSound
         (go (after_watch w one f to) (after_thread w one f to) next.tail (omega (arith, next.fewer, l)) (set_here w.threads k one (after_thread w one f to) e) B' there w')))
 
     -- after the effect step
-    tail_out : (n : ℕ) (m : Bytes) (w : Watch) (one : Watched) (t : Tail) → left t ≤ n → slice_get w.threads k ≡ Some one → Base r S m w.stale w.mem one
+    tail_out : (n : ℕ) (m : Bytes) (w : Watch) (one : Watched) (t : Tail) → left t ≤ n → slice_get w.threads k ≡ Some one → Ground r S m w.stale w.mem one
         → InTail (fields_of r A S site listed) (next_of site) (work_at site) t one.projected.core one.projected.rip (machine_of w.mem one.now) → one.now.world ≡ one.projected.world
         → GoesOut r k w w.log one.projected m n
     tail_out n m w one Out l e B h world = wider w w.log one.projected m 0 n (omega arith) (there_already m w one e B (ap (is_start r.listed) h.1 ∙ B.kept.start))
@@ -207,23 +209,40 @@ module _ (r : Threading) (A : AreEntries r.original r.listed) (S : IsThreadSound
 
     module _ (M : Bytes) (w0 : Watch) (one0 : Watched) (to0 : Machine) (st0 : ThreadStep (machine_of M one0.now) to0) (same0 : one0.now ≡ one0.projected)
         (quiet : IsQuietAt r (machine_of M one0.now)) (ends : is_start r.listed to0.rip ≡ true)
-        (read : lacking 4 w0.mem (slot one0.now.core) 8 ≡ None) (written : lacking 2 w0.mem (slot one0.now.core) 8 ≡ None) (old0 : avoids (is_new r) (slot one0.now.core) 8 ≡ true)
-        (unread : reads_nothing_of (is_saved one0.now.core) (fields_of r A S site listed) (machine_of M one0.now) ≡ true)
+        (read : is_saving site.event ≡ true → lacking 4 w0.mem (slot one0.now.core) 8 ≡ None) (written : is_saving site.event ≡ true → lacking 2 w0.mem (slot one0.now.core) 8 ≡ None)
+        (old0 : is_saving site.event ≡ true → avoids (is_new r) (slot one0.now.core) 8 ≡ true)
+        (unread : is_saving site.event ≡ true → reads_nothing_of (is_saved one0.now.core) (fields_of r A S site listed) (machine_of M one0.now) ≡ true)
         (fresh : reads_nothing_of w0.stale (fields_of r A S site listed) (machine_of M one0.now) ≡ true) where
+      -- the bytes in which the site's event saves rax
+      abbrev held : ℕ → Bool
+      held x = is_saving site.event && is_saved one0.now.core x
+
+      -- the instruction reads none of them
+      unheld : reads_nothing_of held (fields_of r A S site listed) (machine_of M one0.now) ≡ true
+      unheld = by_test (is_saving site.event) refl
+        where
+          s0 : Machine
+          s0 = machine_of M one0.now
+
+          by_test : (b : Bool) → is_saving site.event ≡ b → reads_nothing_of held (fields_of r A S site listed) (machine_of M one0.now) ≡ true
+          by_test true e = subst (λ (b : Bool). reads_nothing_of (λ x. b && is_saved one0.now.core x) (fields_of r A S site listed) (machine_of M one0.now) ≡ true) (sym e) (unread e)
+          by_test false e = subst (λ (b : Bool). reads_nothing_of (λ x. b && is_saved one0.now.core x) (fields_of r A S site listed) (machine_of M one0.now) ≡ true) (sym e)
+              (insn_both w0.stale w0.stale (λ x. false) (thread_task (fields_of r A S site listed) (next_after s0.rip (fields_of r A S site listed))).insn (next_after s0.rip (fields_of r A S site listed)) s0.core (λ x a b. refl) fresh fresh)
+
       -- the thread at a point of the event, and the watch there
       record At (p : Point) (w : Watch) (one : Watched) : Type 0 where
         there : slice_get w.threads k ≡ Some one
-        base : Base r S M w.stale w.mem one
+        base : Ground r S M w.stale w.mem one
         log : w.log ≡ w0.log
         perms : (x : ℕ) → perms_at w.mem x ≡ perms_at w0.mem x
-        staler : (x : ℕ) → w0.stale x ≡ false → is_saved one0.now.core x ≡ false → w.stale x ≡ false
+        staler : (x : ℕ) → w0.stale x ≡ false → held x ≡ false → w.stale x ≡ false
         projected : one.projected ≡ one0.now
         here : one.now.rip ≡ point_at site p
         at : one.projected.rip ≡ site.entry.addr
         core : Holds p one.projected.core one.now.core
         world : one.now.world ≡ one.projected.world
         saved : HasSaved p one.projected.core w.mem
-        old : avoids (is_new r) (slot one.projected.core) 8 ≡ true
+        old : is_saving site.event ≡ true → avoids (is_new r) (slot one.projected.core) 8 ≡ true
 
       abbrev log1 : List EffectStep
       log1 = w0.log ++ record { thread = k; at = one0.now.rip } ∷ []
@@ -251,7 +270,7 @@ module _ (r : Threading) (A : AreEntries r.original r.listed) (S : IsThreadSound
                 (sym P.projected) quiet.leaves;
           } in
           let reads : reads_nothing_of w.stale F s ≡ true = subst (λ (z : Machine). reads_nothing_of w.stale F z ≡ true) (sym e)
-          (insn_both w0.stale (is_saved one0.now.core) w.stale (thread_task F (next_after s0.rip F)).insn (next_after s0.rip F) s0.core P.staler fresh unread) in
+          (insn_both w0.stale held w.stale (thread_task F (next_after s0.rip F)).insn (next_after s0.rip F) s0.core P.staler fresh unheld) in
           let work = at_work r A S L site listed M w one P.base P.here P.at P.core P.world reads q in
           let st1 : ThreadStep s to0 = subst (λ (z : Machine). ThreadStep z to0) (sym e) st0 in
           let at_s : IsAt s F = work.here in
@@ -288,30 +307,31 @@ module _ (r : Threading) (A : AreEntries r.original r.listed) (S : IsThreadSound
       same_slot : (w : Watch) (one : Watched) (p : Point) → At p w one → slot one.now.core ≡ slot one0.now.core
       same_slot w one p P = L.slots p one.projected.core one.now.core P.base.kept.processor P.core ∙ ap (λ (t : Thread). slot t.core) P.projected
 
-      -- one step of the event, and then the rest
-      event_out : site.event ≡ true → (n : ℕ) (p : Point) → is_inside p ≡ true → ((v : Watch) (one' : Watched) → At (following p) v one' → GoesOut r k v log1 (thread_of to0) to0.mem n)
+      -- one step of an event that counts, and then the rest
+      event_out : site.event ≡ Some Count → (n : ℕ) (p : Point) → is_inside p ≡ true → ((v : Watch) (one' : Watched) → At (following p) v one' → GoesOut r k v log1 (thread_of to0) to0.mem n)
           → (w : Watch) (one : Watched) → At p w one → GoesOut r k w log1 (thread_of to0) to0.mem (suc n)
       event_out counts n p i rest w one P =
           let u : Machine = machine_of w.mem one.now in
           let K = S.sites site listed in
           let more = longer r A S L.long site listed in
-          let low = S.low site listed counts in
+          let low = S.low site listed Count counts in
           let c = one.projected.core in
           let rip : one.now.rip ≡ site.place + offset p = P.here ∙ point_inside site p i in
+          let len = counted_len site counts in
           let E : InEvent r.private site.number site.place p c u = record {
             processor = P.base.kept.processor;
             core = P.core;
             saved = P.saved;
             rip = rip;
-            stands = event_stands r A S site listed counts w.mem P.base.other;
-            low = omega (arith, K.low, more, counted_len site counts);
+            stands = event_stands r A S site listed Count counts w.mem P.base.other;
+            low = omega (arith, K.low, more, len);
             room = omega (arith, low);
           } in
-          let room = P.base.room site listed counts in
+          let room = P.base.room site listed Count counts in
           let where' : slot c ≡ slot one0.now.core = ap (λ (t : Thread). slot t.core) P.projected in
           let C : CanCount r.private site.number c w.mem = record {
-            slot_read = lacking_on 4 w0.mem w.mem (slot c) 8 P.perms ∙ ap (λ z. lacking 4 w0.mem z 8) where' ∙ read;
-            slot_written = lacking_on 2 w0.mem w.mem (slot c) 8 P.perms ∙ ap (λ z. lacking 2 w0.mem z 8) where' ∙ written;
+            slot_read = lacking_on 4 w0.mem w.mem (slot c) 8 P.perms ∙ ap (λ z. lacking 4 w0.mem z 8) where' ∙ read saving;
+            slot_written = lacking_on 2 w0.mem w.mem (slot c) 8 P.perms ∙ ap (λ z. lacking 2 w0.mem z 8) where' ∙ written saving;
             counter_read = room.read;
             counter_written = room.written;
           } in
@@ -320,14 +340,16 @@ module _ (r : Threading) (A : AreEntries r.original r.listed) (S : IsThreadSound
           let f = G.1.0 in
           let st : ThreadStepsBy f u to = G.1.1 in
           let N = G.2 in
-          let l = inside_low r A S L M w one f to st P.base (λ e. free w one p P) site listed counts p i in
-          let good = good_at r A S L M w one f to st P.base (λ e. free w one p P) site listed counts p i E P.at P.world P.saved (λ e. P.old) N in
-          let made = made_event r A S L M w one f to st P.base (λ e. free w one p P) site listed counts p i rip P.at P.core P.world P.saved (λ e. P.old) in
-          let q = calm_in one w.mem to (at_point r A S L M w one f to st P.base (λ e. free w one p P) site listed counts p rip (omega (arith, l))) (λ e. omega (arith, e, rip, l, counted_len site counts)) in
+          let l = inside_low r A S L M w one f to st P.base site listed (λ e. free w one p P) counts p i in
+          let from : site.place ≤ one.now.rip = omega (arith, rip) in
+          let below : one.now.rip < work_at site = omega (arith, rip, l, len) in
+          let good = good_at r A S L M w one f to st P.base site listed (λ e. free w one p P) counts p i E P.saved (λ e. P.old saving) N in
+          let made = made_event r A S L M w one f to st P.base site listed (λ e. free w one p P) counts p i rip P.at P.core P.world P.saved (λ e. P.old saving) in
+          let q = calm_in one w.mem to (at_event r A S L M w one f to st P.base site listed from below) (λ e. omega (arith, e, below)) in
           let start = ap (λ (t : Thread). is_start r.listed t.rip) q.1 ∙ P.base.kept.start in
           let B' = base_after M M w one f to st P.base made start in
           let log : (after_watch w one f to).log ≡ w0.log = cond-false (is_effect r one.now.rip) _ _ q.0 ∙ P.log in
-          let inside' : in_event r one.now.rip ≡ true = inside r A S L M w one f to st P.base (λ e. free w one p P) site listed counts p rip l in
+          let inside' : in_event r one.now.rip ≡ true = inside r A S L M w one f to st P.base site listed from below in
           let s = sym q.1 in
           one_more r k w (after_watch w one f to) log1 (thread_of to0) to0.mem n (watches w one f to P.there st)
           (rest (after_watch w one f to) (after_thread w one f to) (record {
@@ -335,42 +357,89 @@ module _ (r : Threading) (A : AreEntries r.original r.listed) (S : IsThreadSound
             base = B';
             log = log;
             perms = λ x. keeps_perms f u to st x ∙ P.perms x;
-            staler = λ x a b. stale_in w one f u x (saves r one.now.rip) refl inside' (P.staler x a b) (ap (λ z. is_one_of z 8 x) (same_slot w one p P) ∙ b);
+            staler = λ x a b. stale_in w one f u x (saves r one.now.rip) refl inside' (P.staler x a b)
+                (ap (λ z. is_one_of z 8 x) (same_slot w one p P) ∙ (sym (ap (λ z. z && is_saved one0.now.core x) saving) ∙ b));
             projected = q.1 ∙ P.projected;
             here = N.rip ∙ sym (point_counted site (following p) counts);
             at = ap (λ (t : Thread). t.rip) q.1 ∙ P.at;
             core = subst (λ (t : Thread). Holds (following p) t.core to.core) s N.core;
             world = N.world ∙ P.world ∙ ap (λ (t : Thread). t.world) s;
             saved = subst (λ (t : Thread). HasSaved (following p) t.core to.mem) s good.saved;
-            old = subst (λ (t : Thread). avoids (is_new r) (slot t.core) 8 ≡ true) s P.old;
+            old = λ e. subst (λ (t : Thread). avoids (is_new r) (slot t.core) 8 ≡ true) s (P.old e);
           }))
         where
+          saving : is_saving site.event ≡ true
+          saving = ap is_saving counts
+
           free : (w : Watch) (one : Watched) (p : Point) → At p w one → avoids (is_new r) (slot one.now.core) 8 ≡ true
-          free w one p P = subst (λ z. avoids (is_new r) z 8 ≡ true) (sym (L.slots p one.projected.core one.now.core P.base.kept.processor P.core)) P.old
+          free w one p P = subst (λ z. avoids (is_new r) z 8 ≡ true) (sym (L.slots p one.projected.core one.now.core P.base.kept.processor P.core)) (P.old saving)
 
           stale_in : (w : Watch) (one : Watched) (f : Fields) (u : Machine) (x : ℕ) (b : Bool) → saves r one.now.rip ≡ b → in_event r one.now.rip ≡ true → w.stale x ≡ false → is_saved one.now.core x ≡ false
               → stale_after r w.stale one f u x ≡ false
           stale_in w one f u x true e g h j = cond-true (saves r one.now.rip) _ _ e ∙ or_from (w.stale x) (is_saved one.now.core x) h j
           stale_in w one f u x false e g h j = cond-false (saves r one.now.rip) _ _ e ∙ cond-true (in_event r one.now.rip) _ _ g ∙ h
 
-      -- the whole event
-      event_whole : site.event ≡ true → (w : Watch) (one : Watched) → At At0 w one → GoesOut r k w log1 (thread_of to0) to0.mem 10
+      -- a whole event that counts
+      event_whole : site.event ≡ Some Count → (w : Watch) (one : Watched) → At At0 w one → GoesOut r k w log1 (thread_of to0) to0.mem 10
       event_whole c =
           event_out c 9 At0 refl (event_out c 8 At1 refl (event_out c 7 At2 refl (event_out c 6 At3 refl (event_out c 5 At4 refl (event_out c 4 At5 refl (event_out c 3 At6 refl effect_out))))))
+
+      -- an event that covers, and then the effect step
+      cover_out : site.event ≡ Some Cover → (w : Watch) (one : Watched) → At At0 w one → GoesOut r k w log1 (thread_of to0) to0.mem 4
+      cover_out covers w one P =
+          let u : Machine = machine_of w.mem one.now in
+          let K = S.sites site listed in
+          let more = longer r A S L.long site listed in
+          let low = S.low site listed Cover covers in
+          let len : event_len site.event ≡ 8 = ap event_len covers in
+          let none : part_to Save site.event ≡ 0 = ap (part_to Save) covers in
+          let here : one.now.rip ≡ site.place = P.here ∙ (let z : site.place + 0 ≡ site.place = omega arith in z) in
+          let E : AtStore r.private site.number site.place u = record {
+            rip = here;
+            stands = event_stands r A S site listed Cover covers w.mem P.base.other;
+            low = omega (arith, K.low, more, len);
+            room = low;
+          } in
+          let G = L.covers r.private site.number site.place u E (P.base.room site listed Cover covers).written in
+          let to : Machine = covered r.private site.number site.place u in
+          let f = G.0 in
+          let st : ThreadStepsBy f u to = G.1 in
+          let from : site.place ≤ one.now.rip = omega (arith, here) in
+          let below : one.now.rip < work_at site = omega (arith, here, len) in
+          let made = made_cover r A S L M w one f to st P.base site listed covers here P.at P.core P.world in
+          let q = calm_in one w.mem to (at_event r A S L M w one f to st P.base site listed from below) (λ e. omega (arith, e, below)) in
+          let start = ap (λ (t : Thread). is_start r.listed t.rip) q.1 ∙ P.base.kept.start in
+          let B' = base_after M M w one f to st P.base made start in
+          let s = sym q.1 in
+          one_more r k w (after_watch w one f to) log1 (thread_of to0) to0.mem 3 (watches w one f to P.there st)
+          (effect_out (after_watch w one f to) (after_thread w one f to) (record {
+            there = set_here w.threads k one (after_thread w one f to) P.there;
+            base = B';
+            log = cond-false (is_effect r one.now.rip) _ _ q.0 ∙ P.log;
+            perms = λ x. keeps_perms f u to st x ∙ P.perms x;
+            staler = λ x a b. stale_stays r A S L M w one f to st P.base site listed from below (omega (arith, here, none)) x ∙ P.staler x a b;
+            projected = q.1 ∙ P.projected;
+            here = ap (λ z. site.place + z) (sym len);
+            at = ap (λ (t : Thread). t.rip) q.1 ∙ P.at;
+            core = P.core ∙ ap (λ (t : Thread). t.core) s;
+            world = P.world ∙ ap (λ (t : Thread). t.world) s;
+            saved = tt;
+            old = λ e. absurd (true≢false (sym e ∙ ap is_saving covers));
+          }))
 
       -- the thread before the trampoline, at an address, with the registers and flags of its projection
       record Near (x : ℕ) (w : Watch) (one : Watched) : Type 0 where
         there : slice_get w.threads k ≡ Some one
-        base : Base r S M w.stale w.mem one
+        base : Ground r S M w.stale w.mem one
         log : w.log ≡ w0.log
         perms : (x : ℕ) → perms_at w.mem x ≡ perms_at w0.mem x
-        staler : (x : ℕ) → w0.stale x ≡ false → is_saved one0.now.core x ≡ false → w.stale x ≡ false
+        staler : (x : ℕ) → w0.stale x ≡ false → held x ≡ false → w.stale x ≡ false
         projected : one.projected ≡ one0.now
         here : one.now.rip ≡ x
         at : one.projected.rip ≡ site.entry.addr
         core : one.now.core ≡ one.projected.core
         world : one.now.world ≡ one.projected.world
-        old : avoids (is_new r) (slot one.projected.core) 8 ≡ true
+        old : is_saving site.event ≡ true → avoids (is_new r) (slot one.projected.core) 8 ≡ true
 
       -- before the trampoline the thread is at a point of it, where the point's address is the thread's
       entered : (p : Point) (w : Watch) (one : Watched) (x : ℕ) → Near x w one → x ≡ point_at site p → Holds p one.projected.core one.now.core → HasSaved p one.projected.core w.mem → At p w one
@@ -393,9 +462,10 @@ module _ (r : Threading) (A : AreEntries r.original r.listed) (S : IsThreadSound
       come_out : (w : Watch) (one : Watched) → Near site.place w one → GoesOut r k w log1 (thread_of to0) to0.mem 10
       come_out w one P = by_event site.event refl
         where
-          by_event : (b : Bool) → site.event ≡ b → GoesOut r k w log1 (thread_of to0) to0.mem 10
-          by_event true e = event_whole e w one (entered At0 w one site.place P (omega arith) P.core tt)
-          by_event false e = wider w _ _ _ 3 10 (omega arith) (effect_out w one (entered At7 w one site.place P (omega (arith, plain_len site e)) P.core tt))
+          by_event : (o : Option Base) → site.event ≡ o → GoesOut r k w log1 (thread_of to0) to0.mem 10
+          by_event (Some Count) e = event_whole e w one (entered At0 w one site.place P (omega arith) P.core tt)
+          by_event (Some Cover) e = wider w _ _ _ 4 10 (omega arith) (cover_out e w one (entered At0 w one site.place P (omega arith) P.core tt))
+          by_event None e = wider w _ _ _ 3 10 (omega arith) (effect_out w one (entered At7 w one site.place P (omega (arith, plain_len site e)) P.core tt))
 
       -- one direct jump outside the trampolines, and then the rest
       jump_out : (n x target : ℕ) → JumpsTo r.patched x target → is_new r x ≡ false → is_kept r x ≡ false → (w : Watch) (one : Watched) → Near x w one
@@ -435,11 +505,11 @@ module _ (r : Threading) (A : AreEntries r.original r.listed) (S : IsThreadSound
             at = ap (λ (t : Thread). t.rip) q ∙ P.at;
             core = P.core ∙ ap (λ (t : Thread). t.core) s;
             world = P.world ∙ ap (λ (t : Thread). t.world) s;
-            old = subst (λ (t : Thread). avoids (is_new r) (slot t.core) 8 ≡ true) s P.old;
+            old = λ e. subst (λ (t : Thread). avoids (is_new r) (slot t.core) 8 ≡ true) s (P.old e);
           }))
 
       -- from the displaced start, by one jump or by two
-      displaced_out : slice_get w0.threads k ≡ Some one0 → Base r S M w0.stale w0.mem one0 → is_start r.listed one0.now.rip ≡ true → site.entry.addr ≡ one0.now.rip → is_site r one0.now.rip ≡ true
+      displaced_out : slice_get w0.threads k ≡ Some one0 → Ground r S M w0.stale w0.mem one0 → is_start r.listed one0.now.rip ≡ true → site.entry.addr ≡ one0.now.rip → is_site r one0.now.rip ≡ true
           → GoesOut r k w0 log1 (thread_of to0) to0.mem 12
       displaced_out e B start here is = by_jump (S.sites site listed).jump
         where
@@ -461,7 +531,7 @@ module _ (r : Threading) (A : AreEntries r.original r.listed) (S : IsThreadSound
             at = ap (λ (t : Thread). t.rip) (sym same0) ∙ sym here;
             core = ap (λ (t : Thread). t.core) same0;
             world = ap (λ (t : Thread). t.world) same0;
-            old = subst (λ (t : Thread). avoids (is_new r) (slot t.core) 8 ≡ true) same0 old0;
+            old = λ e. subst (λ (t : Thread). avoids (is_new r) (slot t.core) 8 ≡ true) same0 (old0 e);
           }
 
           first : (f : Fields) (to : Machine) → ThreadStepsBy f (machine_of w0.mem one0.now) to → Made r S (stale_after r w0.stale one0 f (machine_of w0.mem one0.now)) M M one0 w0.mem to
@@ -476,7 +546,7 @@ module _ (r : Threading) (A : AreEntries r.original r.listed) (S : IsThreadSound
 
   -- at a kept start
   kept_out : (M : Bytes) (w : Watch) (one : Watched) (f : Fields) (to0 : Machine) → ThreadStepsBy f (machine_of M one.now) to0 → one.now ≡ one.projected → IsQuietAt r (machine_of M one.now)
-      → is_start r.listed to0.rip ≡ true → reads_nothing_of w.stale f (machine_of M one.now) ≡ true → slice_get w.threads k ≡ Some one → Base r S M w.stale w.mem one → is_kept r one.now.rip ≡ true
+      → is_start r.listed to0.rip ≡ true → reads_nothing_of w.stale f (machine_of M one.now) ≡ true → slice_get w.threads k ≡ Some one → Ground r S M w.stale w.mem one → is_kept r one.now.rip ≡ true
       → GoesOut r k w (w.log ++ record { thread = k; at = one.now.rip } ∷ []) (thread_of to0) to0.mem 1
   kept_out M w one f to0 st0 same quiet ends fresh e B kept =
       let s : Machine = machine_of M one.now in
@@ -509,7 +579,7 @@ module _ (r : Threading) (A : AreEntries r.original r.listed) (S : IsThreadSound
   pub gets_out : (a : Guest) (made : List GuestItem) (w : Watch) (one : Watched) (R : Related r S a made w) → slice_get w.threads k ≡ Some one → (C : CanGo r w one R.end) → GetsOut r k w one C.to
   gets_out a made w one R e C = done (by_start (is_site r one.now.rip) refl)
     where
-      B : Base r S R.end.mem w.stale w.mem one
+      B : Ground r S R.end.mem w.stale w.mem one
       B = base_of r S a made w R k one e
 
       same : one.now ≡ one.projected
@@ -529,8 +599,11 @@ module _ (r : Threading) (A : AreEntries r.original r.listed) (S : IsThreadSound
                 (fixed_stands R.end.mem q.0.entry.addr (spelling F) (fixed_on r.original R.end.mem q.0.entry.addr (spelling F) R.own (site_stands r A S q.0 q.1)));
           } in
           let g : C.fields ≡ F = one_instruction m C.fields F C.steps.at at_s in
-          displaced_out q.0 q.1 R.end.mem w one C.to (C.fields, C.steps) same C.quiet C.ends C.read C.written C.old
-          (subst (λ (z : Fields). reads_nothing_of (is_saved one.now.core) z m ≡ true) g C.unread) (subst (λ (z : Fields). reads_nothing_of w.stale z m ≡ true) g C.fresh) e B C.stands q.2 is
+          let i = place_of r.sites q.0 q.1 in
+          let there : is_saving q.0.event ≡ true → saves_at r one.now.rip ≡ true = λ h.
+          any_at (λ (s : ThreadSite). eqb s.entry.addr one.now.rip && is_saving s.event) r.sites i.0 q.0 i.1 (and_from (eqb q.0.entry.addr one.now.rip) (is_saving q.0.event) (eq-eqb q.0.entry.addr one.now.rip q.2) h) in
+          displaced_out q.0 q.1 R.end.mem w one C.to (C.fields, C.steps) same C.quiet C.ends (λ h. C.read (there h)) (λ h. C.written (there h)) (λ h. C.old (there h))
+          (λ h. subst (λ (z : Fields). reads_nothing_of (is_saved one.now.core) z m ≡ true) g (C.unread (there h))) (subst (λ (z : Fields). reads_nothing_of w.stale z m ≡ true) g C.fresh) e B C.stands q.2 is
 
       by_start : (b : Bool) → is_site r one.now.rip ≡ b → GoesOut r k w (w.log ++ record { thread = k; at = one.now.rip } ∷ []) (thread_of C.to) C.to.mem 12
       by_start true is = displaced is (site_of r A S L.long one.now.rip is)

@@ -1,5 +1,6 @@
--- The event of a thread that runs alone: what it needs, and what it leaves. Theorems cite it.
+-- The event that counts, of a thread that runs alone: what it needs, and what it leaves. Theorems cite it.
 use Rattle.std.specs.Prelude.{◌≡◌, ℕ, ◌+◌, ◌%◌, ◌^◌, ◌<◌, ◌≤◌, true, false, List, length}
+use Rattle.pun_base.specs.declared.action.Base.TheVariants.{Count}
 use Rattle.cpu_state.specs.Bytes.{number_at}
 use Rattle.cpu_state.specs.Fixed.{IsFixed}
 use Rattle.cpu_state.specs.Processor.{IsProcessorCore}
@@ -10,11 +11,11 @@ use Rattle.thread_runs.specs.ThreadCode.{counter_at, thread_event}
 use Rattle.thread_runs.specs.Event.{CanCount}
 use Rattle.thread_runs.specs.Threading.{is_one_of, is_saved}
 
--- a thread stands at the event of site i; the eight bytes in which rax is saved and those of the counter can be read and written, and lie apart
+-- a thread stands at the event of site i, which counts; the eight bytes in which rax is saved and those of the counter can be read and written, and lie apart
 pub record CanCountAlone (p i place : ℕ) (s : Machine) : Type 0 where
   pub processor : IsProcessorCore s.core
   pub rip : s.rip ≡ place
-  pub stands : IsFixed s.mem place (thread_event p i)
+  pub stands : IsFixed s.mem place (thread_event Count p i)
   pub low : place + 32 < 2 ^ 31
   pub room : counter_at p i + 8 ≤ 0x7FFF0000
   pub can : CanCount p i s.core s.mem
@@ -31,6 +32,6 @@ pub record HasCountedAlone (p i place : ℕ) (s : Machine) (us : List Machine) :
   pub counter : number_at (last_of s us).mem (counter_at p i) 8 ≡ (number_at s.mem (counter_at p i) 8 + 1) % 2 ^ 64
   pub kept : (x : ℕ) → is_saved s.core x ≡ false → is_one_of (counter_at p i) 8 x ≡ false → (last_of s us).mem x ≡ s.mem x
 
--- Each event whose bytes can be read and written counts when its thread runs alone.
+-- Each event that counts, whose bytes can be read and written, adds one when its thread runs alone.
 abbrev pub EventCountsAlone : Type 0
 EventCountsAlone = (p i place : ℕ) (s : Machine) → CanCountAlone p i place s → (us : List Machine) × HasCountedAlone p i place s us

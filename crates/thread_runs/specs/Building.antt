@@ -1,5 +1,6 @@
 -- The trampoline of an instruction for threads, as it is built. Theorems cite it.
 use Rattle.std.specs.Prelude.{ℕ, ◌+◌, Bool, ◌==◌, if◌then◌else◌, List, ◌++◌, length, Option, Some, None, option_map}
+use Rattle.pun_base.specs.declared.action.Base.{Base}
 use Rattle.insn_form.specs.declared.form.Spot.{Spot}
 use Rattle.insn_form.specs.declared.form.Spot.TheVariants.{Reg, High, Mem}
 use Rattle.insn_form.specs.declared.form.Target.{Target}
@@ -59,7 +60,7 @@ work_by None work falls to next = work ++ back_if falls (to + length work) next
 work_by (Some r) work falls to next = call_reg_code r next
 
 -- how many bytes the trampoline of an instruction has, with an event or without
-abbrev pub size_if : Bool → Insn → ℕ → ℕ → Option ℕ
+abbrev pub size_if : Option Base → Insn → ℕ → ℕ → Option ℕ
 size_if event i len addr = option_map (λ n. event_len event + n + (if falls i then 5 else 0)) (thread_len i len addr)
 
 -- how many bytes the trampoline of a site that counts has

@@ -1,6 +1,8 @@
--- The event of guest threads, instruction by instruction. Theorems cite it.
-use Rattle.std.specs.Prelude.{◌≡◌, ℕ, ◌+◌, ◌/◌, ◌%◌, ◌^◌, ◌<◌, ◌≤◌, Bool, true, false, None}
+-- The events of guest threads, instruction by instruction: seven that count, or one that covers. Theorems cite it.
+use Rattle.std.specs.Prelude.{◌≡◌, ℕ, ◌+◌, ◌/◌, ◌%◌, ◌^◌, ◌<◌, ◌≤◌, Bool, true, false, [], ◌∷◌, Option, Some, None}
 use Rattle.pun_base.specs.Memory.{Bytes}
+use Rattle.pun_base.specs.declared.action.Base.{Base}
+use Rattle.pun_base.specs.declared.action.Base.TheVariants.{Cover, Count}
 use Rattle.cpu_alu.specs.declared.flag_word.Flags.{Flags}
 use Rattle.cpu_state.specs.declared.state.Core.{Core}
 use Rattle.cpu_state.specs.Bytes.{lacking, number_at, put_list, bytes_of}
@@ -12,10 +14,10 @@ use Rattle.insn_form.specs.FlagMoves.{low_flags}
 use Rattle.insn_form.specs.FlagsBack.{core_after, kept_in_ax}
 use Rattle.insn_form.specs.Machine.{Machine}
 use Rattle.thread_runs.specs.ThreadSteps.{ThreadStep}
-use Rattle.thread_runs.specs.ThreadCode.{counter_at, thread_event, slot}
+use Rattle.thread_runs.specs.ThreadCode.{counter_at, mark_at, thread_event, slot}
 
--- how many of an event's seven instructions a thread has made; after all of them it stands at the
--- relocated code
+-- how many of the seven instructions of an event that counts a thread has made; after all of them it
+-- stands at the relocated code
 pub data Point : Type 0 where
   At0 : Point
   At1 : Point
@@ -52,6 +54,14 @@ following At7 = At7
 abbrev pub is_inside : Point → Bool
 is_inside At7 = false
 is_inside k = true
+
+-- a point that an event of this kind has before the relocated code: all of them where it counts, and
+-- where it covers the first one alone, at which the store is left
+abbrev pub has_point : Option Base → Point → Bool
+has_point (Some Count) k = is_inside k
+has_point (Some Cover) At0 = true
+has_point (Some Cover) k = false
+has_point None k = false
 
 -- between LOCK INC and ADD: the flags are those of the sum, but CF and the bits that no operation changes
 pub record IsCounting (c d : Core) : Type 0 where
@@ -91,13 +101,13 @@ HasSaved At0 c m = Unit {0}
 HasSaved At7 c m = Unit {0}
 HasSaved k c m = number_at m (slot c) 8 ≡ reg c rax
 
--- a thread that came with c into the event of site i, whose code stands at an address
+-- a thread that came with c into the event of site i, which counts and whose code stands at an address
 pub record InEvent (p i at : ℕ) (k : Point) (c : Core) (v : Machine) : Type 0 where
   pub processor : IsProcessorCore c
   pub core : Holds k c v.core
   pub saved : HasSaved k c v.mem
   pub rip : v.rip ≡ at + offset k
-  pub stands : IsFixed v.mem at (thread_event p i)
+  pub stands : IsFixed v.mem at (thread_event Count p i)
   pub low : at + 32 < 2 ^ 31
   pub room : counter_at p i + 8 ≤ 0x7FFF0000
 
@@ -133,3 +143,22 @@ EventGoes = (p i at : ℕ) (k : Point) (c : Core) (v : Machine) → is_inside k 
 -- Once rax is saved, the saved bytes hold it.
 abbrev pub IsSavedBack : Type 0
 IsSavedBack = (c : Core) (m : Bytes) → IsProcessorCore c → lacking 2 m (slot c) 8 ≡ None → number_at (put_list m (slot c) (bytes_of 8 (reg c rax))) (slot c) 8 ≡ reg c rax
+
+-- a thread at the event of site i, which covers and whose code stands at an address
+pub record AtStore (p i at : ℕ) (v : Machine) : Type 0 where
+  pub rip : v.rip ≡ at
+  pub stands : IsFixed v.mem at (thread_event Cover p i)
+  pub low : at + 8 < 2 ^ 31
+  pub room : mark_at Cover p i + 1 ≤ 0x7FFF0000
+
+-- v after the store: site i's byte is 1, and nothing else has changed
+abbrev pub covered : ℕ → ℕ → ℕ → Machine → Machine
+covered p i at v = record { core = v.core; rip = at + 8; mem = put_list v.mem (mark_at Cover p i) (1 ∷ []); world = v.world }
+
+-- The step that a thread makes at an event that covers is its store.
+abbrev pub IsCoverStep : Type 0
+IsCoverStep = (p i at : ℕ) (v w : Machine) → AtStore p i at v → ThreadStep v w → w ≡ covered p i at v
+
+-- Where the site's byte can be written, a thread has this step.
+abbrev pub CoverGoes : Type 0
+CoverGoes = (p i at : ℕ) (v : Machine) → AtStore p i at v → lacking 2 v.mem (mark_at Cover p i) 1 ≡ None → ThreadStep v (covered p i at v)

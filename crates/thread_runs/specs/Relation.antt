@@ -1,12 +1,13 @@
 -- Where a thread of the patched guest stands beside the original's that it counts as, and what else both guests keep. Theorems cite it.
-use Rattle.std.specs.Prelude.{◌≡◌, ◌⊎◌, ℕ, ◌+◌, ◌<◌, Bool, true, false, if◌then◌else◌, Contains, None}
+use Rattle.std.specs.Prelude.{◌≡◌, ◌⊎◌, ℕ, ◌+◌, ◌<◌, Bool, true, false, if◌then◌else◌, Contains, Some, None}
 use Rattle.pun_base.specs.Memory.{Bytes}
+use Rattle.pun_base.specs.declared.action.Base.{Base}
 use Rattle.cpu_state.specs.Bytes.{allows, avoids, lacking}
 use Rattle.cpu_state.specs.Processor.{IsProcessorCore, GiveWords}
 use Rattle.image_step.specs.Listed.{is_start}
 use Rattle.thread_runs.specs.Guest.{Thread, machine_of}
-use Rattle.thread_runs.specs.ThreadCode.{counter_at, slot}
-use Rattle.thread_runs.specs.Event.{Point, offset, is_inside, Holds, HasSaved}
+use Rattle.thread_runs.specs.ThreadCode.{mark_at, mark_len, slot}
+use Rattle.thread_runs.specs.Event.{Point, offset, is_inside, has_point, Holds, HasSaved}
 use Rattle.thread_runs.specs.Event.Point.{At0, At7}
 use Rattle.thread_runs.specs.Work.{Tail, left, InTail}
 use Rattle.thread_runs.specs.Threading.{ThreadSite, Threading, next_of, work_at, is_new, ByTwoJumps, IsThreadSite}
@@ -40,13 +41,13 @@ pub record AtSecond (r : Threading) (now projected : Thread) : Type 0 where
   pub world : now.world ≡ projected.world
 
 -- A thread inside an event, or where the relocated code begins, whose projection stands at the site.
--- The point says its registers and flags, by those of the projection. Where the site doesn't count it
--- is the last one.
+-- The point says its registers and flags, by those of the projection. Where the site has no event it
+-- is the last one, and where it covers the first or the last one.
 pub record AtEvent (r : Threading) (m : Bytes) (now projected : Thread) : Type 0 where
   pub site : ThreadSite
   pub listed : Contains r.sites site
   pub point : Point
-  pub counts : is_inside point ≡ true → site.event ≡ true
+  pub inside : is_inside point ≡ true → has_point site.event point ≡ true
   pub here : now.rip ≡ point_at site point
   pub there : projected.rip ≡ site.entry.addr
   pub core : Holds point projected.core now.core
@@ -77,7 +78,7 @@ pub record IsBeside (r : Threading) (m : Bytes) (one : Watched) : Type 0 where
 abbrev pub KeepsCode : Bytes → Bytes → Type 0
 KeepsCode image m = (x : ℕ) → allows 1 (image x) ≡ true → allows 2 (image x) ≡ false → m x ≡ image x
 
--- The counter of each site that counts can be read and written.
-abbrev pub KeepsCounters : Threading → Bytes → Type 0
-KeepsCounters r m = (s : ThreadSite) → Contains r.sites s → s.event ≡ true
-    → (lacking 4 m (counter_at r.private s.number) 8 ≡ None) × (lacking 2 m (counter_at r.private s.number) 8 ≡ None)
+-- What the event of each site marks, its counter or its byte, can be read and written.
+abbrev pub KeepsMarks : Threading → Bytes → Type 0
+KeepsMarks r m = (s : ThreadSite) → Contains r.sites s → (b : Base) → s.event ≡ Some b
+    → (lacking 4 m (mark_at b r.private s.number) (mark_len b) ≡ None) × (lacking 2 m (mark_at b r.private s.number) (mark_len b) ≡ None)

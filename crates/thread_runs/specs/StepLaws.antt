@@ -16,7 +16,7 @@ use Rattle.thread_runs.specs.ThreadSteps.{is_locked_inc, thread_task, ThreadStep
 use Rattle.insn_form.specs.Alike.{IsAlikeAct, IsAlikeStep}
 use Rattle.thread_runs.specs.ThreadCode.{thread_work, slot}
 use Rattle.trampoline.specs.Atomic.{thread_len}
-use Rattle.thread_runs.specs.Event.{Point, Holds, InEvent, IsEventStep, EventGoes, IsSavedBack}
+use Rattle.thread_runs.specs.Event.{Point, Holds, InEvent, IsEventStep, EventGoes, IsSavedBack, IsCoverStep, CoverGoes}
 use Rattle.thread_runs.specs.Event.Point.{At0}
 use Rattle.thread_runs.specs.Work.{Tail, left, is_syscall, InTail, IsWork, AtWork, Worked, IsEffectStep, IsTailStep}
 use Rattle.thread_runs.specs.Watching.{leads_to}
@@ -71,6 +71,8 @@ pub record StepLaws : Type 0 where
   pub alike : IsAlikeStep
   pub events : IsEventStep
   pub goes : EventGoes
+  pub cover : IsCoverStep
+  pub covers : CoverGoes
   pub saved : IsSavedBack
   pub held : SavesHeld
   pub slots : HoldsSlot

@@ -1,9 +1,10 @@
 -- Guest threads: what holds of each run of the patched guest that meets the premises. Theorems cite it.
-use Rattle.std.specs.Prelude.{◌≡◌, ◌⊎◌, ℕ, ◌+◌, ◌%◌, ◌^◌, ◌≤◌, true, false, List, [], ◌∷◌, ◌++◌, map, replicate, Some, None, Contains, slice_get, count_by, ◌==◌}
-use Rattle.std.specs.List.{AllByRecursion}
+use Rattle.std.specs.Prelude.{◌≡◌, ◌⊎◌, ℕ, ◌+◌, ◌%◌, ◌^◌, ◌≤◌, true, false, ◌||◌, if◌then◌else◌, List, [], ◌∷◌, ◌++◌, map, replicate, Some, None, Contains, slice_get, count_by, ◌==◌}
+use Rattle.std.specs.List.{AllByRecursion, list_any}
 use Rattle.pun_base.specs.Memory.{Bytes, joined}
+use Rattle.pun_base.specs.declared.action.Base.TheVariants.{Cover, Count}
 use Rattle.length_decode.specs.Spelling.{Fields}
-use Rattle.cpu_state.specs.Bytes.{number_at, lacking, avoids}
+use Rattle.cpu_state.specs.Bytes.{number_at, byte_of, lacking, avoids}
 use Rattle.insn_form.specs.Machine.{Machine}
 use Rattle.insn_form.specs.Processor.{IsProcessorState}
 use Rattle.insn_form.specs.Touched.{perms_at}
@@ -11,11 +12,11 @@ use Rattle.image_step.specs.Listed.{is_start}
 use Rattle.start_entries.specs.Standing.{AreEntries}
 use Rattle.thread_runs.specs.ThreadSteps.{ThreadStepsBy}
 use Rattle.thread_runs.specs.Guest.{Guest, machine_of, thread_of, IsInterleaved, last_guest}
-use Rattle.thread_runs.specs.ThreadCode.{slot, counter_at}
-use Rattle.thread_runs.specs.Threading.{Threading, ThreadSite, is_new, is_hidden, is_counted, is_saved, IsThreadSound}
+use Rattle.thread_runs.specs.ThreadCode.{slot, counter_at, mark_at}
+use Rattle.thread_runs.specs.Threading.{Threading, ThreadSite, is_new, is_hidden, is_counted, saves_at, is_saved, IsThreadSound}
 use Rattle.thread_runs.specs.Watching.{Watched, Watch, watch_of, Watches}
 use Rattle.thread_runs.specs.Premises.{IsProperRun, IsQuietAt, reads_nothing_of}
-use Rattle.thread_runs.specs.Relation.{IsBeside, KeepsCode, KeepsCounters}
+use Rattle.thread_runs.specs.Relation.{IsBeside, KeepsCode, KeepsMarks}
 
 -- Start guests: equal threads, each the state of a processor at the entry, so that each thread is a
 -- start pair, and beside each image the same further memory, which meets neither.
@@ -30,8 +31,8 @@ pub record AreStartGuests (r : Threading) (a b : Guest) : Type 0 where
 -- How a guest of the original lies beside a watched one: its threads are the projected ones, and
 -- memory is equal but for listed instructions, new bytes and stale bytes, and stale bytes have equal
 -- permissions, too. A thread at a listed start is its projection; any other one stands at the second of
--- two jumps, in an event, where relocated code begins, or after its effect step. Both codes and the
--- counters stay.
+-- two jumps, in an event, where relocated code begins, or after its effect step. Both codes, the
+-- counters and the bytes of sites that cover stay.
 pub record LiesBeside (r : Threading) (g : Guest) (w : Watch) : Type 0 where
   pub threads : g.threads ≡ map (λ t. t.projected) w.threads
   pub memory : (x : ℕ) → is_hidden r x ≡ false → w.stale x ≡ false → g.mem x ≡ w.mem x
@@ -40,7 +41,7 @@ pub record LiesBeside (r : Threading) (g : Guest) (w : Watch) : Type 0 where
   pub each : AllByRecursion (λ t. IsBeside r w.mem t) w.threads
   pub own : KeepsCode r.original g.mem
   pub other : KeepsCode r.patched w.mem
-  pub counters : KeepsCounters r w.mem
+  pub marks : KeepsMarks r w.mem
 
 -- The effect steps so far are an interleaved run of the original, in the same order, which ends in a
 -- guest that lies beside the watched one.
@@ -52,13 +53,19 @@ pub record IsGuestFollowed (r : Threading) (a : Guest) (w : Watch) : Type 0 wher
 -- The counter of each site that counts is the number of the site's effect steps and of the threads
 -- between its LOCK INC and its effect step, modulo 2^64.
 abbrev pub AreCounted : Threading → Watch → Type 0
-AreCounted r w = (s : ThreadSite) → Contains r.sites s → s.event ≡ true
+AreCounted r w = (s : ThreadSite) → Contains r.sites s → s.event ≡ Some Count
     → number_at w.mem (counter_at r.private s.number) 8 ≡ (count_by (λ e. e.at == s.entry.addr) w.log + count_by (λ t. is_counted s t.now.rip) w.threads) % 2 ^ 64
 
--- Each proper run from start guests is followed and counted, at each moment.
+-- The byte of each site that covers is 1 if some effect step of the site was made or some thread stands
+-- between its store and its effect step, and 0 otherwise.
+abbrev pub AreCovered : Threading → Watch → Type 0
+AreCovered r w = (s : ThreadSite) → Contains r.sites s → s.event ≡ Some Cover
+    → byte_of (w.mem (mark_at Cover r.private s.number)) ≡ (if list_any (λ e. e.at == s.entry.addr) w.log || list_any (λ t. is_counted s t.now.rip) w.threads then 1 else 0)
+
+-- Each proper run from start guests is followed, counted and covered, at each moment.
 abbrev pub AreFollowed : Threading → Type 0
 AreFollowed r = (a b : Guest) (schedule : List ℕ) (ws : List Watch) → AreStartGuests r a b → IsProperRun r schedule (watch_of b) ws
-    → AllByRecursion (λ w. IsGuestFollowed r a w × AreCounted r w) (watch_of b ∷ ws)
+    → AllByRecursion (λ w. IsGuestFollowed r a w × AreCounted r w × AreCovered r w) (watch_of b ∷ ws)
 
 -- Where a watched run ends.
 abbrev pub last_watch : Watch → List Watch → Watch
@@ -73,8 +80,8 @@ IsWatched r (k ∷ ks) w [] = ⊥
 IsWatched r (k ∷ ks) w (v ∷ vs) = Watches r k w v × IsWatched r ks v vs
 
 -- A thread that can go: it stands at a listed start, the original's thread has a step that is quiet
--- and leads to a listed start, the saved bytes can be read and written, aren't new, and aren't read
--- by the instruction, and neither is a stale byte.
+-- and leads to a listed start, and reads no stale byte. If it stands at a site whose event saves rax,
+-- the saved bytes can be read and written, aren't new, and aren't read by the instruction.
 pub record CanGo (r : Threading) (w : Watch) (one : Watched) (g : Guest) : Type 0 where
   pub stands : is_start r.listed one.now.rip ≡ true
   pub fields : Fields
@@ -82,10 +89,10 @@ pub record CanGo (r : Threading) (w : Watch) (one : Watched) (g : Guest) : Type 
   pub steps : ThreadStepsBy fields (machine_of g.mem one.now) to
   pub quiet : IsQuietAt r (machine_of g.mem one.now)
   pub ends : is_start r.listed to.rip ≡ true
-  pub read : lacking 4 w.mem (slot one.now.core) 8 ≡ None
-  pub written : lacking 2 w.mem (slot one.now.core) 8 ≡ None
-  pub old : avoids (is_new r) (slot one.now.core) 8 ≡ true
-  pub unread : reads_nothing_of (is_saved one.now.core) fields (machine_of g.mem one.now) ≡ true
+  pub read : saves_at r one.now.rip ≡ true → lacking 4 w.mem (slot one.now.core) 8 ≡ None
+  pub written : saves_at r one.now.rip ≡ true → lacking 2 w.mem (slot one.now.core) 8 ≡ None
+  pub old : saves_at r one.now.rip ≡ true → avoids (is_new r) (slot one.now.core) 8 ≡ true
+  pub unread : saves_at r one.now.rip ≡ true → reads_nothing_of (is_saved one.now.core) fields (machine_of g.mem one.now) ≡ true
   pub fresh : reads_nothing_of w.stale fields (machine_of g.mem one.now) ≡ true
 
 -- Scheduled alone from w, thread k makes one effect step and no other within 12 steps of its own,

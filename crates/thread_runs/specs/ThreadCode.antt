@@ -1,7 +1,9 @@
--- The code of a trampoline where threads share their memory: the event, the relocated code, and a jump back. Theorems cite it. The event
--- has 32 bytes, and the jump back stands where the relocated code falls through (Intel SDM, volume 2, MOV, LAHF, SETcc, INC, ADD, SAHF,
--- PUSH, JMP).
-use Rattle.std.specs.Prelude.{ℕ, Bool, true, false, ◌+◌, ◌*◌, ◌-◌, ◌%◌, ◌^◌, nat_lt, if◌then◌else◌, List, [], ◌∷◌, ◌++◌, length, replicate}
+-- The code of a trampoline where threads share their memory: the event, the relocated code, and a jump back. Theorems cite it. An event
+-- that counts has 32 bytes, one that covers 8, and the jump back stands where the relocated code falls through (Intel SDM, volume 2, MOV,
+-- LAHF, SETcc, INC, ADD, SAHF, PUSH, JMP).
+use Rattle.std.specs.Prelude.{ℕ, ◌+◌, ◌*◌, ◌-◌, ◌%◌, ◌^◌, nat_lt, if◌then◌else◌, List, [], ◌∷◌, ◌++◌, length, replicate, Option, Some, None}
+use Rattle.pun_base.specs.declared.action.Base.{Base}
+use Rattle.pun_base.specs.declared.action.Base.TheVariants.{Cover, Count}
 use Rattle.cpu_state.specs.declared.state.Core.{Core}
 use Rattle.cpu_state.specs.Bytes.{advanced}
 use Rattle.length_decode.specs.Spelling.{Fields}
@@ -21,6 +23,16 @@ use Rattle.trampoline.specs.Trampolines.{back_if}
 abbrev pub counter_at : ℕ → ℕ → ℕ
 counter_at p i = p + 64 + 8 * i
 
+-- the first byte of what an event of site i marks: the site's byte, or its counter
+abbrev pub mark_at : Base → ℕ → ℕ → ℕ
+mark_at Cover p i = p + 64 + i
+mark_at Count p i = counter_at p i
+
+-- how many bytes it marks
+abbrev pub mark_len : Base → ℕ
+mark_len Cover = 1
+mark_len Count = 8
+
 -- MOV [rsp - 136], rax; LAHF; SETO al
 abbrev pub saving_code : List ℕ
 saving_code = 0x48 ∷ 0x89 ∷ 0x84 ∷ 0x24 ∷ 0x78 ∷ 0xff ∷ 0xff ∷ 0xff ∷ 0x9f ∷ 0x0f ∷ 0x90 ∷ 0xc0 ∷ []
@@ -33,19 +45,25 @@ counting_code a = 0xf0 ∷ 0x48 ∷ 0xff ∷ 0x04 ∷ 0x25 ∷ four a
 abbrev pub restoring_code : List ℕ
 restoring_code = 0x04 ∷ 0x7f ∷ 0x9e ∷ 0x48 ∷ 0x8b ∷ 0x84 ∷ 0x24 ∷ 0x78 ∷ 0xff ∷ 0xff ∷ 0xff ∷ []
 
--- the event of site i
-abbrev pub thread_event : ℕ → ℕ → List ℕ
-thread_event p i = saving_code ++ (counting_code (counter_at p i) ++ restoring_code)
+-- MOV of 1 to the byte at an address
+abbrev pub covering_code : ℕ → List ℕ
+covering_code a = 0xc6 ∷ 0x04 ∷ 0x25 ∷ (four a ++ 1 ∷ [])
+
+-- the event of site i: it covers, by one store, or counts
+abbrev pub thread_event : Base → ℕ → ℕ → List ℕ
+thread_event Cover p i = covering_code (mark_at Cover p i)
+thread_event Count p i = saving_code ++ (counting_code (counter_at p i) ++ restoring_code)
 
 -- how many bytes the event of a trampoline has, where it has one
-abbrev pub event_len : Bool → ℕ
-event_len true = 32
-event_len false = 0
+abbrev pub event_len : Option Base → ℕ
+event_len (Some Cover) = 8
+event_len (Some Count) = 32
+event_len None = 0
 
 -- the event of site i, where its trampoline has one
-abbrev pub event_if : Bool → ℕ → ℕ → List ℕ
-event_if true p i = thread_event p i
-event_if false p i = []
+abbrev pub event_if : Option Base → ℕ → ℕ → List ℕ
+event_if (Some b) p i = thread_event b p i
+event_if None p i = []
 
 -- JMP to a register
 abbrev pub jump_reg : ℕ → List ℕ
@@ -66,13 +84,13 @@ thread_work f next place = thread_relocated (insn_of f) f next place ++ back_if 
 
 -- the code of the trampoline of site i, which stands at a place, with an event or without: the event,
 -- and the code after it
-abbrev pub code_if : Bool → ℕ → ℕ → Fields → ℕ → ℕ → List ℕ
-code_if counts p i f next place = event_if counts p i ++ thread_work f next (place + event_len counts)
+abbrev pub code_if : Option Base → ℕ → ℕ → Fields → ℕ → ℕ → List ℕ
+code_if event p i f next place = event_if event p i ++ thread_work f next (place + event_len event)
 
 -- the code of the trampoline of a site that counts
 abbrev pub thread_code : ℕ → ℕ → Fields → ℕ → ℕ → List ℕ
-thread_code p i f next place = thread_event p i ++ thread_work f next (place + 32)
+thread_code p i f next place = thread_event Count p i ++ thread_work f next (place + 32)
 
--- the first of the eight bytes in which an event saves rax
+-- the first of the eight bytes in which an event that counts saves rax
 abbrev pub slot : Core → ℕ
 slot c = advanced (reg c rsp) (2 ^ 64 - 136)

@@ -1,7 +1,9 @@
 -- What was rewritten for a guest of several threads, and where a thread stands in it. Theorems cite it.
-use Rattle.std.specs.Prelude.{◌≡◌, ◌⊎◌, ℕ, zero, suc, ◌+◌, ◌*◌, ◌==◌, ◌<◌, ◌≤◌, nat_le, nat_lt, Bool, true, false, not, ◌&&◌, ◌||◌, List, [], ◌∷◌, length, Option, Some, None, is_some, Contains}
+use Rattle.std.specs.Prelude.{◌≡◌, ◌⊎◌, ℕ, zero, suc, ◌+◌, ◌==◌, ◌<◌, ◌≤◌, nat_le, nat_lt, Bool, true, false, not, ◌&&◌, ◌||◌, List, [], ◌∷◌, length, Option, Some, None, is_some, Contains}
 use Rattle.std.specs.List.{list_any}
 use Rattle.pun_base.specs.Memory.{Bytes}
+use Rattle.pun_base.specs.declared.action.Base.{Base}
+use Rattle.pun_base.specs.declared.action.Base.TheVariants.{Cover, Count}
 use Rattle.length_decode.specs.Spelling.{Fields, IsInstruction, spelling}
 use Rattle.cpu_state.specs.declared.state.Core.{Core}
 use Rattle.cpu_state.specs.Bytes.{advanced, Stands}
@@ -10,16 +12,16 @@ use Rattle.insn_form.specs.Instruction.{insn_of}
 use Rattle.start_entries.specs.declared.entry.StartEntry.{StartEntry}
 use Rattle.start_entries.specs.Leading.{JumpsTo}
 use Rattle.image_step.specs.Listed.{is_start, is_listed_byte}
-use Rattle.thread_runs.specs.ThreadCode.{event_len, code_if, slot}
+use Rattle.thread_runs.specs.ThreadCode.{mark_at, mark_len, event_len, code_if, slot}
 use Rattle.trampoline.specs.Atomic.{thread_len}
 
--- a patched site: its number, its instruction, the first address of its trampoline, and whether it
--- counts, so that the trampoline begins with an event
+-- a patched site: its number, its instruction, the first address of its trampoline, and the event with
+-- which the trampoline begins, where it has one
 pub record ThreadSite : Type 0 where
   pub number : ℕ
   pub entry : StartEntry
   pub place : ℕ
-  pub event : Bool
+  pub event : Option Base
 
 -- the address after the instruction of a site
 abbrev pub next_of : ThreadSite → ℕ
@@ -57,27 +59,67 @@ is_site r x = list_any (λ s. s.entry.addr == x) r.sites
 abbrev pub is_kept : Threading → ℕ → Bool
 is_kept r x = is_start r.listed x && not (is_site r x)
 
--- the site counts, and the address is that of a byte of its trampoline, from its byte lo on and below
--- its byte hi
-abbrev pub is_part : ℕ → ℕ → ℕ → ThreadSite → Bool
-is_part lo hi x s = s.event && (nat_le (s.place + lo) x && nat_lt x (s.place + hi))
+-- a part of an event's code: all of it; the first byte of the instruction that saves rax; the code after
+-- that byte, up to the instruction that restores rax; and the code after the instruction that marks, with
+-- the first byte of the relocated code
+pub data Part : Type 0 where
+  Whole : Part
+  Save : Part
+  Saved : Part
+  Marked : Part
+
+-- how many bytes of the event stand before a part
+abbrev pub part_from : Part → Option Base → ℕ
+part_from Whole e = 0
+part_from Save e = 0
+part_from Saved e = 1
+part_from Marked (Some Cover) = 8
+part_from Marked (Some Count) = 21
+part_from Marked None = 0
+
+-- how many stand before its end; a part that the event doesn't have is empty
+abbrev pub part_to : Part → Option Base → ℕ
+part_to Whole e = event_len e
+part_to Save (Some Cover) = 0
+part_to Save (Some Count) = 1
+part_to Save None = 0
+part_to Saved (Some Cover) = 0
+part_to Saved (Some Count) = 32
+part_to Saved None = 0
+part_to Marked (Some Cover) = 9
+part_to Marked (Some Count) = 33
+part_to Marked None = 0
+
+-- the address is one of a part of the site's event
+abbrev pub is_part : Part → ℕ → ThreadSite → Bool
+is_part p x s = nat_le (s.place + part_from p s.event) x && nat_lt x (s.place + part_to p s.event)
 
 -- an address of a site's event
 abbrev pub in_event : Threading → ℕ → Bool
-in_event r x = list_any (is_part 0 32 x) r.sites
+in_event r x = list_any (is_part Whole x) r.sites
 
--- the address of the first instruction of a site's event, which saves rax
+-- the address of the first instruction of a site's event, where it saves rax
 abbrev pub saves : Threading → ℕ → Bool
-saves r x = list_any (is_part 0 1 x) r.sites
+saves r x = list_any (is_part Save x) r.sites
 
--- an address of a site's event after its first instruction, up to the one that restores rax
+-- an address of a site's event after the instruction that saves rax, up to the one that restores it
 abbrev pub has_saved : Threading → ℕ → Bool
-has_saved r x = list_any (is_part 1 32 x) r.sites
+has_saved r x = list_any (is_part Saved x) r.sites
 
--- an address after the site's LOCK INC, up to the first instruction of the relocated code, which
--- makes the effect step
+-- an address after the site's LOCK INC or store, up to the first instruction of the relocated code,
+-- which makes the effect step
 abbrev pub is_counted : ThreadSite → ℕ → Bool
-is_counted s x = is_part 21 33 x s
+is_counted s x = is_part Marked x s
+
+-- an event saves rax where it counts
+abbrev pub is_saving : Option Base → Bool
+is_saving (Some Count) = true
+is_saving (Some Cover) = false
+is_saving None = false
+
+-- the address of a patched site whose event saves rax
+abbrev pub saves_at : Threading → ℕ → Bool
+saves_at r x = list_any (λ s. s.entry.addr == x && is_saving s.event) r.sites
 
 -- the site where the test holds, else the other option
 abbrev pub site_if : Bool → ThreadSite → Option ThreadSite → Option ThreadSite
@@ -94,7 +136,7 @@ abbrev pub is_one_of : ℕ → ℕ → ℕ → Bool
 is_one_of a zero x = false
 is_one_of a (suc n) x = (x == a) || is_one_of (advanced a 1) n x
 
--- x is one of the eight bytes in which an event saves rax
+-- x is one of the eight bytes in which an event that counts saves rax
 abbrev pub is_saved : Core → ℕ → Bool
 is_saved c x = is_one_of (slot c) 8 x
 
@@ -134,11 +176,12 @@ pub record IsThreadSound (r : Threading) : Type 0 where
   -- what the original holds stays, but for the instructions of patched sites
   pub stays : (x : ℕ) → is_some (r.original x) ≡ true → list_any (λ s. nat_le s.entry.addr x && nat_lt x (s.entry.addr + s.entry.len)) r.sites ≡ false → r.patched x ≡ r.original x
   pub sites : (s : ThreadSite) → Contains r.sites s → IsThreadSite r s
-  -- each start and each number that counts has one site, and codes don't meet
+  -- each start and each number of an event has one site, events are of one kind, and codes don't meet
   pub once : (s t : ThreadSite) → Contains r.sites s → Contains r.sites t → s.entry.addr ≡ t.entry.addr → s ≡ t
-  pub numbers : (s t : ThreadSite) → Contains r.sites s → Contains r.sites t → s.event ≡ true → t.event ≡ true → s.number ≡ t.number → s ≡ t
+  pub numbers : (s t : ThreadSite) → Contains r.sites s → Contains r.sites t → is_some s.event ≡ true → is_some t.event ≡ true → s.number ≡ t.number → s ≡ t
+  pub kinds : (s t : ThreadSite) → Contains r.sites s → Contains r.sites t → is_some s.event ≡ true → is_some t.event ≡ true → s.event ≡ t.event
   pub apart : (s t : ThreadSite) (h : Contains r.sites s) (k : Contains r.sites t) (x : ℕ) → is_code_of r s (sites s h) x → is_code_of r t (sites t k) x → s ≡ t
-  -- each site that counts has a counter: eight zeros, RW, at new addresses below 2^31
-  pub counters : (s : ThreadSite) → Contains r.sites s → s.event ≡ true → (x : ℕ) → r.private + 64 + 8 * s.number ≤ x → x < r.private + 72 + 8 * s.number
+  -- what each event marks, a byte or a counter, is zeros, RW, at new addresses below 2^31
+  pub marks : (s : ThreadSite) → Contains r.sites s → (b : Base) → s.event ≡ Some b → (x : ℕ) → mark_at b r.private s.number ≤ x → x < mark_at b r.private s.number + mark_len b
       → (r.patched x ≡ Some (record { byte = 0; perms = 6 })) × (r.original x ≡ None)
-  pub low : (s : ThreadSite) → Contains r.sites s → s.event ≡ true → r.private + 72 + 8 * s.number ≤ 0x7FFF0000
+  pub low : (s : ThreadSite) → Contains r.sites s → (b : Base) → s.event ≡ Some b → mark_at b r.private s.number + mark_len b ≤ 0x7FFF0000

@@ -1,5 +1,6 @@
 //! Trampolines for guests of several threads (Intel SDM, volume 2, MOV, LAHF, SETcc, INC, ADD, SAHF, PUSH, JMP).
 ghost use Rattle.std.specs.Prelude.{◌≡◌, ◌+◌, ◌≤◌, ◌<◌, ◌^◌, ◌++◌, false, length, IfOk, MatchResult, Some, None};
+ghost use Rattle.pun_base.specs.declared.action.Base.TheVariants.{Count};
 ghost use Rattle.pun_base.specs.Limits.{most_sites};
 ghost use Rattle.length_decode.specs.Spelling.{Fields, IsInstruction, spelling};
 ghost use Rattle.relocate_insn.specs.Relocating.{Spells};
@@ -10,6 +11,7 @@ ghost use Rattle.thread_runs.specs.Building.{target_spot, op_spot, called_spot, 
 
 use code_bytes::code::Code;
 use insn_form::{Insn, Op, Spot, Target};
+use pun_base::action::Base;
 use pun_base::limits::{COUNTER_LEN, DATA_AT};
 use relocate_insn::writer::CodeWriter;
 use relocate_insn::{NotRelocatable, relocate};
@@ -53,41 +55,54 @@ fn operand_register(spot: Spot) -> Option<u8>
     }
 }
 
-/// Writes the event of site `number`.
-fn put_thread_event(code: &mut CodeWriter, private: u32, number: u32)
+/// Writes the event of site `number`, which counts or covers.
+fn put_thread_event(code: &mut CodeWriter, base: Base, private: u32, number: u32)
     requires room { length code.old ≤ 60 }
     requires number { number < most_sites }
     requires private { private < 0x7FFF0000 }
-    ensures { code.new ≡ code.old ++ thread_event private number }
+    ensures { code.new ≡ code.old ++ thread_event base private number }
 {
-    code.put(&[0x48, 0x89, 0x84, 0x24, 0x78, 0xFF, 0xFF, 0xFF]);
-    code.put(&[0x9F, 0x0F, 0x90, 0xC0]);
-    code.put(&[0xF0, 0x48, 0xFF, 0x04, 0x25]);
-    code.put_address(private + DATA_AT + COUNTER_LEN * number);
-    code.put(&[0x04, 0x7F, 0x9E]);
-    code.put(&[0x48, 0x8B, 0x84, 0x24, 0x78, 0xFF, 0xFF, 0xFF]);
+    match base {
+        Base::Cover => {
+            code.put(&[0xC6, 0x04, 0x25]);
+            code.put_address(private + DATA_AT + number);
+            code.put(&[1]);
+        }
+        Base::Count => {
+            code.put(&[0x48, 0x89, 0x84, 0x24, 0x78, 0xFF, 0xFF, 0xFF]);
+            code.put(&[0x9F, 0x0F, 0x90, 0xC0]);
+            code.put(&[0xF0, 0x48, 0xFF, 0x04, 0x25]);
+            code.put_address(private + DATA_AT + COUNTER_LEN * number);
+            code.put(&[0x04, 0x7F, 0x9E]);
+            code.put(&[0x48, 0x8B, 0x84, 0x24, 0x78, 0xFF, 0xFF, 0xFF]);
+        }
+    }
 }
 
 /// Writes the event of site `number`, where there is one.
-fn put_event_if(code: &mut CodeWriter, event: bool, private: u32, number: u32)
+fn put_event_if(code: &mut CodeWriter, event: Option<Base>, private: u32, number: u32)
     requires room { length code.old ≤ 28 }
     requires number { number < most_sites }
     requires private { private < 0x7FFF0000 }
     ensures code { code.new ≡ code.old ++ event_if event private number }
     ensures room { length code.new ≤ 60 }
 {
-    if event {
-        put_thread_event(code, private, number);
+    if let Some(base) = event {
+        put_thread_event(code, base, private, number);
     }
 }
 
 /// Where the relocated code begins: after the event, or at the place, where there is none.
-fn work_place(event: bool, place: u32) -> u32
+fn work_place(event: Option<Base>, place: u32) -> u32
     requires place { place + 32 < 0x7FFF0080 }
     ensures place { result ≡ place + event_len event }
     ensures low { result ≤ place + 32 }
 {
-    if event { place + 32 } else { place }
+    match event {
+        Some(Base::Cover) => place + 8,
+        Some(Base::Count) => place + 32,
+        None => place,
+    }
 }
 
 /// Writes a call through a register: PUSH, a jump, and NOPs up to 39 bytes.
@@ -149,13 +164,13 @@ fn put_work(code: &mut CodeWriter, register: Option<u8>, work: &Code, to: u32, n
 }
 
 /// The trampoline at `place`, for a guest of several threads, of the instruction of these bytes at
-/// `from`: the event of site `number` or, for a victim, none, the relocated code, and a jump to the
-/// address after the instruction exactly where the relocated code falls through.
+/// `from`: the event of site `number`, which counts or covers, or, for a victim, none, the relocated code,
+/// and a jump to the address after the instruction exactly where the relocated code falls through.
 ///
 /// The private range begins at `private`. `NotRelocatable` comes exactly where `displaced_len` is
 /// `None` or the instruction is an indirect call through memory or through rsp.
 pub fn thread_trampoline(
-    event: bool,
+    event: Option<Base>,
     insn: &Insn,
     bytes: &[u8],
     from: u32,
@@ -203,5 +218,5 @@ pub fn thread_build(
     ensures size { MatchResult result (λ c. thread_size insn.now (length bytes.now) from
         ≡ Some (length c.bytes)) (λ _. thread_len insn.now (length bytes.now) from ≡ None) }
 {
-    thread_trampoline(true, insn, bytes, from, place, number, private)
+    thread_trampoline(Some(Base::Count), insn, bytes, from, place, number, private)
 }

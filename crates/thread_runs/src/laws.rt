@@ -1,5 +1,5 @@
 //! What holds of runs of several threads, and of single steps of theirs.
-ghost use Rattle.thread_runs.specs.Event.{IsEventStep, EventGoes, IsSavedBack};
+ghost use Rattle.thread_runs.specs.Event.{IsEventStep, EventGoes, IsSavedBack, IsCoverStep, CoverGoes};
 ghost use Rattle.thread_runs.specs.Alone.{EventCountsAlone};
 ghost use Rattle.thread_runs.specs.ThreadSteps.{IsThreadStep};
 ghost use Rattle.thread_runs.specs.Work.{IsEffectStep, IsTailStep};
@@ -10,15 +10,22 @@ ghost use Rattle.thread_runs.specs.EachRun.{EachRunIsWatched};
 ghost use Rattle.thread_runs.specs.Running.{RunsOneWay};
 ghost use Rattle.thread_runs.specs.StepLaws.{WorkTouches, WorkLong, HoldsSlot, SavesHeld, TailTouches, TailInside, WorkedCore, LeadsTold, NotLocked, StepLaws};
 
-/// In an event each step does what its instruction does, and where the saved bytes and the counter
-/// can be read and written there is such a step.
+/// In an event that counts each step does what its instruction does, and where the saved bytes and the
+/// counter can be read and written there is such a step.
 pub fn event_steps()
     ensures step { IsEventStep }
     ensures goes { EventGoes }
     ensures saved { IsSavedBack }
 {}
 
-/// The event of a thread that runs alone adds one to its counter, and leaves all else as it was.
+/// The step of an event that covers makes the site's byte 1 and changes nothing else, and where that byte
+/// can be written there is this step.
+pub fn cover_steps()
+    ensures step { IsCoverStep }
+    ensures goes { CoverGoes }
+{}
+
+/// The event that counts, of a thread that runs alone, adds one to its counter, and leaves all else as it was.
 pub fn event_counts_alone()
     ensures { EventCountsAlone }
 {}
@@ -61,7 +68,8 @@ pub fn each_run()
     ensures { EachRunIsWatched }
 {}
 
-/// In each interleaved run that meets the premises the patched guest runs as the original does, and counts.
+/// In each interleaved run that meets the premises the patched guest runs as the original does, and counts
+/// or covers.
 pub fn threads_step()
     ensures { ThreadsAreFollowed }
 {}

@@ -150,7 +150,7 @@ module _ (s : Setting) (h : IsSetting s) (shut : List Extent) (site : StartEntry
 -- all five schemes are tried in each mode
 all_tried : (m : Mode) → five ≡ schemes_of m
 all_tried (Events action) = refl
-all_tried Threads = refl
+all_tried (Threads b) = refl
 
 -- what is judged by a turn's view is judged at the state that the turns so far have left
 pub judged_here : (s : Setting) (site : StartEntry) (p : Progress) (outcome : Outcome) (k : ℕ) (threads : Bool) → k ≡ event_size_of s.mode

@@ -1,7 +1,9 @@
--- The rules by which turns go: those of events, and those of counters where threads share memory, with the scene of a file by each. Theorems cite it.
-use Rattle.std.specs.Prelude.{ℕ, List, Option}
+-- The rules by which turns go: those of events, and those of events where threads share memory, with the scene of a file by each. Theorems cite it.
+use Rattle.std.specs.Prelude.{◌≡◌, ℕ, Bool, true, false, List, Option, Some, None}
 use Rattle.pun_base.specs.declared.action.Action.{Action}
-use Rattle.pun_base.specs.declared.action.Action.TheVariants.{Count}
+use Rattle.pun_base.specs.declared.action.Action.TheVariants.{Cover, Count}
+use Rattle.pun_base.specs.declared.action.Base.{Base}
+use Rattle.pun_base.specs.declared.action.Base.TheVariants as base
 use Rattle.pun_base.specs.declared.scheme.Scheme.{Scheme}
 use Rattle.trampoline.specs.Events.{event_length}
 use Rattle.elf_read.specs.Entries.{segments}
@@ -26,10 +28,34 @@ pub record TurnRules : Type 0 where
 abbrev pub event_rules : Action → TurnRules
 event_rules action = record { event_size = event_length action; can = work_length; schemes = five }
 
--- The rules where the sites get counters for threads: sites and victims alike are those that may be
+-- The action of the events of threads, which cover or count.
+abbrev pub thread_action : Base → Action
+thread_action base.Cover = Cover
+thread_action base.Count = Count
+
+-- The events that threads get by an action: they cover, or count.
+abbrev pub thread_base : Action → Base
+thread_base Cover = base.Cover
+thread_base action = base.Count
+
+-- Threads can get the events of this action: it covers or counts.
+abbrev pub IsShared : Action → Type 0
+IsShared action = thread_action (thread_base action) ≡ action
+
+-- How long the code of such an event is.
+abbrev pub thread_event_size : Base → ℕ
+thread_event_size base.Cover = 8
+thread_event_size base.Count = 32
+
+-- The event of a trampoline for threads, where it has one.
+abbrev pub thread_event_of : Base → Bool → Option Base
+thread_event_of b true = Some b
+thread_event_of b false = None
+
+-- The rules where the sites get events for threads: sites and victims alike are those that may be
 -- displaced where threads share memory, and all five schemes are tried.
-abbrev pub thread_rules : TurnRules
-thread_rules = record { event_size = 32; can = can_in_threads; schemes = five }
+abbrev pub thread_rules : Base → TurnRules
+thread_rules b = record { event_size = thread_event_size b; can = can_in_threads; schemes = five }
 
 -- The scene of a file whose turns go by these rules.
 abbrev pub rules_scene : TurnRules → List ℕ → List StartEntry → Action → Extent → List Extent → Scene
@@ -47,12 +73,12 @@ rules_scene r file entries action private shut = record {
 -- The rules of a mode.
 abbrev pub rules_of : Mode → TurnRules
 rules_of (Events action) = event_rules action
-rules_of Threads = thread_rules
+rules_of (Threads b) = thread_rules b
 
--- What the private range is laid out for: for threads as for a count.
+-- What the private range is laid out for: for threads as for the same action of one thread.
 abbrev pub action_of : Mode → Action
 action_of (Events action) = action
-action_of Threads = Count
+action_of (Threads b) = thread_action b
 
 -- How long the code of an event is, by a mode.
 abbrev pub event_size_of : Mode → ℕ

@@ -2,7 +2,10 @@
 use Rattle.std.proofs.Common.{◌≡◌, ℕ, ◌+◌, ◌*◌, ◌<◌, ◌≤◌, true, false, List, length, Option, sym, ap, ◌∙◌, subst, arith}
 use Rattle.std.specs.Option.{is_some}
 use Rattle.std.specs.List.{flat_map, AllByRecursion}
-use Rattle.pun_base.specs.declared.action.Action.TheVariants.{Count}
+use Rattle.pun_base.specs.declared.action.Action.{Action}
+use Rattle.pun_base.specs.declared.action.Base.{Base}
+use Rattle.pun_base.specs.declared.action.Base.TheVariants.{Cover, Count}
+use Rattle.pun_base.specs.Actions.{private_len}
 use Rattle.elf_emit.proofs.StayingSegments.{all_map}
 use Rattle.patch_report.proofs.ListPlaces.{In, all_in, all_from, some_is}
 use Rattle.start_entries.specs.declared.entry.StartEntry.{StartEntry}
@@ -20,8 +23,9 @@ use Rattle.site_turns.proofs.NumberedEvents.{turns_number}
 use Rattle.site_turns.proofs.PlannedEvents.{numbers_below}
 use Rattle.site_turns.proofs.PrivateRoom.{private_has_room}
 use Rattle.site_turns.proofs.TurnFold.{turns_keep, turns_tell}
-use Rattle.guest_threads.specs.FromTurns.{IsForThreads, IsThreadLine, TurnsForThreads, CountersHaveRoom}
-use Rattle.site_turns.specs.Modes.{can_in_threads}
+use Rattle.guest_threads.specs.FromTurns.{IsForThreads, IsThreadLine, TurnsForThreads, MarksHaveRoom}
+use Rattle.site_turns.specs.Modes.{can_in_threads, thread_action, thread_base}
+use Rattle.thread_runs.specs.ThreadCode.{mark_at, mark_len}
 
 module _ (g : Scene) (sites : List StartEntry) (choices : List Choice) (A : AreEntries g.image g.entries) (T : IsForThreads g) (s : AreSites g sites)
     (h : IsTurns g five (first_state g) sites choices) where
@@ -58,11 +62,18 @@ module _ (g : Scene) (sites : List StartEntry) (choices : List Choice) (A : AreE
 pub turns_for_threads : TurnsForThreads
 turns_for_threads g sites choices A T s h = turned g sites choices A T s h
 
--- the private range of a count has room for each line's counter
-pub counters_have_room : CountersHaveRoom
-counters_have_room g taken sites choices P h =
-    let r = (private_has_room taken Count (length sites) g.private P).room in
+-- the private range of an action that threads share has room for each mark
+pub room_for : (b : Base) (lo hi n i : ℕ) → lo + private_len (thread_action b) n ≤ hi → i < n → mark_at b lo i + mark_len b ≤ hi
+room_for Cover lo hi n i r k = omega (arith, r, k)
+room_for Count lo hi n i r k = omega (arith, r, k)
+
+-- the private range has room for what the event of each line marks
+pub marks_have_room : MarksHaveRoom
+marks_have_room g taken sites choices S P h =
+    let b = thread_base g.action in
+    let r : g.private.lo + private_len (thread_action b) (length sites) ≤ g.private.hi =
+    subst (λ (a : Action). g.private.lo + private_len a (length sites) ≤ g.private.hi) (sym S) (private_has_room taken g.action (length sites) g.private P).room in
     let e = ap (flat_map row_lines) (turns_tell g five sites choices h).0 in
-    subst (AllByRecursion (λ (l : Line). g.private.lo + 72 + 8 * l.number ≤ g.private.hi)) (sym e)
-    (all_map (λ (l : Line). l.number < length sites) (λ (l : Line). g.private.lo + 72 + 8 * l.number ≤ g.private.hi) (flat_map row_lines (rows_of sites choices))
-    (λ l k. omega (arith, k, r)) (numbers_below sites choices))
+    subst (AllByRecursion (λ (l : Line). mark_at (thread_base g.action) g.private.lo l.number + mark_len (thread_base g.action) ≤ g.private.hi)) (sym e)
+    (all_map (λ (l : Line). l.number < length sites) (λ (l : Line). mark_at (thread_base g.action) g.private.lo l.number + mark_len (thread_base g.action) ≤ g.private.hi) (flat_map row_lines (rows_of sites choices))
+    (λ l k. room_for (thread_base g.action) g.private.lo g.private.hi (length sites) l.number r k) (numbers_below sites choices))

@@ -3,6 +3,7 @@ use Rattle.std.proofs.Common.{◌≡◌, ℕ, ◌+◌, Bool, true, List, length,
 use Rattle.std.specs.Option.{is_some}
 use Rattle.std.specs.Prelude.{MatchResult, IfOk, IsOk}
 use Rattle.std.proofs.lemmas.Bool.{false≢true}
+use Rattle.pun_base.specs.declared.action.Base.{Base}
 use Rattle.cpu_state.specs.Bytes.{Stands}
 use Rattle.elf_read.specs.Image.{image_of}
 use Rattle.elf_read.specs.Refusals.{refusal}
@@ -16,7 +17,7 @@ use Rattle.start_entries.specs.Laws.{IsBuilt}
 use Rattle.image_check.specs.Reports.{Line}
 use Rattle.image_check.proofs.CodeAtStarts.{IsReadAt, read_at, found_address}
 use Rattle.trampoline.specs.Atomic.{thread_len, back, can_by}
-use Rattle.site_turns.specs.Modes.{can_in_threads}
+use Rattle.site_turns.specs.Modes.{can_in_threads, thread_event_of}
 use Rattle.site_turns.specs.StartInsns.{form_from, form_at, IsInsnAt}
 use Rattle.site_turns.proofs.TrampolineCodes.{taken_spelled}
 use Rattle.site_turns.proofs.LeadingPlans.{mapped_some}
@@ -25,11 +26,11 @@ use Rattle.thread_runs.specs.ThreadCode.{code_if}
 use Rattle.guest_threads.specs.ThreadPlanning.{HasThreadCode}
 
 -- what the answer of a call that builds says of the code's length
-abbrev pub TellsSize : Bool → Insn → ℕ → ℕ → Result Code NotRelocatable → Type 0
+abbrev pub TellsSize : Option Base → Insn → ℕ → ℕ → Result Code NotRelocatable → Type 0
 TellsSize b i len addr r = MatchResult r (λ (k : Code). size_if b i len addr ≡ Some (length k.bytes)) (λ z. thread_len i len addr ≡ None)
 
 -- where an instruction can be displaced for threads, its code is built
-pub built_ok : (b : Bool) (e : StartEntry) (i : Insn) (len : ℕ) (r : Result Code NotRelocatable) → is_some (can_in_threads e) ≡ true → e.form ≡ Some i → len ≡ e.len
+pub built_ok : (b : Option Base) (e : StartEntry) (i : Insn) (len : ℕ) (r : Result Code NotRelocatable) → is_some (can_in_threads e) ≡ true → e.form ≡ Some i → len ≡ e.len
     → TellsSize b i len e.addr r → IsOk r
 built_ok b e i len (Ok k) h f l t = refl
 built_ok b e i len (Err z) h f l t =
@@ -47,22 +48,23 @@ form_known es start h k f = by_entry (entry_at es start) refl
         false≢true (ap (λ (z : Option Insn). is_some (can_by z e.len e.addr)) (sym known) ∙ k e o)
 
 -- the code that is built is the trampoline's
-pub has_code : (file : List ℕ) (es : List StartEntry) (e : StartEntry) (i : Insn) (bs : List ℕ) (l : Line) (private : ℕ) (code : Code)
-    (r : Result Code NotRelocatable) → refusal 0x10000 file ≡ None → IsBuilt file es → IsInsnAt file es l.tramp.start e i bs → r ≡ Ok code
-    → ((f : Fields) → IsInstruction f → bs ≡ spelling f → IfOk r (λ (z : Code). z.bytes ≡ code_if l.tramp.event private l.number f (e.addr + length bs) l.tramp.place))
-    → HasThreadCode (image_of file) private l code.bytes
-has_code file es e i bs l private code r accepted own got u b =
+pub has_code : (b : Base) (event : Option Base) (file : List ℕ) (es : List StartEntry) (e : StartEntry) (i : Insn) (bs : List ℕ) (l : Line) (private : ℕ) (code : Code)
+    (r : Result Code NotRelocatable) → refusal 0x10000 file ≡ None → IsBuilt file es → IsInsnAt file es l.tramp.start e i bs
+    → event ≡ thread_event_of b l.tramp.event → r ≡ Ok code
+    → ((f : Fields) → IsInstruction f → bs ≡ spelling f → IfOk r (λ (z : Code). z.bytes ≡ code_if event private l.number f (e.addr + length bs) l.tramp.place))
+    → HasThreadCode b (image_of file) private l code.bytes
+has_code b event file es e i bs l private code r accepted own got same u told =
     let q : IsReadAt file e i = read_at file es l.tramp.start e i accepted own got.at got.form in
     let a : e.addr ≡ l.tramp.start = found_address es l.tramp.start e got.at in
     let f = q.fields in
     let spelled = taken_spelled file es l.tramp.start e i bs accepted own got in
     let next : e.addr + length bs ≡ l.tramp.start + length (spelling f) = ap₂ (λ x y. x + y) a (ap length spelled) in
-    let is : code.bytes ≡ code_if l.tramp.event private l.number f (e.addr + length bs) l.tramp.place =
-    subst (λ (z : Result Code NotRelocatable). IfOk z (λ (z : Code). z.bytes ≡ code_if l.tramp.event private l.number f (e.addr + length bs) l.tramp.place)) u
-    (b f q.is spelled) in
+    let is : code.bytes ≡ code_if event private l.number f (e.addr + length bs) l.tramp.place =
+    subst (λ (z : Result Code NotRelocatable). IfOk z (λ (z : Code). z.bytes ≡ code_if event private l.number f (e.addr + length bs) l.tramp.place)) u
+    (told f q.is spelled) in
     record {
       fields = f;
       spelled = q.is;
       stands = subst (λ (x : ℕ). Stands (image_of file) x (spelling f)) a q.stands;
-      is = is ∙ ap (λ z. code_if l.tramp.event private l.number f z l.tramp.place) next;
+      is = is ∙ (λ j. code_if (same j) private l.number f (next j) l.tramp.place);
     }

@@ -3,7 +3,6 @@ use Rattle.std.proofs.Common.{◌≡◌, ℕ, ◌^◌, ◌<◌, List, map, lengt
 use Rattle.pun_base.specs.Memory.{Bytes}
 use Rattle.pun_base.specs.Shown.{DeskState}
 use Rattle.pun_base.specs.Actions.{IsAction}
-use Rattle.pun_base.specs.declared.action.Action.TheVariants.{Count}
 use Rattle.address_space.specs.Free.{extent_of}
 use Rattle.page_group.specs.Grouping.{GroupsState}
 use Rattle.elf_read.specs.Image.{image_of}
@@ -20,7 +19,7 @@ use Rattle.start_entries.specs.declared.entry.StartEntry.{StartEntry}
 use Rattle.start_entries.specs.Entries.{entries_of}
 use Rattle.start_entries.specs.Refusals.{first_refusal}
 use Rattle.start_entries.specs.Laws.{IsBuilt}
-use Rattle.site_turns.specs.Modes.{thread_rules}
+use Rattle.site_turns.specs.Modes.{thread_rules, thread_base, IsShared}
 use Rattle.site_turns.specs.PlannedState.{PlannedState}
 use Rattle.site_turns.specs.Planning.{Turns, scene_under, end_under}
 use Rattle.site_turns.specs.PlanLaws.{AreGroups, CanBeWritten, report_under}
@@ -38,25 +37,25 @@ use Rattle.rewrite_core.proofs.PlannedCalls.{request_with, told_of, planned_for,
 use Rattle.rewrite_core.proofs.WrittenPlans.{job_pages}
 use Rattle.guest_threads.specs.declared.rewriting.ThreadReport.{ThreadReport}
 use Rattle.guest_threads.specs.FromTurns.{IsThreaded}
-use Rattle.guest_threads.specs.ThreadCalls.{IsCountPlanned, IsWritten, WritesThreads}
+use Rattle.guest_threads.specs.ThreadCalls.{IsSharedPlanned, IsWritten, WritesThreads}
 use Rattle.guest_threads.specs.ThreadPlanning.{IsThreadPlanned}
 use Rattle.guest_threads.specs.ThreadRewriting.{ThreadJob, job_of, IsThreadJobFor, writing_of, Judges, IsFollowedInThreads, IsRewritten, IsReported, RewritesThreads, ReportsThreads}
 use Rattle.guest_threads.proofs.ThreadPlans as plans
-use Rattle.guest_threads.proofs.ThreadPlans.{fitting, threaded}
+use Rattle.guest_threads.proofs.ThreadPlans.{shared_action, fitting, threaded}
 
--- what is planned for threads of an accepted file with its entries, where each event counts, is planned of the input
-pub planned_threads : (a : Asked) (es : List StartEntry) (p : PlannedState) → a.action ≡ Count → IsInOrder a → length a.file < 2 ^ 63
+-- what is planned for threads of an accepted file with its entries, where events cover or count, is planned of the input
+pub planned_threads : (a : Asked) (es : List StartEntry) (p : PlannedState) → IsShared a.action → IsInOrder a → length a.file < 2 ^ 63
     → refusal 0x20000 a.file ≡ None → es ≡ entries_of a.file a.starts → first_refusal a.file a.starts ≡ None → IsBuilt a.file es
-    → (t : Turns) × IsThreadPlanned (request_with a a.file es) t p → (t : Turns) × IsCallBy IsCountPlanned a t p
-planned_threads a es p count o l r e n i x =
-    planned_for IsCountPlanned a es p (subst IsAction (sym count) tt) o.few o.bytes l r e n i (x.0, record { count = count; planned = x.1 })
+    → (t : Turns) × IsThreadPlanned (request_with a a.file es) t p → (t : Turns) × IsCallBy IsSharedPlanned a t p
+planned_threads a es p shared o l r e n i x =
+    planned_for IsSharedPlanned a es p (subst IsAction shared (shared_action (thread_base a.action))) o.few o.bytes l r e n i (x.0, record { shared = shared; planned = x.1 })
 
 -- where nothing is planned, that is the call's answer
-pub refused : (a : Asked) (name : List ℕ) (s : DeskState) (error : RewriteError) → PlansBy IsCountPlanned a (Err error)
+pub refused : (a : Asked) (name : List ℕ) (s : DeskState) (error : RewriteError) → PlansBy IsSharedPlanned a (Err error)
     → RewritesThreads a name s s (Err error)
-refused a name s error x = unplanned IsThreadJobFor writing_of IsRewritten a name s s IsCountPlanned error refl x
+refused a name s error x = unplanned IsThreadJobFor writing_of IsRewritten a name s s IsSharedPlanned error refl x
 
-module _ (a : Asked) (t : Turns) (p : PlannedState) (call : IsCallBy IsCountPlanned a t p) where
+module _ (a : Asked) (t : Turns) (p : PlannedState) (call : IsCallBy IsSharedPlanned a t p) where
   -- what was planned meets what writing asks
   pub can_write : CanBeWritten (request_of a) p
   can_write = let h = call.planned in plans.writable (request_of a) t p call.asked h.planned
@@ -100,26 +99,26 @@ module _ (a : Asked) (t : Turns) (p : PlannedState) (call : IsCallBy IsCountPlan
     writes_job = writing_is_job (request_of a) p groups call.asked can_write g call.size
 
     -- what is told of the plan is the body of the job's report
-    pub told_plan : body_of Count p.private p.rows groups.homes ≡ report_under thread_rules (request_of a) t groups
+    pub told_plan : body_of a.action p.private p.rows groups.homes ≡ report_under (thread_rules (thread_base a.action)) (request_of a) t groups
     told_plan i = record {
-      action = sym call.planned.count i;
+      action = a.action;
       private = ((call.planned.planned.turned.private i).lo, (call.planned.planned.turned.private i).hi);
       rows = call.planned.planned.turned.rows i;
       pages = groups.homes;
     }
 
     -- a report can tell it
-    pub plan_report : IsBody Two (body_of Count p.private p.rows groups.homes)
+    pub plan_report : IsBody Two (body_of a.action p.private p.rows groups.homes)
     plan_report =
         let pages = job_pages (request_of a) p groups writes_job in
         subst (IsBody Two) (sym told_plan)
-        (turned_is_report thread_rules five_lead (request_of a) t groups.homes call.asked call.action
+        (turned_is_report (thread_rules (thread_base a.action)) five_lead (request_of a) t groups.homes call.asked call.action
         call.planned.planned.turned.turns call.planned.planned.turned.few pages.0 pages.1)
 
     -- memory that shows the job is sound for threads, and followed
     pub shown_threaded : (m : Bytes) → Shows (job groups).emit m
-        → IsThreaded (scene_under thread_rules (request_of a) t) (end_under thread_rules (request_of a) t) m (job groups).emit
-    shown_threaded m shown = threaded (request_of a) t p call.asked call.planned.planned groups call.planned.count writes_job m shown
+        → IsThreaded (scene_under (thread_rules (thread_base a.action)) (request_of a) t) (end_under (thread_rules (thread_base a.action)) (request_of a) t) m (job groups).emit
+    shown_threaded m shown = threaded (request_of a) t p call.asked call.planned.planned groups call.planned.shared writes_job m shown
 
 -- What is known of a patch that was written.
 module _ (a : Asked) (name : List ℕ) (s u : DeskState) (patch : Patch) (w : IsWritten a name s u patch) where
@@ -136,15 +135,15 @@ module _ (a : Asked) (name : List ℕ) (s u : DeskState) (patch : Patch) (w : Is
   same_rows = ap (map row_value) w.patch_for.rows ∙ w.call.planned.planned.turned.rows
 
   -- what is told of the patch is what is told of the plan
-  same_told : told_of Count patch ≡ body_of Count w.planned.private w.planned.rows patch.groups.homes
-  same_told i = body_of Count (w.patch_for.private i) (w.patch_for.rows i) patch.groups.homes
+  same_told : told_of a.action patch ≡ body_of a.action w.planned.private w.planned.rows patch.groups.homes
+  same_told i = body_of a.action (w.patch_for.private i) (w.patch_for.rows i) patch.groups.homes
 
   -- which is the body of the job's report
-  told : told_of Count patch ≡ report_under thread_rules (request_of a) w.turns patch.groups
+  told : told_of a.action patch ≡ report_under (thread_rules (thread_base a.action)) (request_of a) w.turns patch.groups
   told = same_told ∙ told_plan a w.turns w.planned w.call patch.groups w.patch_for.groups
 
   -- a report can tell it
-  pub can_report : IsBody Two (told_of Count patch)
+  pub can_report : IsBody Two (told_of a.action patch)
   can_report = subst (IsBody Two) (sym same_told) (plan_report a w.turns w.planned w.call patch.groups w.patch_for.groups)
 
   -- the input is judged to be its job
@@ -152,7 +151,7 @@ module _ (a : Asked) (name : List ℕ) (s u : DeskState) (patch : Patch) (w : Is
   accepted = (w.call.starts, record { is_job = is_job a w.turns w.planned w.call patch.groups w.patch_for.groups; few = w.emitted.0 })
 
   -- its file follows the original
-  followed : IsFollowedInThreads a.file a.starts (layout written_job.emit) written_job.private written_job.rows
+  followed : IsFollowedInThreads (thread_base a.action) a.file a.starts (layout written_job.emit) written_job.private written_job.rows
   followed =
       let th = shown_threaded a w.turns w.planned w.call patch.groups w.patch_for.groups (image_of (layout written_job.emit))
       (file_shows written_job.emit (writes_job a w.turns w.planned w.call patch.groups w.patch_for.groups) w.emitted.0) in
@@ -173,7 +172,7 @@ module _ (a : Asked) (name : List ℕ) (s u : DeskState) (patch : Patch) (w : Is
 
   -- the report of it is an answer of `rewrite_threads_reported`
   pub reported : (report : ReportValue) (origin : Origin) → origin ≡ origin_of a.file → OriginFits origin
-      → report ≡ written (told_of Count patch) origin → ReportsThreads a name s u (Ok report)
+      → report ≡ written (told_of a.action patch) origin → ReportsThreads a name s u (Ok report)
   reported report origin o fits r =
       let same : report ≡ written_job.report = r ∙ (λ i. written (told i) (o i)) in (
         written_job,
@@ -181,7 +180,7 @@ module _ (a : Asked) (name : List ℕ) (s u : DeskState) (patch : Patch) (w : Is
         record {
           report_is = same;
           told = subst IsReport (sym r) (record { origin = fits; body = can_report });
-          action_is = ap (λ (z : ReportValue). z.body.action) same ∙ w.call.planned.count;
+          action_is = ap (λ (z : ReportValue). z.body.action) same;
           private_is = ap (λ (z : ReportValue). z.body.private) same;
           rows_are = ap (λ (z : ReportValue). z.body.rows) same;
           holds = w.emitted.1;

@@ -5,6 +5,8 @@ use Rattle.std.specs.Option.{is_some, option_map, option_to_list}
 use Rattle.std.specs.List.{list_any, AllByRecursion}
 use Rattle.std.proofs.lemmas.Bool.{and_from, cases_eq, cases_order, eqb-true, eq-eqb, le-leb, lt-ltb, false_from_ne_true, true≢false}
 use Rattle.pun_base.specs.Memory.{Cell, Bytes}
+use Rattle.pun_base.specs.declared.action.Base.{Base}
+use Rattle.pun_base.specs.declared.action.Base.TheVariants.{Cover, Count}
 use Rattle.length_decode.specs.Spelling.{spelling}
 use Rattle.cpu_state.specs.Bytes.{Stands}
 use Rattle.cpu_state.specs.Fixed.{IsFixed}
@@ -24,7 +26,8 @@ use Rattle.site_turns.specs.Laws.{EventsAreNumbered}
 use Rattle.site_turns.specs.Loaded.{AreShown}
 use Rattle.site_turns.proofs.CellsAndRows.{held_by}
 use Rattle.site_turns.proofs.PlanForms.{entry_here}
-use Rattle.thread_runs.specs.ThreadCode.{code_if}
+use Rattle.site_turns.specs.Modes.{thread_base, thread_event_of}
+use Rattle.thread_runs.specs.ThreadCode.{mark_at, mark_len, code_if}
 use Rattle.thread_runs.specs.Threading.{ThreadSite, Threading, next_of, is_new, ByTwoJumps, IsThreadSite, is_code_of, IsThreadSound}
 use Rattle.guest_threads.specs.FromTurns.{IsForThreads, site_of, threading_of, IsThreadLine, IsThreadLoaded, FoldedIsThreadSound}
 use Rattle.site_turns.proofs.CodeEnds.{line_fits}
@@ -43,6 +46,16 @@ one_of f (Some x) y c = (x, refl, by_place c.0 c.1)
     by_place zero e = some_is (f x) y e
     by_place (suc i) e = absurd cc
 
+-- where a trampoline's event is there, the trampoline has one
+pub event_some : (b : Base) (e : Bool) → is_some (thread_event_of b e) ≡ true → e ≡ true
+event_some b true h = refl
+event_some b false h = absurd (true≢false (sym h))
+
+-- what an event marks begins no lower than the private range
+pub mark_in : (b : Base) (p i : ℕ) → p ≤ mark_at b p i
+mark_in Cover p i = omega arith
+mark_in Count p i = omega arith
+
 module _ (g : Scene) (t : State) (patched : Bytes) (start : ℕ) (A : AreEntries g.image g.entries) (F : IsFolded g t) (T : IsForThreads g)
     (J : AllByRecursion (IsThreadLine g t) (done_by t).lines) (N : EventsAreNumbered (done_by t).lines) (W : IsThreadLoaded g t patched) where
   abbrev R : Threading
@@ -60,15 +73,15 @@ module _ (g : Scene) (t : State) (patched : Bytes) (start : ℕ) (A : AreEntries
     in_lines : In d.lines line
     entry : StartEntry
     at : entry_at g.entries line.tramp.start ≡ Some entry
-    is : record { number = line.number; entry = entry; place = line.tramp.place; event = line.tramp.event } ≡ s
+    is : record { number = line.number; entry = entry; place = line.tramp.place; event = thread_event_of (thread_base g.action) line.tramp.event } ≡ s
     listed : Contains g.entries entry
     addr : entry.addr ≡ line.tramp.start
 
   -- each site is that of a line
   of_site : (s : ThreadSite) → Contains R.sites s → Of s
   of_site s c =
-      let q = from_flat (site_of g.entries) d.lines s (place_of R.sites s c) in
-      let o = one_of (λ (e : StartEntry). record { number = q.0.number; entry = e; place = q.0.tramp.place; event = q.0.tramp.event }) (entry_at g.entries q.0.tramp.start) s q.2 in
+      let q = from_flat (site_of (thread_base g.action) g.entries) d.lines s (place_of R.sites s c) in
+      let o = one_of (λ (e : StartEntry). record { number = q.0.number; entry = e; place = q.0.tramp.place; event = thread_event_of (thread_base g.action) q.0.tramp.event }) (entry_at g.entries q.0.tramp.start) s q.2 in
       let f = finds (λ (e : StartEntry). eqb e.addr q.0.tramp.start) g.entries o.0 o.1 in
       record { line = q.0; in_lines = q.1; entry = o.0; at = o.1; is = o.2; listed = contains_at g.entries f.place o.0 f.at; addr = eqb-true o.0.addr q.0.tramp.start f.passes }
 
@@ -137,7 +150,7 @@ module _ (g : Scene) (t : State) (patched : Bytes) (start : ℕ) (A : AreEntries
     })
 
     -- the line's site is a patched one
-    site_sound : IsThreadSite R (record { number = l.number; entry = e; place = l.tramp.place; event = l.tramp.event })
+    site_sound : IsThreadSite R (record { number = l.number; entry = e; place = l.tramp.place; event = thread_event_of (thread_base g.action) l.tramp.event })
     site_sound =
         let k = instruction in record {
           listed = listed;
@@ -167,7 +180,7 @@ module _ (g : Scene) (t : State) (patched : Bytes) (start : ℕ) (A : AreEntries
   one_line s t o p e =
       let l : o.line ≡ p.line = some_is o.line p.line (sym o.in_lines.1 ∙ ap (slice_get d.lines) e ∙ p.in_lines.1) in
       let n : o.entry ≡ p.entry = some_is o.entry p.entry (sym o.at ∙ ap (λ (z : Line). entry_at g.entries z.tramp.start) l ∙ p.at) in
-      sym o.is ∙ (λ i. record { number = (l i).number; entry = n i; place = (l i).tramp.place; event = (l i).tramp.event }) ∙ p.is
+      sym o.is ∙ (λ i. record { number = (l i).number; entry = n i; place = (l i).tramp.place; event = thread_event_of (thread_base g.action) (l i).tramp.event }) ∙ p.is
 
   -- where one line at most passes a test, two that pass have one index
   twice : (f : Line → Bool) (o p : ℕ) (l m : Line) → count_by f d.lines ≤ 1 → slice_get d.lines o ≡ Some l → slice_get d.lines p ≡ Some m → f l ≡ true → f m ≡ true → o ≡ p
@@ -187,16 +200,28 @@ module _ (g : Scene) (t : State) (patched : Bytes) (start : ℕ) (A : AreEntries
       let at_t : p.line.tramp.start ≡ a = sym p.addr ∙ ap (λ (z : ThreadSite). z.entry.addr) p.is ∙ sym e in
       one_line s t o p (twice (starts_at a) o.in_lines.0 p.in_lines.0 o.line p.line (K.once a) o.in_lines.1 p.in_lines.1 (eq-eqb o.line.tramp.start a at_s) (eq-eqb p.line.tramp.start a at_t))
 
+  -- a site with an event comes of a line with one
+  with_event : (s : ThreadSite) (o : Of s) → is_some s.event ≡ true → o.line.tramp.event ≡ true
+  with_event s o u = event_some (thread_base g.action) o.line.tramp.event (ap (λ (z : ThreadSite). is_some z.event) o.is ∙ u)
+
+  -- that event is the scene's
+  event_is : (s : ThreadSite) → Contains R.sites s → is_some s.event ≡ true → s.event ≡ Some (thread_base g.action)
+  event_is s c u = let o = of_site s c in sym (ap (λ (z : ThreadSite). z.event) o.is) ∙ ap (thread_event_of (thread_base g.action)) (with_event s o u)
+
   -- each number has one site
-  numbers : (s t : ThreadSite) → Contains R.sites s → Contains R.sites t → s.event ≡ true → t.event ≡ true → s.number ≡ t.number → s ≡ t
+  numbers : (s t : ThreadSite) → Contains R.sites s → Contains R.sites t → is_some s.event ≡ true → is_some t.event ≡ true → s.number ≡ t.number → s ≡ t
   numbers s t c k u v e =
       let o = of_site s c in
       let p = of_site t k in
       elim (cases_eq o.in_lines.0 p.in_lines.0) [
         | inl z ↦ one_line s t o p z
-        | inr n ↦ absurd (N o.in_lines.0 p.in_lines.0 o.line p.line n o.in_lines.1 p.in_lines.1 (ap (λ (z : ThreadSite). z.event) o.is ∙ u) (ap (λ (z : ThreadSite). z.event) p.is ∙ v)
+        | inr n ↦ absurd (N o.in_lines.0 p.in_lines.0 o.line p.line n o.in_lines.1 p.in_lines.1 (with_event s o u) (with_event t p v)
             (ap (λ (z : ThreadSite). z.number) o.is ∙ e ∙ sym (ap (λ (z : ThreadSite). z.number) p.is)))
       ]
+
+  -- all events are of one kind
+  kinds : (s t : ThreadSite) → Contains R.sites s → Contains R.sites t → is_some s.event ≡ true → is_some t.event ≡ true → s.event ≡ t.event
+  kinds s t c k u v = event_is s c u ∙ sym (event_is t k v)
 
   -- an address of a site's code is one of its line's
   of_line : (s : ThreadSite) (o : Of s) (h : IsThreadSite R s) (x : ℕ) → is_code_of R s h x → in_code g x o.line ≡ true
@@ -231,15 +256,19 @@ module _ (g : Scene) (t : State) (patched : Bytes) (start : ℕ) (A : AreEntries
           let f = found (starts_at o.entry.addr) d.lines o.starts in
           let e : f.is.tramp.start ≡ o.entry.addr = eqb-true f.is.tramp.start o.entry.addr f.passes in
           let at : entry_at g.entries f.is.tramp.start ≡ Some o.entry = ap (entry_at g.entries) e ∙ entry_here g.image g.entries o.entry A o.listed in
-          let s : ThreadSite = record { number = f.is.number; entry = o.entry; place = f.is.tramp.place; event = f.is.tramp.event } in
-          let c : In (site_of g.entries f.is) s = (0, ap (λ (q : Option StartEntry). slice_get (option_to_list (option_map (λ (e : StartEntry). record { number = f.is.number; entry = e; place = f.is.tramp.place; event = f.is.tramp.event }) q)) 0) at) in
-          let i = in_flat (site_of g.entries) d.lines f.is s (f.place, f.at) c in
+          let s : ThreadSite = record { number = f.is.number; entry = o.entry; place = f.is.tramp.place; event = thread_event_of (thread_base g.action) f.is.tramp.event } in
+          let c : In (site_of (thread_base g.action) g.entries f.is) s = (0, ap (λ (q : Option StartEntry). slice_get (option_to_list (option_map (λ (e : StartEntry). record { number = f.is.number; entry = e; place = f.is.tramp.place; event = thread_event_of (thread_base g.action) f.is.tramp.event }) q)) 0) at) in
+          let i = in_flat (site_of (thread_base g.action) g.entries) d.lines f.is s (f.place, f.at) c in
           any_at (λ (s : ThreadSite). leb s.entry.addr x && ltb x (s.entry.addr + s.entry.len)) R.sites i.0 s i.1
           (and_from (leb o.entry.addr x) (ltb x (o.entry.addr + o.entry.len)) (le-leb o.entry.addr x o.low) (lt-ltb x (o.entry.addr + o.entry.len) o.high))
 
-  -- counters
-  room_of : (s : ThreadSite) → Contains R.sites s → g.private.lo + 72 + 8 * s.number ≤ g.private.hi
-  room_of s c = let o = of_site s c in subst (λ (z : ThreadSite). g.private.lo + 72 + 8 * z.number ≤ g.private.hi) o.is (all_in _ d.lines o.line W.room o.in_lines)
+  -- what an event marks lies in the private range
+  room_of : (s : ThreadSite) → Contains R.sites s → (b : Base) → s.event ≡ Some b → mark_at b g.private.lo s.number + mark_len b ≤ g.private.hi
+  room_of s c b v =
+      let o = of_site s c in
+      let kind : thread_base g.action ≡ b = some_is (thread_base g.action) b (sym (event_is s c (ap is_some v)) ∙ v) in
+      subst (λ (z : Base). mark_at z g.private.lo s.number + mark_len z ≤ g.private.hi) kind
+      (subst (λ (z : ThreadSite). mark_at (thread_base g.action) g.private.lo z.number + mark_len (thread_base g.action) ≤ g.private.hi) o.is (all_in _ d.lines o.line W.room o.in_lines))
 
   -- the patched memory is sound for threads
   pub sound : IsThreadSound R
@@ -249,8 +278,9 @@ module _ (g : Scene) (t : State) (patched : Bytes) (start : ℕ) (A : AreEntries
     once = once;
     numbers = numbers;
     apart = apart;
-    counters = λ s c v x a b. let k = room_of s c in W.zeros x (omega (arith, a)) (omega (arith, b, k));
-    low = λ s c v. let k = room_of s c in let h = W.high in omega (arith, k, h);
+    kinds = kinds;
+    marks = λ s c z v x a b. let k = room_of s c z v in let h = mark_in z g.private.lo s.number in W.zeros x (omega (arith, a, h)) (omega (arith, b, k));
+    low = λ s c z v. let k = room_of s c z v in let h = W.high in omega (arith, k, h);
   }
 
 -- what the turns have done, loaded with the code of threads, is sound for threads

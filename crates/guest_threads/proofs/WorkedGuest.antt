@@ -29,6 +29,7 @@ use Rattle.image_check.proofs.WorkedImage.{inside, between, spread_out}
 use Rattle.patch_report.proofs.ListPlaces.{some_is}
 use Rattle.site_turns.proofs.CodeSizes.{one_standing}
 use Rattle.thread_runs.specs.Event.Point.{At0, At1, At2, At3, At4, At5, At6}
+use Rattle.pun_base.specs.declared.action.Base.TheVariants as base
 use Rattle.guest_threads.specs.FromTurns.{site_of}
 use Rattle.thread_runs.specs.Guest.{machine_of}
 use Rattle.thread_runs.specs.Premises.{IsQuietAt, StandAtStarts, touches_none, reads_nothing_of, IsProper, IsProperRun}
@@ -68,7 +69,7 @@ counting = record {
   patched = row_image;
   entry = 0x401000;
   listed = row_entry ∷ [];
-  sites = record { number = 0; entry = row_entry; place = 0x2401005; event = true } ∷ [];
+  sites = record { number = 0; entry = row_entry; place = 0x2401005; event = Some base.Count } ∷ [];
   private = 0x20000;
 }
 
@@ -365,10 +366,10 @@ can_go = record {
   steps = record { at = record { spelled = itself_is; here = (refl, refl, (refl, refl, tt)) }; apart = refl; acts = refl };
   quiet = record { known = refl; leaves = λ f i s. quiet_start (guest_on counting.original).mem f (own_fields f i s) };
   ends = refl;
-  read = refl;
-  written = refl;
-  old = refl;
-  unread = refl;
+  read = λ h. refl;
+  written = λ h. refl;
+  old = λ h. refl;
+  unread = λ h. refl;
   fresh = refl;
 }
 
@@ -414,7 +415,7 @@ is_row = λ i. record {
   patched = patched_path i;
   entry = sym entry_is i;
   listed = sym entries_are_row i;
-  sites = flat_map (site_of (sym entries_are_row i)) (flat_map row_lines (row_value ∷ []));
+  sites = flat_map (site_of base.Count (sym entries_are_row i)) (flat_map row_lines (row_value ∷ []));
   private = 0x20000;
 }
 

@@ -2,7 +2,7 @@
 use Rattle.std.specs.Prelude.{◌≡◌, ℕ, ◌+◌, ◌*◌, ◌<◌, ◌≤◌, true, false, List, ◌∷◌, length, map, Contains, Some, None, is_some, option_to_list, option_map}
 use Rattle.std.specs.List.{AllByRecursion, flat_map}
 use Rattle.pun_base.specs.Memory.{Bytes}
-use Rattle.pun_base.specs.declared.action.Action.TheVariants.{Count}
+use Rattle.pun_base.specs.declared.action.Base.{Base}
 use Rattle.pun_base.specs.declared.range.Range.{Range}
 use Rattle.length_decode.specs.Spelling.{Fields, IsInstruction, spelling}
 use Rattle.cpu_state.specs.Bytes.{Stands}
@@ -26,34 +26,33 @@ use Rattle.site_turns.specs.Laws.{five, AreSites, EventsAreNumbered}
 use Rattle.site_turns.specs.Folded.{done_by, in_code, IsFolded}
 use Rattle.site_turns.specs.Loaded.{AreShown}
 use Rattle.site_turns.specs.Jobs.{patch_of, AreTurnsOf}
-use Rattle.thread_runs.specs.ThreadCode.{code_if}
-use Rattle.site_turns.specs.Modes.{can_in_threads}
+use Rattle.thread_runs.specs.ThreadCode.{mark_at, mark_len, code_if}
+use Rattle.site_turns.specs.Modes.{can_in_threads, thread_action, thread_base, IsShared, thread_event_size, thread_event_of}
 use Rattle.thread_runs.specs.Theorem.{AreFollowed, GetOut}
 use Rattle.thread_runs.specs.TheoremWithDeliveries.{AreFollowedWith, GetOutWith}
 use Rattle.thread_runs.specs.Threading.{ThreadSite, Threading, IsThreadSound}
 
 -- The scene is one whose turns go by the rules for threads.
 pub record IsForThreads (g : Scene) : Type 0 where
-  pub event : g.event_size ≡ 32
+  pub event : g.event_size ≡ thread_event_size (thread_base g.action)
   pub can : g.can ≡ can_in_threads
 
--- The scene of a file whose turns go by the rules for threads: the private range is that of a
--- count.
-abbrev pub thread_scene : List ℕ → List ℕ → List Range → Extent → Scene
-thread_scene file starts reserves private = record {
+-- The scene of a file whose turns go by the rules for threads, with events that cover or count.
+abbrev pub thread_scene : Base → List ℕ → List ℕ → List Range → Extent → Scene
+thread_scene b file starts reserves private = record {
   image = image_of file;
   segments = segments file;
   entries = entries_of file starts;
-  action = Count;
-  event_size = 32;
+  action = thread_action b;
+  event_size = thread_event_size b;
   can = can_in_threads;
   private = private;
   shut = private ∷ taken_first (segments file) reserves;
 }
 
--- The site of a line, as threads have it.
-abbrev pub site_of : List StartEntry → Line → List ThreadSite
-site_of es l = option_to_list (option_map (λ e. record { number = l.number; entry = e; place = l.tramp.place; event = l.tramp.event }) (entry_at es l.tramp.start))
+-- The site of a line, as threads have it, whose event covers or counts.
+abbrev pub site_of : Base → List StartEntry → Line → List ThreadSite
+site_of b es l = option_to_list (option_map (λ e. record { number = l.number; entry = e; place = l.tramp.place; event = thread_event_of b l.tramp.event }) (entry_at es l.tramp.start))
 
 -- What was patched for threads, by the lines that the turns have done.
 abbrev pub threading_of : Scene → State → Bytes → ℕ → Threading
@@ -62,7 +61,7 @@ threading_of g t patched entry = record {
   patched = patched;
   entry = entry;
   listed = g.entries;
-  sites = flat_map (site_of g.entries) (done_by t).lines;
+  sites = flat_map (site_of (thread_base g.action) g.entries) (done_by t).lines;
   private = g.private.lo;
 }
 
@@ -74,14 +73,14 @@ pub record IsThreadLine (g : Scene) (t : State) (l : Line) : Type 0 where
   pub alone : (e : StartEntry) → entry_at g.entries l.tramp.start ≡ Some e → e.shared ≡ false
   pub leads : Leads (memory_at g t) g.entries l.tramp.start l.tramp.place
 
--- Each line has a counter in the private range.
-abbrev pub HaveCounters : Scene → List Line → Type 0
-HaveCounters g ls = AllByRecursion (λ l. g.private.lo + 72 + 8 * l.number ≤ g.private.hi) ls
+-- What the event of each line marks, its counter or its byte, lies in the private range.
+abbrev pub HaveMarks : Scene → List Line → Type 0
+HaveMarks g ls = AllByRecursion (λ l. mark_at (thread_base g.action) g.private.lo l.number + mark_len (thread_base g.action) ≤ g.private.hi) ls
 
 -- P holds of a line's place and code, whatever the line's instruction is.
 abbrev pub OfCode : Scene → (ℕ → List ℕ → Type 0) → Line → Type 0
 OfCode g P l = (f : Fields) (next : ℕ) → IsInstruction f → Stands g.image l.tramp.start (spelling f) → next ≡ l.tramp.start + length (spelling f)
-    → P l.tramp.place (code_if l.tramp.event g.private.lo l.number f next l.tramp.place)
+    → P l.tramp.place (code_if (thread_event_of (thread_base g.action) l.tramp.event) g.private.lo l.number f next l.tramp.place)
 
 -- Loaded are memory as it stands, the code of threads at each place, at new addresses, and the
 -- private range of zeros.
@@ -90,7 +89,7 @@ pub record IsThreadLoaded (g : Scene) (t : State) (patched : Bytes) : Type 0 whe
   pub code : AllByRecursion (OfCode g (AreShown patched)) (done_by t).lines
   pub fresh : AllByRecursion (λ l. (x : ℕ) → in_code g x l ≡ true → g.image x ≡ None) (done_by t).lines
   pub zeros : (x : ℕ) → g.private.lo ≤ x → x < g.private.hi → (patched x ≡ Some (record { byte = 0; perms = 6 })) × (g.image x ≡ None)
-  pub room : HaveCounters g (done_by t).lines
+  pub room : HaveMarks g (done_by t).lines
   pub high : g.private.hi ≤ 0x7FFF0000
 
 -- What the turns for threads have done is sound for threads once it is loaded.
@@ -106,13 +105,13 @@ TurnsForThreads = (g : Scene) (sites : List StartEntry) (choices : List Choice) 
     → AllByRecursion (IsThreadLine g (state_after g (first_state g) sites choices)) (done_by (state_after g (first_state g) sites choices)).lines
     × EventsAreNumbered (done_by (state_after g (first_state g) sites choices)).lines
 
--- The private range of a count has room for each line's counter.
-abbrev pub CountersHaveRoom : Type 0
-CountersHaveRoom = (g : Scene) (taken : List Extent) (sites : List StartEntry) (choices : List Choice) → IsPrivate taken Count (length sites) g.private
-    → IsTurns g five (first_state g) sites choices → HaveCounters g (done_by (state_after g (first_state g) sites choices)).lines
+-- The private range has room for what the event of each line marks.
+abbrev pub MarksHaveRoom : Type 0
+MarksHaveRoom = (g : Scene) (taken : List Extent) (sites : List StartEntry) (choices : List Choice) → IsShared g.action → IsPrivate taken g.action (length sites) g.private
+    → IsTurns g five (first_state g) sites choices → HaveMarks g (done_by (state_after g (first_state g) sites choices)).lines
 
--- Once what the turns have done is loaded, the patched guest runs as the original does and counts,
--- and its threads get out of the trampolines, with deliveries and without.
+-- Once what the turns have done is loaded, the patched guest runs as the original does and counts or
+-- covers, and its threads get out of the trampolines, with deliveries and without.
 abbrev pub TurnsAreThreaded : Type 0
 TurnsAreThreaded = (g : Scene) (sites : List StartEntry) (choices : List Choice) (patched : Bytes) (entry : ℕ) → AreEntries g.image g.entries → IsForThreads g → AreSites g sites
     → IsTurns g five (first_state g) sites choices → IsThreadLoaded g (state_after g (first_state g) sites choices) patched
@@ -130,7 +129,7 @@ pub record IsThreadJobOf (g : Scene) (t : State) (j : Job) : Type 0 where
 -- A map that shows the job of the turns for threads loads what they have done.
 abbrev pub ThreadJobLoads : Type 0
 ThreadJobLoads = (g : Scene) (t : State) (m : Bytes) (j : Job) → AreEntries g.image g.entries → IsFolded g t → IsForThreads g → AllByRecursion (IsThreadLine g t) (done_by t).lines
-    → HaveCounters g (done_by t).lines → IsJob j → Shows j m → IsThreadJobOf g t j → IsThreadLoaded g t m
+    → HaveMarks g (done_by t).lines → IsJob j → Shows j m → IsThreadJobOf g t j → IsThreadLoaded g t m
 
 -- The file that is written for the turns of a file's sites, by all five schemes, runs with any number of threads as the original does, and
 -- counts; it starts where the original does.
@@ -146,10 +145,10 @@ pub record IsThreaded (g : Scene) (t : State) (m : Bytes) (j : Job) : Type 0 whe
 -- Each memory that shows the job of a file's turns runs with any number of threads as the original
 -- does, and counts.
 abbrev pub WrittenIsThreaded : Type 0
-WrittenIsThreaded = (low : ℕ) (file starts : List ℕ) (reserves : List Range) (private : Extent) (sites : List StartEntry) (choices : List Choice) (m : Bytes) (j : Job)
-    → AreStarts low file starts → AreTurnsOf (thread_scene file starts reserves private) (taken_first (segments file) reserves) five sites choices
+WrittenIsThreaded = (b : Base) (low : ℕ) (file starts : List ℕ) (reserves : List Range) (private : Extent) (sites : List StartEntry) (choices : List Choice) (m : Bytes) (j : Job)
+    → AreStarts low file starts → AreTurnsOf (thread_scene b file starts reserves private) (taken_first (segments file) reserves) five sites choices
     → IsJob j → Shows j m
-    → IsThreadJobOf (thread_scene file starts reserves private)
-    (state_after (thread_scene file starts reserves private) (first_state (thread_scene file starts reserves private)) sites choices) j
-    → IsThreaded (thread_scene file starts reserves private)
-    (state_after (thread_scene file starts reserves private) (first_state (thread_scene file starts reserves private)) sites choices) m j
+    → IsThreadJobOf (thread_scene b file starts reserves private)
+    (state_after (thread_scene b file starts reserves private) (first_state (thread_scene b file starts reserves private)) sites choices) j
+    → IsThreaded (thread_scene b file starts reserves private)
+    (state_after (thread_scene b file starts reserves private) (first_state (thread_scene b file starts reserves private)) sites choices) m j

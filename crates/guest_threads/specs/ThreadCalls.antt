@@ -1,8 +1,9 @@
 -- What a call of `rewrite_threads` or `rewrite_threads_reported` knows once the sites are planned, and once the file is written. Theorems cite it.
 use Rattle.std.specs.Prelude.{◌≡◌, List, ℕ, Result, Ok, Err}
 use Rattle.pun_base.specs.Shown.{DeskState}
-use Rattle.pun_base.specs.declared.action.Action.TheVariants.{Count}
+use Rattle.pun_base.specs.declared.action.Base.{Base}
 use Rattle.pun_base.specs.declared.range.Range.{Range}
+use Rattle.site_turns.specs.Modes.{thread_action, IsShared}
 use Rattle.site_turns.specs.PlannedState.{PlannedState}
 use Rattle.site_turns.specs.Planning.{Request, Turns}
 use Rattle.rewrite_core.specs.Asked.{Asked}
@@ -12,21 +13,21 @@ use Rattle.rewrite_core.specs.Patching.{IsCallBy, IsPatchFor, EmitsPlanned}
 use Rattle.guest_threads.specs.ThreadPlanning.{IsThreadPlanned}
 use Rattle.guest_threads.specs.ThreadRewriting.{RewritesThreads}
 
--- What is asked of a rewriting where each event counts.
-abbrev pub counting : (file starts sites : List ℕ) → List Range → Asked
-counting file starts sites reserves =
-    record { file = file; starts = starts; sites = sites; action = Count; reserves = reserves }
+-- What is asked of a rewriting where each event does this.
+abbrev pub sharing : Base → (file starts sites : List ℕ) → List Range → Asked
+sharing base file starts sites reserves =
+    record { file = file; starts = starts; sites = sites; action = thread_action base; reserves = reserves }
 
--- What was planned for threads, where each event counts.
-pub record IsCountPlanned (q : Request) (t : Turns) (p : PlannedState) : Type 0 where
-  pub count : q.action ≡ Count
+-- What was planned for threads, where events cover or count.
+pub record IsSharedPlanned (q : Request) (t : Turns) (p : PlannedState) : Type 0 where
+  pub shared : IsShared q.action
   pub planned : IsThreadPlanned q t p
 
 -- The patch is one of what was planned for what is asked, and the name holds its file.
 pub record IsWritten (a : Asked) (name : List ℕ) (s t : DeskState) (patch : Patch) : Type 0 where
   pub turns : Turns
   pub planned : PlannedState
-  pub call : IsCallBy IsCountPlanned a turns planned
+  pub call : IsCallBy IsSharedPlanned a turns planned
   pub patch_for : IsPatchFor planned patch
   pub emitted : EmitsPlanned a.file planned patch.groups name s t (Ok tt)
 

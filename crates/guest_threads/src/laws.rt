@@ -1,5 +1,5 @@
 //! What holds of the files that are written for guests of several threads.
-ghost use Rattle.guest_threads.specs.FromTurns.{FoldedIsThreadSound, TurnsForThreads, CountersHaveRoom, TurnsAreThreaded, ThreadJobLoads, WrittenIsThreaded};
+ghost use Rattle.guest_threads.specs.FromTurns.{FoldedIsThreadSound, TurnsForThreads, MarksHaveRoom, TurnsAreThreaded, ThreadJobLoads, WrittenIsThreaded};
 ghost use Rattle.rewrite_core.specs.Laws.{AreJudgedOnce};
 ghost use Rattle.guest_threads.specs.ThreadRewriting.{Judges};
 ghost use Rattle.guest_threads.specs.WorkedFile.{RowIsThreaded};
@@ -18,19 +18,21 @@ pub fn folded_is_thread_sound()
     ensures { FoldedIsThreadSound }
 {}
 
-/// After the turns of all five schemes one jump or two lead to each trampoline, the numbers of events differ, and each has a counter.
+/// After the turns of all five schemes one jump or two lead to each trampoline, the numbers of events differ, and each has room
+/// for what it marks.
 pub fn turns_for_threads()
     ensures jumps { TurnsForThreads }
-    ensures room { CountersHaveRoom }
+    ensures room { MarksHaveRoom }
 {}
 
 /// Once what the turns have done is loaded, the patched guest runs as the original does, and
-/// counts.
+/// counts or covers.
 pub fn turns_are_threaded()
     ensures { TurnsAreThreaded }
 {}
 
-/// The file that is written for the turns loads what they have done: with any number of threads it runs as the original does, and counts.
+/// The file that is written for the turns loads what they have done: with any number of threads it runs as the original does, and counts
+/// or covers.
 pub fn written_is_threaded()
     ensures loads { ThreadJobLoads }
     ensures followed { WrittenIsThreaded }

@@ -1,19 +1,20 @@
 //! What is planned for a guest of several threads.
 ghost use Rattle.std.specs.Prelude.{◌≤◌, length, IfOk, IfErr};
 ghost use Rattle.std.specs.List.Sorted.{IsStrictlyIncreasing};
-ghost use Rattle.pun_base.specs.declared.action.Action.TheVariants.{Count};
 ghost use Rattle.pun_base.specs.Limits.{most_sites};
 ghost use Rattle.start_entries.specs.Laws.{IsBuilt};
+ghost use Rattle.site_turns.specs.Modes.{thread_action};
 ghost use Rattle.site_turns.specs.Planning.{Turns, IsRequestRefused};
 ghost use Rattle.guest_threads.specs.ThreadPlanning.{IsThreadPlanned, CanBuildThread, code_in};
 
 use code_bytes::code::Code;
 use elf_read::elf::Elf;
+use pun_base::action::Base;
 use pun_base::range::Range;
 use pun_base::tramp::Tramp;
 use site_turns::building::{Coding, build_all};
 use site_turns::error::TurnError;
-use site_turns::mode::Mode;
+use site_turns::mode::{Mode, thread_event_of};
 use site_turns::plan::{TurnedSites, turn_sites};
 use site_turns::planned::Planned;
 use site_turns::start_insn::insn_at;
@@ -21,10 +22,11 @@ use start_entries::starts::Starts;
 use std::alloc::Global;
 use thread_runs::thread_trampoline;
 
-/// What the code of trampolines for threads is made of: the original, its starts, and the private
-/// range.
+/// What the code of trampolines for threads is made of: what events do, the original, its starts, and
+/// the private range.
 #[derive(Clone, Copy)]
 pub(crate) struct ThreadSetting<'a> {
+    pub(crate) base: Base,
     pub(crate) elf: &'a Elf<'a>,
     pub(crate) starts: &'a Starts,
     pub(crate) private: Range,
@@ -40,7 +42,7 @@ impl Coding for ThreadSetting<'_> {
             unreachable!();
         };
         thread_trampoline(
-            tramp.event,
+            thread_event_of(self.base, tramp.event),
             at.insn,
             at.bytes,
             at.entry.addr,
@@ -53,7 +55,7 @@ impl Coding for ThreadSetting<'_> {
 }
 
 /// Plans each site for a guest of several threads, from the highest to the lowest: the site gets a
-/// jump to new code, or is left. A victim's code has no event.
+/// jump to new code, whose event covers or counts, or is left. A victim's code has no event.
 ///
 /// `sites` are addresses in ascending order, and no new code stands in the reserved ranges.
 pub fn plan_threads(
@@ -61,6 +63,7 @@ pub fn plan_threads(
     elf: &Elf<'_>,
     starts: &Starts,
     sites: &[u32],
+    base: Base,
     reserves: &[Range],
 ) -> Result<Planned, TurnError>
     requires ascend { IsStrictlyIncreasing sites.now }
@@ -70,14 +73,14 @@ pub fn plan_threads(
       file = elf.now.bytes;
       listed = starts.now;
       sites = sites.now;
-      action = Count;
+      action = thread_action base;
       reserves = reserves.now;
     }) turns p) }
     ensures refused { IfErr result (λ error. IsRequestRefused (record {
       file = elf.now.bytes;
       listed = starts.now;
       sites = sites.now;
-      action = Count;
+      action = thread_action base;
       reserves = reserves.now;
     }) error) }
 {
@@ -86,10 +89,11 @@ pub fn plan_threads(
         elf,
         starts,
         sites,
-        Mode::Threads,
+        Mode::Threads(base),
         reserves,
     )?;
     let setting = ThreadSetting {
+        base,
         elf,
         starts,
         private,

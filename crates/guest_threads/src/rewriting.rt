@@ -2,24 +2,25 @@
 ghost use Rattle.std.specs.Prelude.{◌≡◌, ◌^◌, ◌<◌, ◌≤◌, None, length};
 ghost use Rattle.std.specs.List.Sorted.{IsStrictlyIncreasing};
 ghost use Rattle.pun_base.specs.Desk.{Stays};
-ghost use Rattle.pun_base.specs.declared.action.Action.TheVariants.{Count};
 ghost use Rattle.pun_base.specs.Limits.{most_sites};
 ghost use Rattle.elf_read.specs.Refusals.{refusal};
 ghost use Rattle.rewrite_core.specs.Asked.{IsInOrder};
 ghost use Rattle.rewrite_core.specs.Patching.{PlansBy};
-ghost use Rattle.guest_threads.specs.ThreadCalls.{counting, IsCountPlanned, WritesThreads};
+ghost use Rattle.site_turns.specs.Modes.{thread_action};
+ghost use Rattle.guest_threads.specs.ThreadCalls.{sharing, IsSharedPlanned, WritesThreads};
 ghost use Rattle.guest_threads.specs.ThreadRewriting.{RewritesThreads, ReportsThreads};
 
 use crate::planning::plan_threads;
 use elf_read::elf::{Elf, read_elf};
 use patch_report::report::Report;
 use patch_report::row::ReportRow;
-use pun_base::action::Action;
+use pun_base::action::Base;
 use pun_base::desk::Desk;
 use pun_base::range::Range;
 use rewrite_core::original::origin_of;
 use rewrite_core::patching::Patch;
 use rewrite_core::rewrite::write_patch;
+use site_turns::mode::Mode;
 use site_turns::planned::Planned;
 use start_entries::starts::Starts;
 use std::alloc::Global;
@@ -30,8 +31,8 @@ pub use rewrite_core::rewrite::RewriteError as ThreadError;
 /// The rows of a patched file: one for each site, in turn order, the highest site first.
 pub type ReportRows = Vec<ReportRow>;
 
-/// What was patched: the private range, in which the counters stand from offset 64 on, and what
-/// became of each site.
+/// What was patched: the private range, in which the counters or bytes stand from offset 64 on, and
+/// what became of each site.
 #[derive(Drop)]
 pub struct ThreadReport {
     pub private: Range,
@@ -39,22 +40,23 @@ pub struct ThreadReport {
 }
 
 /// Builds the starts of a file that was read, and plans each site for a guest of several threads,
-/// where each event counts.
+/// where events cover or count.
 pub fn plan_thread_file(
     alloc: Global,
     elf: &Elf<'_>,
     starts: &[u32],
     sites: &[u32],
+    base: Base,
     reserves: &[Range],
 ) -> Result<Planned, ThreadError>
-    requires order { IsInOrder (counting elf.now.bytes starts.now sites.now reserves.now) }
+    requires order { IsInOrder (sharing base elf.now.bytes starts.now sites.now reserves.now) }
     requires size { length elf.now.bytes < 2 ^ 63 }
     requires accepted { refusal 0x20000 elf.now.bytes ≡ None }
-    ensures { PlansBy IsCountPlanned
-        (counting elf.now.bytes starts.now sites.now reserves.now) result }
+    ensures { PlansBy IsSharedPlanned
+        (sharing base elf.now.bytes starts.now sites.now reserves.now) result }
 {
     let listed = Starts::build(alloc, elf, starts)?;
-    let planned = plan_threads(alloc, elf, &listed, sites, reserves)?;
+    let planned = plan_threads(alloc, elf, &listed, sites, base, reserves)?;
     Ok(planned)
 }
 
@@ -64,24 +66,25 @@ fn write_threads<D: Desk>(
     elf: &Elf<'_>,
     starts: &[u32],
     sites: &[u32],
+    base: Base,
     reserves: &[Range],
     name: &str,
     desk: &mut D,
 ) -> Result<Patch, ThreadError>
-    requires order { IsInOrder (counting elf.now.bytes starts.now sites.now reserves.now) }
+    requires order { IsInOrder (sharing base elf.now.bytes starts.now sites.now reserves.now) }
     requires size { length elf.now.bytes < 2 ^ 63 }
     requires accepted { refusal 0x20000 elf.now.bytes ≡ None }
     requires nothing { (D.seen desk.old).writing ≡ None }
-    ensures writes { WritesThreads (counting elf.now.bytes starts.now sites.now reserves.now)
+    ensures writes { WritesThreads (sharing base elf.now.bytes starts.now sites.now reserves.now)
         name.now (D.seen desk.old) (D.seen desk.new) result }
     ensures stays { Stays (D.seen desk.old) (D.seen desk.new) }
 {
-    let planned = plan_thread_file(alloc, elf, starts, sites, reserves)?;
+    let planned = plan_thread_file(alloc, elf, starts, sites, base, reserves)?;
     write_patch(alloc, elf, planned, name, desk)
 }
 
 /// Writes the file that is patched for a guest of several threads under a name, in pieces of 4,096
-/// bytes: each patched site counts, and no thread's count is lost.
+/// bytes: each patched site counts, and no thread's count is lost, or it covers.
 ///
 /// `file` is the original, `starts` and `sites` are addresses in ascending order, and no new code
 /// stands in the reserved ranges.
@@ -90,6 +93,7 @@ pub fn rewrite_threads<D: Desk>(
     file: &[u8],
     starts: &[u32],
     sites: &[u32],
+    base: Base,
     reserves: &[Range],
     name: &str,
     desk: &mut D,
@@ -102,13 +106,13 @@ pub fn rewrite_threads<D: Desk>(
       file = file.now;
       starts = starts.now;
       sites = sites.now;
-      action = Count;
+      action = thread_action base;
       reserves = reserves.now;
     }) name.now (D.seen desk.old) (D.seen desk.new) result }
     ensures stays { Stays (D.seen desk.old) (D.seen desk.new) }
 {
     let elf = read_elf(alloc, file)?;
-    let patch = write_threads(alloc, &elf, starts, sites, reserves, name, desk)?;
+    let patch = write_threads(alloc, &elf, starts, sites, base, reserves, name, desk)?;
     let Patch {
         private,
         rows,
@@ -129,6 +133,7 @@ pub fn rewrite_threads_reported<D: Desk>(
     file: &[u8],
     starts: &[u32],
     sites: &[u32],
+    base: Base,
     reserves: &[Range],
     name: &str,
     desk: &mut D,
@@ -141,14 +146,15 @@ pub fn rewrite_threads_reported<D: Desk>(
       file = file.now;
       starts = starts.now;
       sites = sites.now;
-      action = Count;
+      action = thread_action base;
       reserves = reserves.now;
     }) name.now (D.seen desk.old) (D.seen desk.new) result }
     ensures stays { Stays (D.seen desk.old) (D.seen desk.new) }
 {
     let elf = read_elf(alloc, file)?;
-    let patch = write_threads(alloc, &elf, starts, sites, reserves, name, desk)?;
+    let patch = write_threads(alloc, &elf, starts, sites, base, reserves, name, desk)?;
     let origin = origin_of(&elf);
-    let report = patch.into_report(alloc, Action::Count, origin)?;
+    let action = Mode::Threads(base).action();
+    let report = patch.into_report(alloc, action, origin)?;
     Ok(report)
 }

@@ -10,10 +10,10 @@ unreachable-requires c =
 pub unwrap-requires : goal.unwrap-requires
 unwrap-requires c =
     let at = c.in-Some.ensures.at in
-    built_ok c.args.tramp.now.event c.in-Some.at.entry.now c.in-Some.at.insn.now _ c.thread_trampoline.result (c.requires.can c.in-Some.at.entry.now at.at) at.form
+    built_ok c.thread_event_of.result c.in-Some.at.entry.now c.in-Some.at.insn.now _ c.thread_trampoline.result (c.requires.can c.in-Some.at.entry.now at.at) at.form
     (taken_len _ _ _ _ _ _ c.requires.set.accepted c.requires.set.own at) c.thread_trampoline.ensures.size
 
 pub returns-clause-code : goal.returns-clause-code
 returns-clause-code c =
-    has_code _ _ _ _ _ (line_at c.args.number c.args.tramp.now) c.args.self.now.private.lo c.unwrap.result c.thread_trampoline.result
-    c.requires.set.accepted c.requires.set.own c.in-Some.ensures.at c.unwrap.ensures c.thread_trampoline.ensures.code
+    has_code c.args.self.now.base c.thread_event_of.result _ _ _ _ _ (line_at c.args.number c.args.tramp.now) c.args.self.now.private.lo c.unwrap.result c.thread_trampoline.result
+    c.requires.set.accepted c.requires.set.own c.in-Some.ensures.at c.thread_event_of.ensures c.unwrap.ensures c.thread_trampoline.ensures.code

@@ -3,6 +3,7 @@ use Rattle.std.proofs.Common.{◌≡◌, inl, inr, ℕ, ◌+◌, ◌<◌, false,
 use Rattle.std.specs.Option.{is_some, option_map}
 use Rattle.std.proofs.lemmas.Option.{slice_get-map, slice_get-get_or}
 use Rattle.pun_base.specs.Memory.{Bytes}
+use Rattle.pun_base.specs.declared.action.Base.{Base}
 use Rattle.cpu_state.specs.Bytes.{Stands}
 use Rattle.elf_read.specs.Image.{image_of}
 use Rattle.elf_read.specs.Refusals.{refusal}
@@ -29,6 +30,7 @@ use Rattle.image_check.proofs.CodeAtStarts.{IsReadAt, read_at, found_address}
 use Rattle.image_check.proofs.ReportLines.{number_low, place_low}
 use Rattle.site_turns.specs.StartInsns.{form_from, form_at, IsInsnAt}
 use Rattle.site_turns.proofs.TrampolineCodes.{taken_len, taken_spelled}
+use Rattle.site_turns.specs.Modes.{thread_base, thread_event_of}
 use Rattle.thread_runs.specs.Building.{size_if}
 use Rattle.thread_runs.specs.ThreadCode.{event_len, event_if, thread_work, code_if}
 use Rattle.thread_runs.proofs.WorkSize.{told}
@@ -43,11 +45,12 @@ mapped_from f None n h = absurd cc
 mapped_from f (Some k) n h = (k, refl)
 
 -- the code that is built of what is taken of the file
-pub built : (c : Case) (l : Line) (file : List ℕ) (e : StartEntry) (i : Insn) (bs code : List ℕ) (private : ℕ)
+pub built : (event : Option Base) (c : Case) (l : Line) (file : List ℕ) (e : StartEntry) (i : Insn) (bs code : List ℕ) (private : ℕ)
+    → event ≡ thread_event_of (thread_base c.report.action) l.tramp.event
     → refusal 0x10000 file ≡ None → IsBuilt file c.listed → c.original ≡ image_of file → IsInsnAt file c.listed l.tramp.start e i bs → e.shared ≡ false → private ≡ c.report.private.0
-    → ((f : Fields) → IsInstruction f → bs ≡ spelling f → code ≡ code_if l.tramp.event private l.number f (e.addr + length bs) l.tramp.place)
-    → size_if l.tramp.event i (length bs) e.addr ≡ Some (length code) → IsThreadCode c l code
-built c l file e i bs code private accepted own o got alone p k s =
+    → ((f : Fields) → IsInstruction f → bs ≡ spelling f → code ≡ code_if event private l.number f (e.addr + length bs) l.tramp.place)
+    → size_if event i (length bs) e.addr ≡ Some (length code) → IsThreadCode c l code
+built event c l file e i bs code private same accepted own o got alone p k s =
     let q : IsReadAt file e i = read_at file c.listed l.tramp.start e i accepted own got.at got.form in
     let spelled = taken_spelled file c.listed l.tramp.start e i bs accepted own got in
     let size : length bs ≡ e.len = taken_len file c.listed l.tramp.start e i bs accepted own got in
@@ -57,11 +60,11 @@ built c l file e i bs code private accepted own o got alone p k s =
     let low = q.low in
     let long_is = q.size in
     let next : e.addr + length bs ≡ next_after e.addr q.fields = omega (arith, size, low, long_is) in
-    let event = event_if l.tramp.event private l.number in
-    let work = thread_work q.fields (e.addr + length bs) (l.tramp.place + event_len l.tramp.event) in
-    let longer : 0 < length work = work_long q.fields (e.addr + length bs) (l.tramp.place + event_len l.tramp.event) w.0 e.len e.addr q.is q.size
+    let front = event_if event private l.number in
+    let work = thread_work q.fields (e.addr + length bs) (l.tramp.place + event_len event) in
+    let longer : 0 < length work = work_long q.fields (e.addr + length bs) (l.tramp.place + event_len event) w.0 e.len e.addr q.is q.size
     (ap (λ (x : Insn). thread_len x e.len e.addr) (sym q.insn) ∙ long) in
-    let written : length code ≡ length (event ++ work) = ap length (k q.fields q.is spelled) in
+    let written : length code ≡ length (front ++ work) = ap length (k q.fields q.is spelled) in
     record {
       moved = ap (λ (z : Option StartEntry). is_some (moved_from z)) got.at ∙ ap (λ (z : Option Insn). is_some (can_by z e.len e.addr)) got.form
           ∙ ap (λ z. is_some (option_map (λ n. n + back i) z)) long;
@@ -73,10 +76,10 @@ built c l file e i bs code private accepted own o got alone p k s =
             (subst (λ (x : ℕ). Stands (image_of file) x (spelling q.fields)) a q.stands);
         displaced = ap is_some (ap displaced_from got.at ∙ ap (λ (z : Option Insn). displaced_by z e.len e.addr) got.form
             ∙ (told (is_atomic i) (displaced_len i e.len e.addr) w.0 long).1);
-        is = k q.fields q.is spelled ∙ (λ j. code_if l.tramp.event (p j) l.number q.fields (next j) l.tramp.place)
-            ∙ ap (λ z. code_if l.tramp.event c.report.private.0 l.number q.fields (next_after z q.fields) l.tramp.place) a;
+        is = k q.fields q.is spelled ∙ (λ j. code_if (same j) (p j) l.number q.fields (next j) l.tramp.place)
+            ∙ ap (λ z. code_if (thread_event_of (thread_base c.report.action) l.tramp.event) c.report.private.0 l.number q.fields (next_after z q.fields) l.tramp.place) a;
       };
-      some = omega (arith, written, length-append event work, longer);
+      some = omega (arith, written, length-append front work, longer);
     }
 
 -- where nothing is built, the instruction can't be displaced

@@ -6,6 +6,7 @@ use Rattle.std.specs.List.{list_any}
 use Rattle.std.proofs.lemmas.Bool.{cases_order, and_parts, and_from, or_cases, or_right, eqb-true, leb-true, ltb-true, le-leb, lt-ltb, false_from_ne_true, false≢true, true≢false}
 use Rattle.std.proofs.lemmas.Option.{slice_get-map}
 use Rattle.pun_base.specs.Memory.{Cell}
+use Rattle.site_turns.specs.Modes.{IsShared}
 use Rattle.pun_base.specs.declared.action.Action.{Action}
 use Rattle.pun_base.specs.declared.action.Action.TheVariants.{Cover, Count, Ring, When}
 use Rattle.length_decode.specs.Spelling.{Fields}
@@ -33,7 +34,7 @@ use Rattle.thread_check.specs.declared.places.ThreadCode.{ThreadCode}
 use Rattle.thread_check.specs.ThreadRules.{moved_from, ThreadLineFails, ThreadEntryFails, thread_coding, ThreadCodeFails, ThreadFails}
 use Rattle.thread_check.specs.ThreadVerdict.{IsThreadVerdict}
 use Rattle.thread_check.specs.ThreadSoundness.{IsThreadCaseFollowed}
-use Rattle.thread_check.specs.LineParts.{is_new_code, IsSoundLine, IsBrokenLine, IsLineFailure, IsSoundCode, in_code, first_overlap, AreSoundLines, IsLinesVerdict, IsSoundImage, ImageFails, IsImageVerdict, first_failure, counts, whole}
+use Rattle.thread_check.specs.LineParts.{is_new_code, IsSoundLine, IsBrokenLine, IsLineFailure, IsSoundCode, in_code, first_overlap, AreSoundLines, IsLinesVerdict, IsSoundImage, ImageFails, IsImageVerdict, first_failure, is_shared, whole}
 use Rattle.thread_check.proofs.LandingJumps.{leads_too, leads_for}
 use Rattle.thread_check.proofs.HeldCode.{IsHeld, each_held, one_broken}
 use Rattle.thread_check.proofs.PlacesApart.{HaveBytes, in_one, in_two}
@@ -234,8 +235,8 @@ module _ (c : Case) (M : IsSoundImage c) where
       code_holds i x at (inr (inr e)) =
           let h = byte_held i x at in true≢false (sym (a_page x (slice_index at.code (x - at.line.tramp.place)) h.0 h.1) ∙ e)
 
-      -- where the action is to count, no rule fails
-      pub all_hold : c.report.action ≡ Count → (rule x : ℕ) → ThreadFails c rule x → ⊥
+      -- where threads can get the events of the action, no rule fails
+      pub all_hold : IsShared c.report.action → (rule x : ℕ) → ThreadFails c rule x → ⊥
       all_hold action rule x (inl h) = M.bytes x h.1
       all_hold action rule x (inr (inl h)) = M.writes x h.1
       all_hold action rule x (inr (inr (inl h))) = rule_3 x h.1
@@ -249,8 +250,8 @@ module _ (c : Case) (M : IsSoundImage c) where
       inr (inr (inl (k.0, (l, contains_at (lines c.report) h.0 l h.1, sym k.1, subst (λ (z : ℕ). ThreadLineFails c z l) (sym k.1) k.2))))
   line_fails l addr rule h (inr k) = inr (inr (inr (inl (k.0, broken_fails h.0 l addr h.1 k.1))))
 
-  -- the verdict of the trampolines is the verdict, where the action is to count
-  pub verdict_of : c.report.action ≡ Count → (v : Verdict) → IsLinesVerdict c v → IsThreadVerdict c v
+  -- the verdict of the trampolines is the verdict, where threads can get the events of the action
+  pub verdict_of : IsShared c.report.action → (v : Verdict) → IsLinesVerdict c v → IsThreadVerdict c v
   verdict_of action Yes h = all_hold h.0 h.1 h.2 action
   verdict_of action (No addr rule) (inl k) = line_fails k.0 addr rule (place_of (lines c.report) k.0 k.1) k.2
   verdict_of action (No addr rule) (inr k) = inr (inr (inr (inl (k.0, overlap_fails k.1.0 k.1.1 addr k.1.2))))
@@ -296,26 +297,29 @@ image_verdict c None None None (Some x) entry h i j k l = inr (inr (inr (inl (re
 image_verdict c None None None None (Some x) h i j k l = inr (inr (inr (inr (refl, l.0))))
 image_verdict c None None None None None h i j k l = record { bytes = h; writes = i; entries = l; ranges = j; sites = k }
 
--- an action is to count or isn't
-to_count : (a : Action) → counts a ≡ true → a ≡ Count
-to_count Count h = refl
-to_count Cover h = absurd cc
-to_count (Ring len) h = absurd cc
-to_count (When b list) h = absurd cc
+-- threads can get the events of an action or can't
+shared_is : (a : Action) → is_shared a ≡ true → IsShared a
+shared_is Count h = refl
+shared_is Cover h = refl
+shared_is (Ring len) h = absurd cc
+shared_is (When b list) h = absurd cc
 
--- where it isn't, it is another one
-not_to_count : (a : Action) → counts a ≡ false → a ≢ Count
-not_to_count a h = λ e. true≢false (sym (ap counts e) ∙ h)
+-- where they can't, it is another action
+not_shared : (a : Action) → is_shared a ≡ false → IsShared a → ⊥
+not_shared Count h s = absurd cc
+not_shared Cover h s = absurd cc
+not_shared (Ring len) h s = absurd cc
+not_shared (When b list) h s = absurd cc
 
 -- the verdict of all parts is the verdict
 pub whole_verdict : (c : Case) (low : ℕ) (v w : Verdict) → low ≡ c.report.private.0 → IsImageVerdict c v → IsLinesVerdict c w
-    → IsThreadVerdict c (whole (counts c.report.action) low v w)
+    → IsThreadVerdict c (whole (is_shared c.report.action) low v w)
 whole_verdict c low (No addr rule) w e h k = image_fails c addr rule h
-whole_verdict c low Yes w e h k = by_action (counts c.report.action) refl
+whole_verdict c low Yes w e h k = by_action (is_shared c.report.action) refl
   where
-    by_action : (b : Bool) → counts c.report.action ≡ b → IsThreadVerdict c (whole b low Yes w)
-    by_action true f = verdict_of c h (to_count c.report.action f) w k
-    by_action false f = inr (inr (inr (inr (inr (refl, inr (e, not_to_count c.report.action f))))))
+    by_action : (b : Bool) → is_shared c.report.action ≡ b → IsThreadVerdict c (whole b low Yes w)
+    by_action true f = verdict_of c h (shared_is c.report.action f) w k
+    by_action false f = inr (inr (inr (inr (inr (refl, inr (e, not_shared c.report.action f))))))
 
 -- where the verdict is Yes, the patched file is followed
 pub yes_followed : (c : Case) (v : Verdict) → AreEntries c.original c.listed → IsTold c.report → IsThreadVerdict c v → v ≡ Yes → IsThreadCaseFollowed c

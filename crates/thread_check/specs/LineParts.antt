@@ -130,16 +130,16 @@ first_failure None None None (Some x) entry = No x 6
 first_failure None None None None (Some x) = No x 3
 first_failure None None None None None = Yes
 
--- An action is to count.
-abbrev pub counts : Action → Bool
-counts Count = true
-counts Cover = false
-counts (Ring len) = false
-counts (When b list) = false
+-- Threads can get the events of an action: it is to cover or to count.
+abbrev pub is_shared : Action → Bool
+is_shared Count = true
+is_shared Cover = true
+is_shared (Ring len) = false
+is_shared (When b list) = false
 
--- The verdict of these: of the rules of any patched file, of whether the action is to count, where
--- the private range begins at an address, and of the trampolines.
+-- The verdict of these: of the rules of any patched file, of whether threads can get the events of the
+-- action, where the private range begins at an address, and of the trampolines.
 abbrev pub whole : Bool → ℕ → Verdict → Verdict → Verdict
-whole counts low (No addr rule) lines = No addr rule
+whole shared low (No addr rule) lines = No addr rule
 whole true low Yes lines = lines
 whole false low Yes lines = No low 6

@@ -15,6 +15,7 @@ use image_check::flat::ReportLine;
 use image_check::jumps::jump_at;
 use image_check::verdict::Verdict;
 use patch_report::report::Report;
+use site_turns::mode::{thread_base, thread_event_of};
 use site_turns::start_insn::insn_at;
 use start_entries::starts::Starts;
 use thread_runs::thread_trampoline;
@@ -36,7 +37,7 @@ fn code_of(orig: &Elf<'_>, starts: &Starts, report: &Report, line: &ReportLine) 
     }
     let private = report.private().lo;
     match thread_trampoline(
-        line.tramp.event,
+        thread_event_of(thread_base(report.action()), line.tramp.event),
         at.insn,
         at.bytes,
         at.entry.addr,

@@ -89,25 +89,25 @@ fn judge_lines(
     }
 }
 
-/// Whether an action is to count.
-fn counts(action: Action) -> bool
-    ensures { result ≡ parts.counts action }
+/// Whether threads can get the events of an action: it is to cover or to count.
+fn is_shared(action: Action) -> bool
+    ensures { result ≡ parts.is_shared action }
 {
     match action {
-        Action::Count => true,
-        Action::Cover | Action::Ring { .. } | Action::When { .. } => false,
+        Action::Cover | Action::Count => true,
+        Action::Ring { .. } | Action::When { .. } => false,
     }
 }
 
-/// The verdict of these: of the rules of any patched file, of whether the action is to count, where
-/// the private range begins at `low`, and of the trampolines.
-fn whole(counts: bool, low: u64, image: Verdict, lines: Verdict) -> Verdict
-    ensures { result ≡ parts.whole counts low image lines }
+/// The verdict of these: of the rules of any patched file, of whether threads can get the events of the
+/// action, where the private range begins at `low`, and of the trampolines.
+fn whole(shared: bool, low: u64, image: Verdict, lines: Verdict) -> Verdict
+    ensures { result ≡ parts.whole shared low image lines }
 {
     match image {
         Verdict::No { addr, rule } => Verdict::No { addr, rule },
         Verdict::Yes => {
-            if counts {
+            if shared {
                 lines
             } else {
                 Verdict::No { addr: low, rule: 6 }
@@ -118,8 +118,8 @@ fn whole(counts: bool, low: u64, image: Verdict, lines: Verdict) -> Verdict
 
 /// Judges a file that is patched for threads by the six rules for threads. The starts are those of
 /// the original. Where the verdict is Yes, the patched file starts where the original does, and runs
-/// with any number of threads as the original does, and counts. Where it is No, the rule fails at the
-/// address.
+/// with any number of threads as the original does, and counts or covers. Where it is No, the rule fails
+/// at the address.
 pub fn check_threads(
     alloc: Global,
     orig: &Elf<'_>,
@@ -139,5 +139,5 @@ pub fn check_threads(
     let image = judge_image(alloc, &checked)?;
     let lines = judge_lines(alloc, orig, patched, starts, report)?;
     let low = u64::from(report.private().lo);
-    Ok(whole(counts(report.action()), low, image, lines))
+    Ok(whole(is_shared(report.action()), low, image, lines))
 }

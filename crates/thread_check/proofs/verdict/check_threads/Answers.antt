@@ -3,7 +3,7 @@ use Rattle.image_check.specs.Rules.{Case}
 use Rattle.image_check.specs.Verdict.{case_of}
 use Rattle.image_check.specs.declared.verdict.Verdict.{Verdict}
 use Rattle.image_check.proofs.CodeAtStarts.{entries_built}
-use Rattle.thread_check.specs.LineParts.{IsImageVerdict, counts, whole}
+use Rattle.thread_check.specs.LineParts.{IsImageVerdict, is_shared, whole}
 use Rattle.thread_check.specs.ThreadVerdict.{IsThreadVerdict}
 use Rattle.thread_check.proofs.VerdictsOfLines.{whole_verdict, yes_followed}
 use Rattle.thread_check.proofs.verdict.check_threads.Goals as goal
@@ -15,7 +15,7 @@ returns-clause-verdict c =
     let w = c.in_ok-lines.lines in
     let low = c.from-low.ensures ∙ ap (λ x. x.0) c.private.ensures in
     subst (λ (z : Verdict). IsThreadVerdict k z)
-    (sym (c.whole.ensures ∙ ap (λ b. whole b c.from-low.result v w) (c.counts.ensures ∙ ap counts c.action.ensures)))
+    (sym (c.whole.ensures ∙ ap (λ b. whole b c.from-low.result v w) (c.is_shared.ensures ∙ ap is_shared c.action.ensures)))
     (whole_verdict k c.from-low.result v w low (subst (λ (z : Case). IsImageVerdict z v) c.in_ok-checked.ensures c.in_ok-image.ensures)
     c.in_ok-lines.ensures)
 

@@ -3,7 +3,6 @@ use Rattle.std.proofs.Common.{◌≡◌, ℕ, List, ◌∷◌, Result, Ok, Err, 
 use Rattle.std.specs.List.{AllByRecursion}
 use Rattle.pun_base.specs.Memory.{Bytes}
 use Rattle.pun_base.specs.Shown.{DeskState}
-use Rattle.pun_base.specs.declared.action.Action.TheVariants.{Count}
 use Rattle.page_group.specs.Grouping.{GroupsState}
 use Rattle.insn_form.specs.Machine.{Machine}
 use Rattle.elf_read.specs.Entries.{entry_of}
@@ -15,7 +14,7 @@ use Rattle.patch_report.specs.declared.origin.Version.TheVariants.{Two}
 use Rattle.patch_report.specs.Values.{ReportValue, body_of, written}
 use Rattle.patch_report.specs.Grammar.{IsBody, IsReport, OriginFits}
 use Rattle.image_step.specs.Quiet.{IsStartPair}
-use Rattle.site_turns.specs.Modes.{thread_rules}
+use Rattle.site_turns.specs.Modes.{thread_rules, thread_base}
 use Rattle.site_turns.specs.PlannedState.{PlannedState}
 use Rattle.site_turns.specs.Planning.{Turns}
 use Rattle.site_turns.specs.PlanLaws.{AreGroups, report_under}
@@ -37,7 +36,7 @@ use Rattle.rewrite_loader.proofs.CallAnswers as loader
 use Rattle.rewrite_loader.proofs.CallAnswers.{told_of}
 use Rattle.thread_runs.specs.Guest.{Thread, thread_of}
 use Rattle.thread_runs.specs.Threading.{Threading}
-use Rattle.guest_threads.specs.ThreadCalls.{IsCountPlanned}
+use Rattle.guest_threads.specs.ThreadCalls.{IsSharedPlanned}
 use Rattle.guest_threads.specs.ThreadRewriting.{ThreadJob, IsThreadJobFor, writing_of}
 use Rattle.guest_threads.proofs.RewriteAnswers.{can_write, job, is_job, writes_job, told_plan, plan_report, shown_threaded}
 use Rattle.thread_loader.specs.Followed.{ThreadLoaderJob, threading_for, StartThreads, IsLoaderFollowedInThreads}
@@ -60,11 +59,11 @@ starts_threads r s u p =
     }
 
 -- where nothing is planned, that is the call's answer
-pub refused : (a : Asked) (name : List ℕ) (s : DeskState) (error : RewriteError) → PlansBy IsCountPlanned a (Err error)
+pub refused : (a : Asked) (name : List ℕ) (s : DeskState) (error : RewriteError) → PlansBy IsSharedPlanned a (Err error)
     → LoadsThreads a name s s (Err (Rewrite error))
-refused a name s error x = loader.unplanned IsThreadJobFor writing_of IsReported a name s s IsCountPlanned error refl x
+refused a name s error x = loader.unplanned IsThreadJobFor writing_of IsReported a name s s IsSharedPlanned error refl x
 
-module _ (a : Asked) (t : Turns) (p : PlannedState) (call : IsCallBy IsCountPlanned a t p) where
+module _ (a : Asked) (t : Turns) (p : PlannedState) (call : IsCallBy IsSharedPlanned a t p) where
   -- where the plan's file wasn't written, that is an answer
   pub not_written : (name : List ℕ) (s u : DeskState) (error : LoaderError) → WritesLoader a.file a.reserves p name s u (Err error)
       → LoadsThreads a name s u (Err error)
@@ -77,11 +76,11 @@ module _ (a : Asked) (t : Turns) (p : PlannedState) (call : IsCallBy IsCountPlan
     not_told = loader.untold IsThreadJobFor writing_of IsReported a name s u call.starts p (job a t p call) (is_job a t p call) (λ groups. refl) x w
 
     -- what is told of what was written is what is told of the plan
-    same_told : told_of Count x ≡ body_of Count p.private p.rows x.groups.homes
-    same_told i = body_of Count (w.planned i).private (w.planned i).rows x.groups.homes
+    same_told : told_of a.action x ≡ body_of a.action p.private p.rows x.groups.homes
+    same_told i = body_of a.action (w.planned i).private (w.planned i).rows x.groups.homes
 
     -- a report can tell it
-    pub can_report : IsBody Two (told_of Count x)
+    pub can_report : IsBody Two (told_of a.action x)
     can_report = subst (IsBody Two) (sym same_told) (plan_report a t p call x.groups w.laid.are_groups)
 
     -- the job of what was written
@@ -89,12 +88,12 @@ module _ (a : Asked) (t : Turns) (p : PlannedState) (call : IsCallBy IsCountPlan
     loaded = with_loader (job a t p call x.groups) w.loader
 
     -- its file follows the original
-    followed : IsLoaderFollowedInThreads a.file a.starts loaded
+    followed : IsLoaderFollowedInThreads (thread_base a.action) a.file a.starts loaded
     followed =
         let j = job a t p call x.groups in
         let g = w.laid.are_groups in
         let th = shown_threaded a t p call x.groups g (bare_image j.emit) (bare_shows j.emit (writes_job a t p call x.groups g)) in
-        let r = threading_for a.file a.starts loaded in
+        let r = threading_for (thread_base a.action) a.file a.starts loaded in
         record {
           loads = w.loads;
           sound = th.sound;
@@ -110,16 +109,16 @@ module _ (a : Asked) (t : Turns) (p : PlannedState) (call : IsCallBy IsCountPlan
 
     -- the report of it is an answer
     pub reported : (report : ReportValue) (origin : Origin) → origin ≡ origin_of a.file → OriginFits origin
-        → report ≡ written (told_of Count x) origin → LoadsThreads a name s u (Ok report)
+        → report ≡ written (told_of a.action x) origin → LoadsThreads a name s u (Ok report)
     reported report origin o fits r =
-        let told : told_of Count x ≡ report_under thread_rules (request_of a) t x.groups = same_told ∙ told_plan a t p call x.groups w.laid.are_groups in
+        let told : told_of a.action x ≡ report_under (thread_rules (thread_base a.action)) (request_of a) t x.groups = same_told ∙ told_plan a t p call x.groups w.laid.are_groups in
         let same : report ≡ loaded.job.report = r ∙ (λ i. written (told i) (o i)) in (
           loaded,
           loader.judged IsThreadJobFor writing_of IsReported a name s u call.starts p (job a t p call) (is_job a t p call) (λ groups. refl) x w,
           record {
             report_is = same;
             told = subst IsReport (sym r) (record { origin = fits; body = can_report });
-            action_is = ap (λ (z : ReportValue). z.body.action) same ∙ call.planned.count;
+            action_is = ap (λ (z : ReportValue). z.body.action) same;
             private_is = ap (λ (z : ReportValue). z.body.private) same;
             rows_are = ap (λ (z : ReportValue). z.body.rows) same;
             holds = w.emitted.1;

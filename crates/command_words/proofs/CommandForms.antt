@@ -6,11 +6,12 @@ use Rattle.std.proofs.lemmas.Bool.{and_parts}
 use Rattle.std.proofs.lemmas.Bool.Decides.{nat_tests}
 use Rattle.std.proofs.lemmas.Slice.Eq.{bytes_eq-Decides}
 use Rattle.pun_base.specs.declared.action.Action.{Action}
+use Rattle.pun_base.specs.declared.action.Base.TheVariants.{Count}
 use Rattle.pun_base.specs.Actions.{IsAction}
 use Rattle.list_text.specs.Digits.{below, number_in}
 use Rattle.list_text.specs.Words.{action_of, count_of}
 use Rattle.list_text.proofs.ActionSpellings.{actions_are_spelled}
-use Rattle.command_words.specs.Words.{Names, ThreadNames, UnpatchNames, Command, Usage, Patch, Step, Gen, Load, Threads, ThreadsReported, ThreadsLoaded, Unpatch, is_plain, are_apart, patch_with, reserves_of, patch_of, check_of, most_steps, step_with, step_of, most_seed, most_blocks, nonzero, blocks_of, gen_with, gen_of, load_with, load_of, threads_with, reported_with, report_of, threads_by, threads_after, loaded_with, is_loader_form, threads_in_form, threads_of, unpatch_of, CommandRow, commands, under_name, form_of, command_of}
+use Rattle.command_words.specs.Words.{Names, ThreadNames, UnpatchNames, Command, Usage, Patch, Step, Gen, Load, Threads, ThreadsReported, ThreadsLoaded, Unpatch, is_plain, are_apart, patch_with, reserves_of, patch_of, check_of, most_steps, step_with, step_of, most_seed, most_blocks, nonzero, blocks_of, gen_with, gen_of, load_with, load_of, threads_with, reported_with, report_of, threads_by, threads_after, covered_with, is_cover_action, threads_by_action, loaded_with, is_loader_form, threads_in_form, threads_of, unpatch_of, CommandRow, commands, under_name, form_of, command_of}
 
 -- What is known of a command that words are of: its outputs are apart, its action can be asked for, and its numbers are within their limits.
 abbrev pub IsKnown : Command → Type 0
@@ -19,8 +20,8 @@ IsKnown (Step n count) = count ≤ most_steps
 IsKnown (Gen seed blocks) = (1 ≤ blocks) × (blocks ≤ most_blocks)
 IsKnown (Load n a r) = (n.out ≡ n.report → ⊥) × IsAction a
 IsKnown (Threads n r) = (n.out ≡ n.file → ⊥) × (n.out ≡ n.starts → ⊥) × (n.out ≡ n.sites → ⊥)
-IsKnown (ThreadsReported n r) = n.out ≡ n.report → ⊥
-IsKnown (ThreadsLoaded n r) = n.out ≡ n.report → ⊥
+IsKnown (ThreadsReported n b r) = n.out ≡ n.report → ⊥
+IsKnown (ThreadsLoaded n b r) = n.out ≡ n.report → ⊥
 IsKnown (Unpatch n) = (n.new ≡ n.patched → ⊥) × (n.new ≡ n.report → ⊥)
 IsKnown other = Unit {0}
 
@@ -134,7 +135,7 @@ known_threads (file ∷ starts ∷ sites ∷ out ∷ words) = in_form (record { 
         by_test n r (bytes_eq n.out n.file) (bytes_eq n.out n.starts) (bytes_eq n.out n.sites) (bytes_eq-Decides n.out n.file)
         (bytes_eq-Decides n.out n.starts) (bytes_eq-Decides n.out n.sites)
 
-    by_apart : (n : Names) (r : List (ℕ × ℕ)) (b : Bool) → (b ≡ true → n.out ≡ n.report → ⊥) → IsKnown (if b then ThreadsReported n r else Usage)
+    by_apart : (n : Names) (r : List (ℕ × ℕ)) (b : Bool) → (b ≡ true → n.out ≡ n.report → ⊥) → IsKnown (if b then ThreadsReported n Count r else Usage)
     by_apart n r true f = f refl
     by_apart n r false f = tt
 
@@ -151,17 +152,30 @@ known_threads (file ∷ starts ∷ sites ∷ out ∷ words) = in_form (record { 
     after n [] = parts n (reserves_of [])
     after n (word ∷ words) = by_report n (report_of word) word words
 
+    covered : (c : Command) → IsKnown c → IsKnown (covered_with c)
+    covered (ThreadsReported n b r) k = k
+    covered other k = tt
+
+    by_cover : (n : ThreadNames) (b : Bool) (word : List ℕ) (words : List (List ℕ))
+        → IsKnown (if b then covered_with (threads_after n words) else threads_after n (word ∷ words))
+    by_cover n true word words = covered (threads_after n words) (after n words)
+    by_cover n false word words = after n (word ∷ words)
+
+    by_action : (n : ThreadNames) (words : List (List ℕ)) → IsKnown (threads_by_action n words)
+    by_action n [] = after n []
+    by_action n (word ∷ words) = by_cover n (is_cover_action word) word words
+
     loaded : (c : Command) → IsKnown c → IsKnown (loaded_with c)
-    loaded (ThreadsReported n r) k = k
+    loaded (ThreadsReported n b r) k = k
     loaded other k = tt
 
     by_form : (n : ThreadNames) (b : Bool) (word : List ℕ) (words : List (List ℕ))
-        → IsKnown (if b then loaded_with (threads_after n words) else threads_after n (word ∷ words))
-    by_form n true word words = loaded (threads_after n words) (after n words)
-    by_form n false word words = after n (word ∷ words)
+        → IsKnown (if b then loaded_with (threads_by_action n words) else threads_by_action n (word ∷ words))
+    by_form n true word words = loaded (threads_by_action n words) (by_action n words)
+    by_form n false word words = by_action n (word ∷ words)
 
     in_form : (n : ThreadNames) (words : List (List ℕ)) → IsKnown (threads_in_form n words)
-    in_form n [] = after n []
+    in_form n [] = by_action n []
     in_form n (word ∷ words) = by_form n (is_loader_form word) word words
 known_threads other = tt
 

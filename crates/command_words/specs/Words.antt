@@ -3,6 +3,8 @@ use Rattle.std.specs.Prelude.{ℕ, ◌==◌, Bool, true, false, not, ◌&&◌, n
 use Rattle.std.specs.List.{list_all}
 use Rattle.std.specs.Str.{bytes_eq}
 use Rattle.pun_base.specs.declared.action.Action.{Action}
+use Rattle.pun_base.specs.declared.action.Base.{Base}
+use Rattle.pun_base.specs.declared.action.Base.TheVariants.{Cover, Count}
 use Rattle.list_text.specs.Words.{action_of, range_of, count_of}
 use Rattle.command_words.specs.Synopses.{Synopsis, usage_of}
 
@@ -55,10 +57,10 @@ pub data Command : Type 0 where
   Load : (names : Names) (action : Action) (reserves : List (ℕ × ℕ)) → Command
   -- patch for a guest of several threads, with counters
   Threads : (names : ThreadNames) (reserves : List (ℕ × ℕ)) → Command
-  -- as that, with a report
-  ThreadsReported : (names : Names) (reserves : List (ℕ × ℕ)) → Command
+  -- as that, with events that cover or count, and a report
+  ThreadsReported : (names : Names) (base : Base) (reserves : List (ℕ × ℕ)) → Command
   -- as that, whose file maps its new code itself
-  ThreadsLoaded : (names : Names) (reserves : List (ℕ × ℕ)) → Command
+  ThreadsLoaded : (names : Names) (base : Base) (reserves : List (ℕ × ℕ)) → Command
   -- give back the original of a patched file
   Unpatch : (names : UnpatchNames) → Command
 
@@ -176,10 +178,10 @@ abbrev pub threads_with : ThreadNames → Option (List (ℕ × ℕ)) → Command
 threads_with n None = Usage
 threads_with n (Some reserves) = if has_own_out n then Threads n reserves else Usage
 
--- A patch for threads with a report, with these names and ranges, where they are of the form.
+-- A patch for threads that counts, with a report, with these names and ranges, where they are of the form.
 abbrev pub reported_with : Names → Option (List (ℕ × ℕ)) → Command
 reported_with n None = Usage
-reported_with n (Some reserves) = if are_apart n then ThreadsReported n reserves else Usage
+reported_with n (Some reserves) = if are_apart n then ThreadsReported n Count reserves else Usage
 
 -- A name that is plain.
 abbrev pub plain_name : List ℕ → Option (List ℕ)
@@ -196,14 +198,29 @@ threads_by n None word words = threads_with n (reserves_of (word ∷ words))
 threads_by n (Some report) word words =
     reported_with (record { file = n.file; starts = n.starts; sites = n.sites; out = n.out; report = report }) (reserves_of words)
 
--- A patch for threads, with these words after OUT.
+-- A patch for threads that counts, with these words after OUT.
 abbrev pub threads_after : ThreadNames → List (List ℕ) → Command
 threads_after n [] = threads_with n (reserves_of [])
 threads_after n (word ∷ words) = threads_by n (report_of word) word words
 
+-- A patch for threads with a report as one that covers. Without a report there is none.
+abbrev pub covered_with : Command → Command
+covered_with (ThreadsReported names base reserves) = ThreadsReported names Cover reserves
+covered_with other = Usage
+
+-- A word asks for events that cover.
+abbrev pub is_cover_action : List ℕ → Bool
+is_cover_action word = bytes_eq word (codes "action:cover")
+
+-- A patch for threads, by the action that the first of these words after OUT asks for: where it asks for none, it is one of the words after
+-- that.
+abbrev pub threads_by_action : ThreadNames → List (List ℕ) → Command
+threads_by_action n [] = threads_after n []
+threads_by_action n (word ∷ words) = if is_cover_action word then covered_with (threads_after n words) else threads_after n (word ∷ words)
+
 -- A patch for threads with a report as one in the loader form. Without a report there is none.
 abbrev pub loaded_with : Command → Command
-loaded_with (ThreadsReported names reserves) = ThreadsLoaded names reserves
+loaded_with (ThreadsReported names base reserves) = ThreadsLoaded names base reserves
 loaded_with other = Usage
 
 -- A word asks for the loader form.
@@ -212,11 +229,12 @@ is_loader_form word = bytes_eq word (codes "form:loader")
 
 -- A patch for threads, by the form that the first of the words after OUT asks for: where it asks for none, it is one of the words after that.
 abbrev pub threads_in_form : ThreadNames → List (List ℕ) → Command
-threads_in_form n [] = threads_after n []
-threads_in_form n (word ∷ words) = if is_loader_form word then loaded_with (threads_after n words) else threads_after n (word ∷ words)
+threads_in_form n [] = threads_by_action n []
+threads_in_form n (word ∷ words) =
+    if is_loader_form word then loaded_with (threads_by_action n words) else threads_by_action n (word ∷ words)
 
--- The words behind `threads`: FILE STARTS SITES OUT, then the form that is asked for or none, then the report that is asked for or none, and
--- then any RESERVE.
+-- The words behind `threads`: FILE STARTS SITES OUT, then the form that is asked for or none, then the action that is asked for or none, then
+-- the report that is asked for or none, and then any RESERVE.
 abbrev pub threads_of : List (List ℕ) → Command
 threads_of (file ∷ starts ∷ sites ∷ out ∷ words) = threads_in_form (record { file = file; starts = starts; sites = sites; out = out }) words
 threads_of other = Usage

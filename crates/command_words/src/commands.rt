@@ -1,17 +1,18 @@
 //! The command that its name and the words behind it are of.
 ghost use Rattle.std.specs.Prelude.{◌≡◌, ◌∷◌, IfOk, map, option_map};
 ghost use Rattle.pun_base.specs.Ranges.{ends};
-ghost use Rattle.command_words.specs.Words.{patch_of, patch_with, check_of, step_of, gen_of, gen_with, blocks_of, load_with, threads_of, threads_in_form, threads_after, threads_with, reported_with, unpatch_of, unpatch_with, form_of};
+ghost use Rattle.command_words.specs.Words.{patch_of, patch_with, check_of, step_of, gen_of, gen_with, blocks_of, load_with, threads_of, threads_in_form, threads_by_action, threads_after, threads_with, reported_with, unpatch_of, unpatch_with, form_of};
 ghost use Rattle.command_words.specs.Words.{are_apart as apart, is_apart as stands_apart};
 ghost use Rattle.command_words.specs.Words.{has_own_out as owns_out};
 ghost use Rattle.command_words.specs.Words.{report_of as report_name};
 ghost use Rattle.command_words.specs.Words.{is_loader_form as asks_for_loader, loaded_with as as_loaded};
+ghost use Rattle.command_words.specs.Words.{is_cover_action as asks_to_cover, covered_with as as_covered};
 ghost use Rattle.command_words.specs.Named.{names_of, thread_names_of, unpatch_names_of, command_view};
 
 use crate::reserves::read_reserves;
 use crate::words::{CheckNames, Command, Names, StepNames, ThreadNames, UnpatchNames, is_name};
 use list_text::words::{read_action, read_count};
-use pun_base::action::Action;
+use pun_base::action::{Action, Base};
 use pun_base::range::Range;
 use std::alloc::{AllocError, Global};
 
@@ -180,8 +181,8 @@ fn load_with<'a>(patch: Command<'a>) -> Command<'a>
     }
 }
 
-/// The patch for threads that is asked for: FILE STARTS SITES OUT, then `form:loader` or nothing, then `report:NAME` or nothing,
-/// and then any RESERVE. The loader form has a report.
+/// The patch for threads that is asked for: FILE STARTS SITES OUT, then `form:loader` or nothing, then `action:cover` or nothing,
+/// then `report:NAME` or nothing, and then any RESERVE. Without a report there is no loader form, and sites count.
 fn read_threads<'a>(alloc: Global, words: &[&'a str]) -> Result<Command<'a>, AllocError>
     ensures { IfOk result (λ c. command_view c ≡ threads_of (map (λ w. w.now) words.now)) }
 {
@@ -207,13 +208,13 @@ fn read_in_form<'a>(
         ≡ threads_in_form (thread_names_of names.entry) (map (λ w. w.now) words.now)) }
 {
     let Some((first, later)) = words.split_first() else {
-        return read_after_out(alloc, names, words);
+        return read_by_action(alloc, names, words);
     };
     if is_loader_form(first) {
-        let reported = read_after_out(alloc, names, later)?;
+        let reported = read_by_action(alloc, names, later)?;
         Ok(loaded_with(reported))
     } else {
-        read_after_out(alloc, names, words)
+        read_by_action(alloc, names, words)
     }
 }
 
@@ -229,12 +230,65 @@ fn loaded_with<'a>(reported: Command<'a>) -> Command<'a>
     ensures { command_view result ≡ as_loaded (command_view reported.entry) }
 {
     match reported {
-        Command::ThreadsReported { names, reserves } => Command::ThreadsLoaded { names, reserves },
+        Command::ThreadsReported {
+            names,
+            base,
+            reserves,
+        } => Command::ThreadsLoaded {
+            names,
+            base,
+            reserves,
+        },
         _ => Command::Usage,
     }
 }
 
-/// A patch for threads with these names, and the words after OUT and the form.
+/// A patch for threads with these names, and the words after OUT and the form: the first of them may ask for an action.
+fn read_by_action<'a>(
+    alloc: Global,
+    names: ThreadNames<'a>,
+    words: &[&'a str],
+) -> Result<Command<'a>, AllocError>
+    ensures { IfOk result (λ c. command_view c
+        ≡ threads_by_action (thread_names_of names.entry) (map (λ w. w.now) words.now)) }
+{
+    let Some((first, later)) = words.split_first() else {
+        return read_after_out(alloc, names, words);
+    };
+    if is_cover_action(first) {
+        let reported = read_after_out(alloc, names, later)?;
+        Ok(covered_with(reported))
+    } else {
+        read_after_out(alloc, names, words)
+    }
+}
+
+/// Whether a word asks for events that cover.
+fn is_cover_action(word: &str) -> bool
+    ensures { result ≡ asks_to_cover word.now }
+{
+    word == "action:cover"
+}
+
+/// A patch for threads with a report, as one that covers.
+fn covered_with<'a>(reported: Command<'a>) -> Command<'a>
+    ensures { command_view result ≡ as_covered (command_view reported.entry) }
+{
+    match reported {
+        Command::ThreadsReported {
+            names,
+            base: _,
+            reserves,
+        } => Command::ThreadsReported {
+            names,
+            base: Base::Cover,
+            reserves,
+        },
+        _ => Command::Usage,
+    }
+}
+
+/// A patch for threads that counts, with these names, and the words after OUT, the form and the action.
 fn read_after_out<'a>(
     alloc: Global,
     names: ThreadNames<'a>,
@@ -282,7 +336,7 @@ fn report_of<'a>(word: &'a str) -> Option<&'a str>
     }
 }
 
-/// A patch for threads with a report, with these names and ranges, where they are of the form.
+/// A patch for threads that counts, with a report, with these names and ranges, where they are of the form.
 fn reported_with<'a>(names: Names<'a>, reserves: Option<Vec<Range>>) -> Command<'a>
     ensures { command_view result
         ≡ reported_with (names_of names.entry) (option_map (λ v. map ends v.items) reserves) }
@@ -291,7 +345,11 @@ fn reported_with<'a>(names: Names<'a>, reserves: Option<Vec<Range>>) -> Command<
         return Command::Usage;
     };
     if are_apart(&names) {
-        Command::ThreadsReported { names, reserves }
+        Command::ThreadsReported {
+            names,
+            base: Base::Count,
+            reserves,
+        }
     } else {
         Command::Usage
     }

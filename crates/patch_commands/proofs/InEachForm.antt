@@ -1,10 +1,12 @@
 -- What the rewriting in each form comes to, by the form.
-use Rattle.std.proofs.Common.{◌≡◌, ℕ, ◌<◌, inl, inr, List, map, slice_index, Result, Ok, Err, refl, sym, subst}
+use Rattle.std.proofs.Common.{◌≡◌, ℕ, ◌<◌, inl, inr, List, map, slice_index, Result, Ok, Err, refl, sym, ap, ◌∙◌, subst}
 use Rattle.pun_base.specs.Shown.{DeskState}
 use Rattle.pun_base.specs.Desk.{Fills}
+use Rattle.pun_base.specs.declared.action.Base.{Base}
 use Rattle.pun_base.specs.declared.range.Range.{Range}
 use Rattle.pun_base.specs.Ranges.{ends}
 use Rattle.patch_report.specs.Values.{ReportValue}
+use Rattle.site_turns.specs.Modes.{thread_base}
 use Rattle.rewrite_core.specs.Asked.{Asked}
 use Rattle.rewrite_core.specs.Followed.{IsFollowed}
 use Rattle.rewrite_core.specs.Judging as core
@@ -13,6 +15,9 @@ use Rattle.rewrite_loader.specs.Followed.{IsLoaderFollowed}
 use Rattle.rewrite_loader.specs.Judging as loader_judging
 use Rattle.rewrite_loader.specs.Rewrites as loader_answers
 use Rattle.guest_threads.specs.ThreadRewriting as threads
+use Rattle.guest_threads.specs.ThreadRewriting.{IsFollowedInThreads}
+use Rattle.guest_threads.proofs.ThreadPlans.{base_back}
+use Rattle.thread_loader.specs.Followed.{IsLoaderFollowedInThreads}
 use Rattle.thread_loader.specs.Rewriting as thread_loader
 use Rattle.command_io.specs.Writing.{Verdict, Accepted}
 use Rattle.command_io.specs.Verdict as verdict
@@ -23,7 +28,7 @@ use Rattle.command_io.specs.Works.{IsOnly, Works}
 use Rattle.command_io.proofs.WholeCommands.{works_as}
 use Rattle.patch_commands.specs.ThreadsAnswers.{IsOfJob}
 use Rattle.patch_commands.specs.Patching.{patch_texts, AreLists, WritesReport}
-use Rattle.patch_commands.specs.Forms.{job_in, form_in, mode_in, writing_in, RewritesIn}
+use Rattle.patch_commands.specs.Forms.{action_in, job_in, form_in, mode_in, writing_in, RewritesIn}
 use Rattle.patch_commands.specs.declared.patching.Form.{Form}
 use Rattle.patch_commands.specs.declared.patching.Form.TheVariants.{Plain, WithStub, ForThreads, ForThreadsWithStub}
 use Rattle.patch_commands.specs.declared.patch.Inputs.{Inputs}
@@ -46,57 +51,64 @@ record IsRewrittenIn {J : Type 0} (f : verdict.Form J) (a : Asked) (out : List �
   holds : Fills out (f.file job) s t (Ok tt)
   followed : f.Follows a.file a.starts job
 
--- a rewriting that ended well
-rewritten : (f : Form) (a : Asked) (out : List ℕ) (s t : DeskState) (report : ReportValue) → RewritesIn f a out s t (Ok report)
+-- a rewriting that ended well, of what was asked with the form's action
+rewritten : (f : Form) (a : Asked) (out : List ℕ) (s t : DeskState) (report : ReportValue) → a.action ≡ action_in f → RewritesIn f a out s t (Ok report)
     → IsRewrittenIn (form_in f) a out s t report
-rewritten (Plain action) a out s t report h = record {
+rewritten (Plain action) a out s t report same h = record {
   job = h.0;
   judged = h.1;
   told = h.2.report_is;
   holds = h.2.holds;
   followed = subst (λ (v : ReportValue). IsFollowed a.file a.starts (core_answers.file_of h.0) v) h.2.report_is h.2.followed;
 }
-rewritten (WithStub action) a out s t report h = record {
+rewritten (WithStub action) a out s t report same h = record {
   job = h.0;
   judged = h.1;
   told = h.2.report_is;
   holds = h.2.holds;
   followed = subst (λ (v : ReportValue). IsLoaderFollowed a.file a.starts h.0 v) h.2.report_is h.2.followed;
 }
-rewritten ForThreads a out s t report h =
-    let of_job : IsOfJob h.0 report =
-    record { told = h.2.told; action = h.2.action_is; private = h.2.private_is; rows = h.2.rows_are } in
+rewritten (ForThreads b) a out s t report same h =
+    let of_job : IsOfJob b h.0 report =
+    record { told = h.2.told; action = h.2.action_is ∙ same; private = h.2.private_is; rows = h.2.rows_are } in
     record {
       job = h.0;
       judged = h.1;
       told = h.2.report_is;
       holds = h.2.holds;
-      followed = record { of_job = subst (IsOfJob h.0) h.2.report_is of_job; followed = h.2.followed };
+      followed = record {
+        of_job = subst (IsOfJob b h.0) h.2.report_is of_job;
+        followed = subst (λ (z : Base). IsFollowedInThreads z a.file a.starts (threads.file_of h.0) h.0.private h.0.rows) (ap thread_base same ∙ base_back b)
+            h.2.followed;
+      };
     }
-rewritten ForThreadsWithStub a out s t report h =
-    let of_job : IsOfJob h.0.job report =
-    record { told = h.2.told; action = h.2.action_is; private = h.2.private_is; rows = h.2.rows_are } in
+rewritten (ForThreadsWithStub b) a out s t report same h =
+    let of_job : IsOfJob b h.0.job report =
+    record { told = h.2.told; action = h.2.action_is ∙ same; private = h.2.private_is; rows = h.2.rows_are } in
     record {
       job = h.0;
       judged = h.1;
       told = h.2.report_is;
       holds = h.2.holds;
-      followed = record { of_job = subst (IsOfJob h.0.job) h.2.report_is of_job; followed = h.2.followed };
+      followed = record {
+        of_job = subst (IsOfJob b h.0.job) h.2.report_is of_job;
+        followed = subst (λ (z : Base). IsLoaderFollowedInThreads z a.file a.starts h.0) (ap thread_base same ∙ base_back b) h.2.followed;
+      };
     }
 
 -- the mode of a form's report is that of the form
 mode_is : (f : Form) → mode_in f ≡ (form_in f).mode
 mode_is (Plain action) = refl
 mode_is (WithStub action) = refl
-mode_is ForThreads = refl
-mode_is ForThreadsWithStub = refl
+mode_is (ForThreads b) = refl
+mode_is (ForThreadsWithStub b) = refl
 
 -- an input in order has one verdict at most in each form
 once_in : (f : Form) (p : Patching) → IsOnce (rewriting_in (form_in f) p)
 once_in (Plain action) p = one_plain
 once_in (WithStub action) p = one_with_stub
-once_in ForThreads p = one_for_threads
-once_in ForThreadsWithStub p = one_for_threads_with_stub
+once_in (ForThreads b) p = one_for_threads b
+once_in (ForThreadsWithStub b) p = one_for_threads_with_stub b
 
 -- ---- a rewriting that doesn't end well
 
@@ -116,18 +128,18 @@ refused (WithStub action) p x a g s t e h =
     works_as (writing_in (WithStub action) p) (patch_texts x) s t e _ h.1
     (unloaded loader_judging.Judges loader_judging.file_of loader_answers.IsRewritten (writing_in (WithStub action) p) (patch_texts x) a p.names.out
     (λ j u v d q. inl q) (only_this (WithStub action) p x a g) s t h.0 h.2)
-refused ForThreads p x a g s t e h =
-    works_as (writing_in ForThreads p) (patch_texts x) s t e _ h.1
-    (unfinished threads.Judges threads.file_of threads.IsReported (writing_in ForThreads p) (patch_texts x) a p.names.out (λ j u v d q. inl q)
-    (only_this ForThreads p x a g) s t h.0 h.2)
-refused ForThreadsWithStub p x a g s t e h =
-    works_as (writing_in ForThreadsWithStub p) (patch_texts x) s t e _ h.1
-    (unloaded thread_loader.Judges thread_loader.file_of thread_loader.IsReported (writing_in ForThreadsWithStub p) (patch_texts x) a p.names.out
-    (λ j u v d q. inl q) (only_this ForThreadsWithStub p x a g) s t h.0 h.2)
+refused (ForThreads b) p x a g s t e h =
+    works_as (writing_in (ForThreads b) p) (patch_texts x) s t e _ h.1
+    (unfinished threads.Judges threads.file_of threads.IsReported (writing_in (ForThreads b) p) (patch_texts x) a p.names.out (λ j u v d q. inl q)
+    (only_this (ForThreads b) p x a g) s t h.0 h.2)
+refused (ForThreadsWithStub b) p x a g s t e h =
+    works_as (writing_in (ForThreadsWithStub b) p) (patch_texts x) s t e _ h.1
+    (unloaded thread_loader.Judges thread_loader.file_of thread_loader.IsReported (writing_in (ForThreadsWithStub b) p) (patch_texts x) a p.names.out
+    (λ j u v d q. inl q) (only_this (ForThreadsWithStub b) p x a g) s t h.0 h.2)
 
 -- ---- of the lists that were read
 
-module _ (f : Form) (p : Patching) (rs : List Range) (x : Inputs) (file starts sites : List ℕ) (r : map ends rs ≡ p.reserves)
+module _ (f : Form) (p : Patching) (same : p.action ≡ action_in f) (rs : List Range) (x : Inputs) (file starts sites : List ℕ) (r : map ends rs ≡ p.reserves)
     (l : AreLists x file starts sites) (b : (k : ℕ) → slice_index file k < 256) where
   -- what is asked is what the texts tell
   is_given : IsGiven (rewriting_in (form_in f) p) x (asked p.action rs file starts sites)
@@ -138,7 +150,7 @@ module _ (f : Form) (p : Patching) (rs : List Range) (x : Inputs) (file starts s
       → RewritesIn f (asked p.action rs file starts sites) p.names.out s u (Ok report)
       → WritesReport (mode_in f) p.names.report report u t a → Works (writing_in f p) (patch_texts x) s t a
   reported report s u t a h w =
-      let z = rewritten f (asked p.action rs file starts sites) p.names.out s u report h in
+      let z = rewritten f (asked p.action rs file starts sites) p.names.out s u report same h in
       let v : WritesReport (form_in f).mode p.names.report report u t a =
       subst (λ (m : Mode). WritesReport m p.names.report report u t a) (mode_is f) w in
       reported_in (form_in f) p (once_in f p) x _ is_given z.job s u t a z.judged z.holds z.followed

@@ -1,9 +1,12 @@
 -- OUT is rewritten for threads without a report, and the summary is told.
 use Rattle.std.proofs.Common.{◌≡◌, inl, inr, List, map, Result, Ok, Err, refl, ap, ◌∙◌, subst}
 use Rattle.pun_base.specs.Shown.{DeskState}
+use Rattle.pun_base.specs.declared.action.Base.{Base}
+use Rattle.pun_base.specs.declared.action.Base.TheVariants.{Count}
 use Rattle.patch_report.specs.Values.{RowValue, row_value}
 use Rattle.patch_report.specs.declared.row.ReportRow.{ReportRow}
 use Rattle.rewrite_core.specs.declared.rewrite.RewriteError.{RewriteError}
+use Rattle.site_turns.specs.Modes.{thread_base}
 use Rattle.rewrite_core.specs.Asked.{Asked}
 use Rattle.guest_threads.specs.declared.rewriting.ThreadReport.{ThreadReport}
 use Rattle.guest_threads.specs.ThreadRewriting.{ThreadJob, Judges, file_of, IsRewritten, RewritesThreads}
@@ -24,13 +27,13 @@ use Rattle.patch_commands.proofs.Rewritings.{IsGiven, verdict_of, list_followed,
 -- the inputs of `threads` have one verdict at most
 pub one_threads_verdict : ThreadsHaveOneVerdict
 one_threads_verdict files p v w b h k =
-    one_gathered (threads_rewriting p) one_for_threads files p.names.file p.names.starts p.names.sites v w
+    one_gathered (threads_rewriting p) (one_for_threads Count) files p.names.file p.names.starts p.names.sites v w
     (gathered files (listed_inputs p.names.file p.names.starts p.names.sites)) b refl h k
 
 module _ (p : ThreadPatching) (x : Inputs) (a : Asked) (g : IsGiven (threads_rewriting p) x a) where
   -- what is judged is to be said of the texts
   only_this : (v : Verdict ThreadJob) → (threads_rewriting p).Judged a v → IsOnly v (OfTexts (threads_rewriting p) (patch_texts x))
-  only_this v h = verdict_of (threads_rewriting p) one_for_threads x a v g h
+  only_this v h = verdict_of (threads_rewriting p) (one_for_threads Count) x a v g h
 
   -- the file was rewritten, and the summary is told or not
   pub rewrote : (report : ThreadReport) (rows : List ReportRow) (s t : DeskState) (r : Result Answer Failed) → rows ≡ report.rows.items
@@ -43,8 +46,9 @@ module _ (p : ThreadPatching) (x : Inputs) (a : Asked) (g : IsGiven (threads_rew
           verdict = only_this (Accepted h.0) h.1;
           finishes = told_behind (p.names.out, file_of) h.0 (file_of h.0) (summary_text h.0.rows, done_status h.0.rows) s t r refl h.2.holds
               (subst (λ (z : List RowValue). TellsSummary z r) same w);
-          promised = if_done (ListFollowed FollowsInThreads x.file.items x.starts.items h.0) r
-              (list_followed FollowsInThreads (threads_rewriting p) x a h.0 g h.2.followed);
+          promised = if_done (ListFollowed (FollowsInThreads Count) x.file.items x.starts.items h.0) r
+              (list_followed (FollowsInThreads Count) (threads_rewriting p) x a h.0 g
+              (subst (λ (b : Base). FollowsInThreads b a.file a.starts h.0) (ap (λ (z : Asked). thread_base z.action) g.same) h.2.followed));
         },
       )
 

@@ -3,8 +3,8 @@ use Rattle.std.specs.Prelude.{◌≡◌, List, ℕ, map, Result, Ok, Err}
 use Rattle.pun_base.specs.Shown.{DeskState}
 use Rattle.pun_base.specs.Ranges.{ends}
 use Rattle.pun_base.specs.declared.action.Action.{Action}
-use Rattle.pun_base.specs.declared.action.Action.TheVariants.{Count}
 use Rattle.patch_report.specs.Values.{ReportValue}
+use Rattle.site_turns.specs.Modes.{thread_action}
 use Rattle.rewrite_core.specs.Asked.{Asked}
 use Rattle.rewrite_core.specs.Judging.{Job}
 use Rattle.rewrite_core.specs.Rewrites.{Rewrites}
@@ -32,29 +32,29 @@ use Rattle.patch_commands.specs.declared.patch.Listed.{Listed}
 abbrev pub action_in : Form → Action
 action_in (Plain action) = action
 action_in (WithStub action) = action
-action_in ForThreads = Count
-action_in ForThreadsWithStub = Count
+action_in (ForThreads b) = thread_action b
+action_in (ForThreadsWithStub b) = thread_action b
 
 -- What the rewriting in a form comes to.
 abbrev pub job_in : Form → Type 0
 job_in (Plain action) = Job
 job_in (WithStub action) = LoaderJob
-job_in ForThreads = ThreadJob
-job_in ForThreadsWithStub = ThreadLoaderJob
+job_in (ForThreads b) = ThreadJob
+job_in (ForThreadsWithStub b) = ThreadLoaderJob
 
 -- The form itself, as `patch` and its like have it.
 abbrev pub form_in : (f : Form) → verdict.Form (job_in f)
 form_in (Plain action) = plain
 form_in (WithStub action) = with_stub
-form_in ForThreads = for_threads
-form_in ForThreadsWithStub = for_threads_with_stub
+form_in (ForThreads b) = for_threads b
+form_in (ForThreadsWithStub b) = for_threads_with_stub b
 
 -- The mode of a form's report.
 abbrev pub mode_in : Form → Mode
 mode_in (Plain action) = mode.Plain
 mode_in (WithStub action) = mode.Plain
-mode_in ForThreads = mode.Threaded
-mode_in ForThreadsWithStub = mode.Threaded
+mode_in (ForThreads b) = mode.Threaded
+mode_in (ForThreadsWithStub b) = mode.Threaded
 
 -- Patching in a form.
 abbrev pub writing_in : (f : Form) → Patching → Writing (job_in f)
@@ -77,5 +77,5 @@ ToldAs {E = E} told Is (Err e) = (error : E) × (e ≡ told error) × Is (Err er
 abbrev pub RewritesIn : Form → Asked → (out : List ℕ) → DeskState → DeskState → Result ReportValue Failed → Type 0
 RewritesIn (Plain action) a out s t = ToldAs (rewrite_failed out) (Rewrites a out s t)
 RewritesIn (WithStub action) a out s t = ToldAs (loader_failed out) (loader.Rewrites a out s t)
-RewritesIn ForThreads a out s t = ToldAs (rewrite_failed out) (ReportsThreads a out s t)
-RewritesIn ForThreadsWithStub a out s t = ToldAs (loader_failed out) (thread_loader.LoadsThreads a out s t)
+RewritesIn (ForThreads b) a out s t = ToldAs (rewrite_failed out) (ReportsThreads a out s t)
+RewritesIn (ForThreadsWithStub b) a out s t = ToldAs (loader_failed out) (thread_loader.LoadsThreads a out s t)

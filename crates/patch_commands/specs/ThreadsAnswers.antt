@@ -3,8 +3,11 @@
 use Rattle.std.specs.Prelude.{◌≡◌, ℕ, List, [], ◌∷◌, Some, Ok}
 use Rattle.pun_base.specs.Shown.{Files, DeskState, SinkState}
 use Rattle.pun_base.specs.declared.action.Action.TheVariants.{Count}
+use Rattle.pun_base.specs.declared.action.Base.{Base}
+use Rattle.pun_base.specs.declared.action.Base.TheVariants as base
 use Rattle.patch_report.specs.Grammar.{IsReport}
 use Rattle.patch_report.specs.Values.{ReportValue}
+use Rattle.site_turns.specs.Modes.{thread_action}
 use Rattle.guest_threads.specs.ThreadRewriting.{ThreadJob, Judges, IsFollowedInThreads, file_of}
 use Rattle.thread_loader.specs.Followed.{ThreadLoaderJob, IsLoaderFollowedInThreads}
 use Rattle.thread_loader.specs.Rewriting as loader
@@ -40,9 +43,9 @@ abbrev pub threads_outputs : ThreadNames → Outputs ThreadJob
 threads_outputs n = (n.out, file_of) ∷ []
 
 -- What is promised of FILE's bytes, the addresses of STARTS and the job: with any number of threads, in each run that meets the premises, the
--- patched file runs as the original does, and each counter tells how often its site was run.
-abbrev pub FollowsInThreads : List ℕ → List ℕ → ThreadJob → Type 0
-FollowsInThreads file starts job = IsFollowedInThreads file starts (file_of job) job.private job.rows
+-- patched file runs as the original does, and each counter tells how often its site was run, or each byte whether it was.
+abbrev pub FollowsInThreads : Base → List ℕ → List ℕ → ThreadJob → Type 0
+FollowsInThreads b file starts job = IsFollowedInThreads b file starts (file_of job) job.private job.rows
 
 -- `threads`, with what it is given.
 abbrev pub threads_writing : ThreadPatching → Writing ThreadJob
@@ -53,7 +56,7 @@ threads_writing p = record {
   text = λ job. summary_text job.rows;
   status = λ job. done_status job.rows;
   IsOwn = IsDone;
-  Promises = TextsFollowed FollowsInThreads;
+  Promises = TextsFollowed (FollowsInThreads base.Count);
 }
 
 -- There is one verdict at most.
@@ -74,7 +77,7 @@ pub record FilesFollowedInThreads (n : ThreadNames) (old new : Files) : Type 0 w
   -- the addresses that the text of STARTS lists
   pub list : List ℕ
   pub listed : starts_of starts ≡ Ok list
-  pub followed : FollowsInThreads file list job
+  pub followed : FollowsInThreads base.Count file list job
 
 -- What `threads` does, with what it is given.
 pub record PatchesThreads (p : ThreadPatching) (s t : DeskState) (k l : SinkState) (status : ℕ) : Type 0 where
@@ -84,62 +87,62 @@ pub record PatchesThreads (p : ThreadPatching) (s t : DeskState) (k l : SinkStat
 
 -- ---- with a report
 
--- What a report tells of a job: that each event counts, and the private range and the rows of the job. It is one that a text tells.
-pub record IsOfJob (job : ThreadJob) (report : ReportValue) : Type 0 where
+-- What a report tells of a job: what each event does, and the private range and the rows of the job. It is one that a text tells.
+pub record IsOfJob (b : Base) (job : ThreadJob) (report : ReportValue) : Type 0 where
   pub told : IsReport report
-  pub action : report.body.action ≡ Count
+  pub action : report.body.action ≡ thread_action b
   pub private : report.body.private ≡ (job.private.lo, job.private.hi)
   pub rows : report.body.rows ≡ job.rows
 
 -- What is promised with a report: the report is of the job, and all else is as without one.
-pub record FollowsReported (file starts : List ℕ) (job : ThreadJob) : Type 0 where
-  pub of_job : IsOfJob job job.report
-  pub followed : FollowsInThreads file starts job
+pub record FollowsReported (b : Base) (file starts : List ℕ) (job : ThreadJob) : Type 0 where
+  pub of_job : IsOfJob b job job.report
+  pub followed : FollowsInThreads b file starts job
 
--- The form of `threads` with a report: the report is in the mode of threads.
-abbrev pub for_threads : Form ThreadJob
-for_threads = record {
+-- The form of `threads` with a report, where each event does this: the report is in the mode of threads.
+abbrev pub for_threads : Base → Form ThreadJob
+for_threads b = record {
   Judged = IsJudgedAs Rewrite Judges;
   file = file_of;
   mode = Threaded;
   report = λ job. job.report;
-  Follows = FollowsReported;
+  Follows = FollowsReported b;
 }
 
--- What `threads` is given with a report: each event counts.
-abbrev pub reported_patching : Names → List (ℕ × ℕ) → Patching
-reported_patching n reserves = patching n Count reserves
+-- What `threads` is given with a report: each event does this.
+abbrev pub reported_patching : Names → Base → List (ℕ × ℕ) → Patching
+reported_patching n b reserves = patching n (thread_action b) reserves
 
 -- `threads` with a report, with what it is given.
-abbrev pub reported_writing : Patching → Writing ThreadJob
-reported_writing p = form_writing for_threads p
+abbrev pub reported_writing : Base → Patching → Writing ThreadJob
+reported_writing b p = form_writing (for_threads b) p
 
 -- What `threads` does with a report, with what it is given.
-abbrev pub PatchesReported : Patching → DeskState → DeskState → SinkState → SinkState → ℕ → Type 0
-PatchesReported p s t k l status = PatchesIn for_threads p s t k l status
+abbrev pub PatchesReported : Base → Patching → DeskState → DeskState → SinkState → SinkState → ℕ → Type 0
+PatchesReported b p s t k l status = PatchesIn (for_threads b) p s t k l status
 
 -- ---- in the loader form, with a report
 
 -- What is promised in the loader form: the report is of the job; the stub leads to the original's entry, and from there all is as in the other
 -- form.
-pub record FollowsLoaded (file starts : List ℕ) (job : ThreadLoaderJob) : Type 0 where
-  pub of_job : IsOfJob job.job job.job.report
-  pub followed : IsLoaderFollowedInThreads file starts job
+pub record FollowsLoaded (b : Base) (file starts : List ℕ) (job : ThreadLoaderJob) : Type 0 where
+  pub of_job : IsOfJob b job.job job.job.report
+  pub followed : IsLoaderFollowedInThreads b file starts job
 
 -- The loader form of `threads`: a stub in the patched file maps the pages for code, and goes to where the original starts.
-abbrev pub for_threads_with_stub : Form ThreadLoaderJob
-for_threads_with_stub = record {
+abbrev pub for_threads_with_stub : Base → Form ThreadLoaderJob
+for_threads_with_stub b = record {
   Judged = IsJudgedAs refusal_told loader.Judges;
   file = loader.file_of;
   mode = Threaded;
   report = λ job. job.job.report;
-  Follows = FollowsLoaded;
+  Follows = FollowsLoaded b;
 }
 
 -- `threads` in the loader form, with what it is given.
-abbrev pub threads_loaded_writing : Patching → Writing ThreadLoaderJob
-threads_loaded_writing p = form_writing for_threads_with_stub p
+abbrev pub threads_loaded_writing : Base → Patching → Writing ThreadLoaderJob
+threads_loaded_writing b p = form_writing (for_threads_with_stub b) p
 
 -- What `threads` does in the loader form, with what it is given.
-abbrev pub LoadsThreads : Patching → DeskState → DeskState → SinkState → SinkState → ℕ → Type 0
-LoadsThreads p s t k l status = PatchesIn for_threads_with_stub p s t k l status
+abbrev pub LoadsThreads : Base → Patching → DeskState → DeskState → SinkState → SinkState → ℕ → Type 0
+LoadsThreads b p s t k l status = PatchesIn (for_threads_with_stub b) p s t k l status

@@ -1,4 +1,5 @@
 //! Laws of what is judged of inputs.
+ghost use Rattle.pun_base.specs.declared.action.Base.{Base};
 ghost use Rattle.command_io.specs.Verdict.{plain};
 ghost use Rattle.patch_commands.specs.Answers.{HasOneVerdict};
 ghost use Rattle.patch_commands.specs.LoadAnswers.{with_stub};
@@ -10,7 +11,7 @@ pub fn one_verdict()
     ensures patch { HasOneVerdict plain }
     ensures load { HasOneVerdict with_stub }
     ensures threads { ThreadsHaveOneVerdict }
-    ensures threads_reported { HasOneVerdict for_threads }
-    ensures threads_loaded { HasOneVerdict for_threads_with_stub }
+    ensures threads_reported { (b : Base) → HasOneVerdict (for_threads b) }
+    ensures threads_loaded { (b : Base) → HasOneVerdict (for_threads_with_stub b) }
     ensures unpatch { UnpatchHasOneVerdict }
 {}

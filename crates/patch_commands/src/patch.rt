@@ -176,14 +176,14 @@ fn rewrite_listed<'a, D: Desk>(
                 Err(error) => Err(loader_failure(error, out)),
             }
         }
-        Form::ForThreads => {
-            match rewrite_threads_reported(alloc, file, starts, sites, reserves, out, desk) {
+        Form::ForThreads(base) => {
+            match rewrite_threads_reported(alloc, file, starts, sites, base, reserves, out, desk) {
                 Ok(report) => Ok(report),
                 Err(error) => Err(rewrite_failure(error, out)),
             }
         }
-        Form::ForThreadsWithStub => {
-            match rewrite_threads_loader(alloc, file, starts, sites, reserves, out, desk) {
+        Form::ForThreadsWithStub(base) => {
+            match rewrite_threads_loader(alloc, file, starts, sites, base, reserves, out, desk) {
                 Ok(report) => Ok(report),
                 Err(error) => Err(loader_failure(error, out)),
             }

@@ -4,17 +4,17 @@ ghost use Rattle.patch_commands.specs.Forms.{mode_in};
 
 use command_io::report_mode::Mode;
 use command_words::words::Names;
-use pun_base::action::Action;
+use pun_base::action::{Action, Base};
 use pun_base::range::Range;
 
-/// A form of the patched file: the kernel maps the pages for code, or a stub does, where each event does this; or the same
-/// of a file for a guest of several threads, where each event counts.
+/// A form of the patched file, where each event does this: the kernel maps the pages for code, or a stub does; or the same
+/// of a file for a guest of several threads.
 #[derive(Clone, Copy)]
 pub(crate) enum Form {
     Plain(Action),
     WithStub(Action),
-    ForThreads,
-    ForThreadsWithStub,
+    ForThreads(Base),
+    ForThreadsWithStub(Base),
 }
 
 impl Form {
@@ -24,7 +24,7 @@ impl Form {
     {
         match self {
             Form::Plain(_) | Form::WithStub(_) => Mode::Plain,
-            Form::ForThreads | Form::ForThreadsWithStub => Mode::Threaded,
+            Form::ForThreads(_) | Form::ForThreadsWithStub(_) => Mode::Threaded,
         }
     }
 }

@@ -13,6 +13,7 @@ use command_io::ends::{Failure, Told};
 use command_io::failures::rewrite_failure;
 use command_words::words::{Names, ThreadNames};
 use guest_threads::rewriting::rewrite_threads;
+use pun_base::action::Base;
 use pun_base::desk::Desk;
 use pun_base::range::Range;
 use std::alloc::Global;
@@ -59,6 +60,7 @@ fn rewrite_inputs<'a, D: Desk>(
         file,
         &listed.starts,
         &listed.sites,
+        Base::Count,
         reserves,
         names.out,
         desk,
@@ -74,15 +76,16 @@ fn rewrite_inputs<'a, D: Desk>(
 pub fn patch_reported<'a, D: Desk>(
     alloc: Global,
     names: &Names<'a>,
+    base: Base,
     reserves: &[Range],
     desk: &mut D,
 ) -> Result<Told, Failure<'a>>
     requires { (D.seen desk.old).writing ≡ None }
-    ensures { Carries (reported_writing (reported_patching (names_of names.now)
+    ensures { Carries (reported_writing base (reported_patching (names_of names.now) base
         (map ends reserves.now))) (D.seen desk.old) (D.seen desk.new) (seen_as told_of result) }
 {
     let given = Given {
-        form: Form::ForThreads,
+        form: Form::ForThreads(base),
         names,
         reserves,
     };
@@ -95,15 +98,16 @@ pub fn patch_reported<'a, D: Desk>(
 pub fn patch_loaded<'a, D: Desk>(
     alloc: Global,
     names: &Names<'a>,
+    base: Base,
     reserves: &[Range],
     desk: &mut D,
 ) -> Result<Told, Failure<'a>>
     requires { (D.seen desk.old).writing ≡ None }
-    ensures { Carries (threads_loaded_writing (reported_patching (names_of names.now)
+    ensures { Carries (threads_loaded_writing base (reported_patching (names_of names.now) base
         (map ends reserves.now))) (D.seen desk.old) (D.seen desk.new) (seen_as told_of result) }
 {
     let given = Given {
-        form: Form::ForThreadsWithStub,
+        form: Form::ForThreadsWithStub(base),
         names,
         reserves,
     };

@@ -16,10 +16,10 @@ pub returns-clause-threads : goal.returns-clause-threads
 returns-clause-threads c = one_threads_verdict
 
 pub returns-clause-threads_reported : goal.returns-clause-threads_reported
-returns-clause-threads_reported c = one_verdict for_threads (λ p. one_for_threads)
+returns-clause-threads_reported c b = one_verdict (for_threads b) (λ p. one_for_threads b)
 
 pub returns-clause-threads_loaded : goal.returns-clause-threads_loaded
-returns-clause-threads_loaded c = one_verdict for_threads_with_stub (λ p. one_for_threads_with_stub)
+returns-clause-threads_loaded c b = one_verdict (for_threads_with_stub b) (λ p. one_for_threads_with_stub b)
 
 pub returns-clause-unpatch : goal.returns-clause-unpatch
 returns-clause-unpatch c = one_unpatch_verdict

@@ -19,7 +19,7 @@ pub returns-in-Ok-rewrite_listed : goal.returns-in-Ok-rewrite_listed
 returns-in-Ok-rewrite_listed g c =
     let given = c.args.given.now in
     let l = c.in-Ok.listed in
-    reported given.form (patching_of given) given.reserves.now c.args.inputs l.file.items l.starts.items l.sites.items refl c.in-Ok.ensures
+    reported given.form (patching_of given) refl given.reserves.now c.args.inputs l.file.items l.starts.items l.sites.items refl c.in-Ok.ensures
     c.rewrite_listed.ensures.bytes c.in-Ok-rewrite_listed.report _ _ _ (seen_as told_of c.write_report.result)
     c.in-Ok-rewrite_listed.ensures.rewrites
     (subst (λ (m : Mode). WritesReport m given.names.now.report.now c.in-Ok-rewrite_listed.report (g.D.Desk.seen c.rewrite_listed.new.desk)
@@ -29,5 +29,5 @@ pub returns : goal.returns
 returns g c =
     let given = c.args.given.now in
     let l = c.in-Ok.listed in
-    not_rewritten given.form (patching_of given) given.reserves.now c.args.inputs l.file.items l.starts.items l.sites.items refl c.in-Ok.ensures
+    not_rewritten given.form (patching_of given) refl given.reserves.now c.args.inputs l.file.items l.starts.items l.sites.items refl c.in-Ok.ensures
     c.rewrite_listed.ensures.bytes _ _ (failed_of c.in-Err-rewrite_listed.failure) c.in-Err-rewrite_listed.ensures.rewrites

@@ -47,10 +47,10 @@ words_lost words (Load n action reserves) s k e =
     let p = patching n action reserves in lost (load_writing p) (Loads p) (form_ended with_stub p (known_of words (Load n action reserves) e).0) s k
 words_lost words (Threads n reserves) s k e =
     let p = thread_patching n reserves in lost (threads_writing p) (PatchesThreads p) (threads_ended p) s k
-words_lost words (ThreadsReported n reserves) s k e =
-    let p = reported_patching n reserves in
-    lost (reported_writing p) (PatchesReported p) (form_ended for_threads p (known_of words (ThreadsReported n reserves) e)) s k
-words_lost words (ThreadsLoaded n reserves) s k e =
-    let p = reported_patching n reserves in
-    lost (threads_loaded_writing p) (LoadsThreads p) (form_ended for_threads_with_stub p (known_of words (ThreadsLoaded n reserves) e)) s k
+words_lost words (ThreadsReported n b reserves) s k e =
+    let p = reported_patching n b reserves in
+    lost (reported_writing b p) (PatchesReported b p) (form_ended (for_threads b) p (known_of words (ThreadsReported n b reserves) e)) s k
+words_lost words (ThreadsLoaded n b reserves) s k e =
+    let p = reported_patching n b reserves in
+    lost (threads_loaded_writing b p) (LoadsThreads b p) (form_ended (for_threads_with_stub b) p (known_of words (ThreadsLoaded n b reserves) e)) s k
 words_lost words (Unpatch n) s k e = lost (unpatch_writing n) (Unpatches n) (unpatch_ended n) s k

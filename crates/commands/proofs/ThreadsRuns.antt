@@ -1,6 +1,7 @@
 -- What `threads` does without a report is what a command does that writes OUT.
 use Rattle.std.proofs.Common.{◌≡◌, ℕ, List, [], ◌∷◌, Result, subst, arith}
 use Rattle.pun_base.specs.Shown.{Files, DeskState, SinkState, Told}
+use Rattle.pun_base.specs.declared.action.Base.TheVariants.{Count}
 use Rattle.pun_base.proofs.HeldFiles.{with_file-same}
 use Rattle.guest_threads.specs.ThreadRewriting.{ThreadJob, file_of}
 use Rattle.command_words.specs.Words.{ThreadNames}
@@ -26,7 +27,7 @@ is_apart p = record {
 
 -- what is promised of the texts, for the names that held them
 followed : (n : ThreadNames) (files new : Files) (texts : List (List ℕ)) (job : ThreadJob) → gathered files (threads_inputs n) ≡ All texts
-    → TextsFollowed FollowsInThreads texts job → files_after files (threads_outputs n) job ≡ new → FilesFollowedInThreads n files new
+    → TextsFollowed (FollowsInThreads Count) texts job → files_after files (threads_outputs n) job ≡ new → FilesFollowedInThreads n files new
 followed n files new (file ∷ starts ∷ sites ∷ []) job e h same =
     let a = first_read (files n.file) _ file _ _ e in
     let b = first_read (files n.starts) _ starts _ _ a.1 in

@@ -23,8 +23,8 @@ IsLoad other = ⊥
 
 abbrev pub IsThreads : Command → Type 0
 IsThreads (Threads names reserves) = Unit {0}
-IsThreads (ThreadsReported names reserves) = Unit {0}
-IsThreads (ThreadsLoaded names reserves) = Unit {0}
+IsThreads (ThreadsReported names base reserves) = Unit {0}
+IsThreads (ThreadsLoaded names base reserves) = Unit {0}
 IsThreads other = ⊥
 
 abbrev pub IsCheck : Command → Type 0
@@ -61,5 +61,5 @@ Does (Gen seed blocks) s t k l status = Generates seed blocks s t k l status
 Does (Unpatch names) s t k l status = Unpatches names s t k l status
 Does (Load names action reserves) s t k l status = Loads (patching names action reserves) s t k l status
 Does (Threads names reserves) s t k l status = PatchesThreads (thread_patching names reserves) s t k l status
-Does (ThreadsReported names reserves) s t k l status = PatchesReported (reported_patching names reserves) s t k l status
-Does (ThreadsLoaded names reserves) s t k l status = LoadsThreads (reported_patching names reserves) s t k l status
+Does (ThreadsReported names base reserves) s t k l status = PatchesReported base (reported_patching names base reserves) s t k l status
+Does (ThreadsLoaded names base reserves) s t k l status = LoadsThreads base (reported_patching names base reserves) s t k l status

@@ -59,14 +59,26 @@ pub fn run<D: Desk, K: Sink>(alloc: Global, words: &[String], desk: &mut D, out:
             threads_command::patch_threads(alloc, &names, &reserves, desk),
             out,
         ),
-        Ok(Command::ThreadsReported { names, reserves }) => tell(
+        Ok(
+            Command::ThreadsReported {
+                names,
+                base,
+                reserves,
+            },
+        ) => tell(
             alloc,
-            threads_command::patch_reported(alloc, &names, &reserves, desk),
+            threads_command::patch_reported(alloc, &names, base, &reserves, desk),
             out,
         ),
-        Ok(Command::ThreadsLoaded { names, reserves }) => tell(
+        Ok(
+            Command::ThreadsLoaded {
+                names,
+                base,
+                reserves,
+            },
+        ) => tell(
             alloc,
-            threads_command::patch_loaded(alloc, &names, &reserves, desk),
+            threads_command::patch_loaded(alloc, &names, base, &reserves, desk),
             out,
         ),
         Ok(Command::Unpatch(names)) => tell(alloc, unpatch_command::undo(alloc, &names, desk), out),

@@ -1,9 +1,10 @@
 //! Files that are patched for guests of several threads, judged.
-use crate::rewritten_files::{CODE, VICTIMS, reported};
+use crate::rewritten_files::{CODE, COVER, VICTIMS, reported};
 use elf_read::elf::{read_elf, read_written};
 use elf_read::writing::plain_file;
 use image_check::verdict::Verdict;
 use patch_report::report::Report;
+use pun_base::action::Base;
 use pun_base::memory_desk::MemDesk;
 use start_entries::starts::{Starts, ascend};
 use std::alloc::{AllocError, Global};
@@ -48,7 +49,14 @@ fn verdict(
 fn changed_bytes(rt: HostRuntime) -> Result<(), Fail> {
     let text = [0xEB, 0xFE, 0, 0, 2];
     let mut desk = MemDesk::new(rt.alloc(), &[])?;
-    let found = reported(rt.alloc(), &text, &[0x40_1000], &[0x40_1000], &mut desk);
+    let found = reported(
+        rt.alloc(),
+        &text,
+        &[0x40_1000],
+        &[0x40_1000],
+        Base::Count,
+        &mut desk,
+    );
     let report = found.ok_or("reported")?;
     let written = desk.get("O").ok_or("held")?;
     let mut codes = written.windows(37);
@@ -78,12 +86,61 @@ fn changed_bytes(rt: HostRuntime) -> Result<(), Fail> {
     Ok(())
 }
 
+/// Where events cover, a store to another byte, or of another number, is refused.
+#[test]
+fn changed_bytes_where_events_cover(rt: HostRuntime) -> Result<(), Fail> {
+    let text = [0xEB, 0xFE, 0, 0, 2];
+    let mut desk = MemDesk::new(rt.alloc(), &[])?;
+    let found = reported(
+        rt.alloc(),
+        &text,
+        &[0x40_1000],
+        &[0x40_1000],
+        Base::Cover,
+        &mut desk,
+    );
+    let report = found.ok_or("reported")?;
+    let written = desk.get("O").ok_or("held")?;
+    let mut codes = written.windows(13);
+    let code = codes
+        .position(|bytes| bytes == COVER.as_slice())
+        .ok_or("code")?;
+    for (change, told) in [
+        (None, Verdict::Yes),
+        (
+            Some((code + 3, 0x41)),
+            Verdict::No {
+                addr: 0x240_1008,
+                rule: 4,
+            },
+        ),
+        (
+            Some((code + 7, 2)),
+            Verdict::No {
+                addr: 0x240_100C,
+                rule: 4,
+            },
+        ),
+    ] {
+        let found = verdict(rt.alloc(), &text, &[0x40_1000], written, change, &report)?;
+        assert!(rt; found == Some(told));
+    }
+    Ok(())
+}
+
 /// A site by T2 and one by T3 pass; a changed byte of the victim's code doesn't.
 #[test]
 fn sites_with_victims_are_judged(rt: HostRuntime) -> Result<(), Fail> {
     for (text, starts, _, _, (beside, victim)) in VICTIMS {
         let mut desk = MemDesk::new(rt.alloc(), &[])?;
-        let found = reported(rt.alloc(), text, starts, &[0x40_1000], &mut desk);
+        let found = reported(
+            rt.alloc(),
+            text,
+            starts,
+            &[0x40_1000],
+            Base::Count,
+            &mut desk,
+        );
         let report = found.ok_or("reported")?;
         let written = desk.get("O").ok_or("held")?;
         let mut codes = written.windows(12);

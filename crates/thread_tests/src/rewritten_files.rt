@@ -8,7 +8,7 @@ use guest_threads::rewriting::{
 use patch_report::origin::Origin;
 use patch_report::report::Report;
 use patch_report::row::ReportRow;
-use pun_base::action::Action;
+use pun_base::action::{Action, Base};
 use pun_base::byte_list::ByteList;
 use pun_base::desk::Desk;
 use pun_base::memory_desk::MemDesk;
@@ -35,15 +35,16 @@ pub(crate) fn rewritten<D: Desk>(
     if !ascend(starts) || !ascend(sites) || sites.len() > 65536 {
         return None;
     }
-    Some(rewrite_threads(alloc, &file, starts, sites, &[], "O", desk))
+    Some(rewrite_threads(alloc, &file, starts, sites, Base::Count, &[], "O", desk))
 }
 
-/// The report of such a patch, if it was written.
+/// The report of such a patch whose events cover or count, if it was written.
 pub(crate) fn reported<D: Desk>(
     alloc: Global,
     text: &[u8],
     starts: &[u32],
     sites: &[u32],
+    base: Base,
     desk: &mut D,
 ) -> Option<Report>
     requires { (D.seen desk.old).writing ≡ None }
@@ -54,7 +55,7 @@ pub(crate) fn reported<D: Desk>(
     if !ascend(starts) || !ascend(sites) || sites.len() > 65536 {
         return None;
     }
-    rewrite_threads_reported(alloc, &file, starts, sites, &[], "O", desk).ok()
+    rewrite_threads_reported(alloc, &file, starts, sites, base, &[], "O", desk).ok()
 }
 
 /// The report of such a patch in the loader form, if it was written.
@@ -73,7 +74,7 @@ fn loaded<D: Desk>(
     if !ascend(starts) || !ascend(sites) || sites.len() > 65536 {
         return None;
     }
-    rewrite_threads_loader(alloc, &file, starts, sites, &[], "O", desk).ok()
+    rewrite_threads_loader(alloc, &file, starts, sites, Base::Count, &[], "O", desk).ok()
 }
 
 /// The place of the only row's only trampoline, and its site's number.
@@ -163,7 +164,14 @@ fn jump_to_itself_in_loader_form(rt: HostRuntime) -> Result<(), Fail> {
 fn report_of_jump_to_itself(rt: HostRuntime) -> Result<(), Fail> {
     let text = [0xEB, 0xFE, 0, 0, 2];
     let mut desk = MemDesk::new(rt.alloc(), &[])?;
-    let found = reported(rt.alloc(), &text, &[0x40_1000], &[0x40_1000], &mut desk);
+    let found = reported(
+        rt.alloc(),
+        &text,
+        &[0x40_1000],
+        &[0x40_1000],
+        Base::Count,
+        &mut desk,
+    );
     let report = found.ok_or("reported")?;
     assert!(rt; report.action() == Action::Count);
     assert!(rt; report.private().lo == 0x2_0000 && report.private().hi == 0x2_1000);
@@ -176,6 +184,31 @@ fn report_of_jump_to_itself(rt: HostRuntime) -> Result<(), Fail> {
     };
     assert!(rt; report.origin() == Some(original));
     assert!(rt; desk.get("O").is_some());
+    Ok(())
+}
+
+/// The code of the same jump at 0x2401005 where its event covers: the store, and the jump.
+pub(crate) const COVER: [u8; 13] = [
+    0xC6, 0x04, 0x25, 0x40, 0x00, 0x02, 0x00, 0x01, 0xE9, 0xEE, 0xFF, 0xFF, 0xFD,
+];
+
+#[test]
+fn cover_of_jump_to_itself(rt: HostRuntime) -> Result<(), Fail> {
+    let text = [0xEB, 0xFE, 0, 0, 2];
+    let mut desk = MemDesk::new(rt.alloc(), &[])?;
+    let found = reported(
+        rt.alloc(),
+        &text,
+        &[0x40_1000],
+        &[0x40_1000],
+        Base::Cover,
+        &mut desk,
+    );
+    let report = found.ok_or("reported")?;
+    assert!(rt; report.action() == Action::Cover);
+    assert!(rt; only_place(report.rows()) == Some((0x240_1005, 0)));
+    let written = desk.get("O").ok_or("held")?;
+    assert!(rt; written.windows(13).any(|bytes| bytes == COVER.as_slice()));
     Ok(())
 }
 

@@ -1,9 +1,8 @@
 """What actions record: numbers of sites, rings, conditions."""
-import array
 
 import pytest
 
-from vaknuhol.recording.actions import ActionError, Counting, CoverOfCounters, Ring, action_of
+from vaknuhol.recording.actions import ActionError, Counting, Ring, action_of
 
 REGISTERS = {"rdi": 2, "rsi": 2147483647, "rsp": 0}
 
@@ -71,8 +70,3 @@ def test_a_condition_holds_where_all_its_comparisons_do(condition, holds):
 
 def test_counters_have_eight_bytes_and_covers_one():
     assert (action_of("count").length(3), action_of("cover").length(3)) == (24, 3)
-
-
-def test_cover_of_counters_says_which_are_not_zero():
-    action = CoverOfCounters()
-    assert list(action.numbers(array.array("Q", [0, 1, 2**40]).tobytes())) == [0, 1, 1] and action.length(3) == 24

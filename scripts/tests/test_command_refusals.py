@@ -8,12 +8,12 @@ from tests.calls import run
 from tests.command import LAST, call
 from tests.programs import Programs, inside
 from vaknuhol.main import MODULES
-from vaknuhol.recording.thread_use import ONLY_COUNTERS
+from vaknuhol.recording.thread_use import NO_RING as SHARED_BY_NONE
 
 pytestmark = pytest.mark.xdist_group("command refusals")
 NAMES = [name for names in MODULES.values() for name in names]
 CONTROL = "a name with a newline or another control character is not taken: rename it"
-NO_RING = f"--threads: {ONLY_COUNTERS}: vaknuhol cover and vaknuhol count take it, without --when"
+NO_RING = f"--threads: {SHARED_BY_NONE}: vaknuhol cover and vaknuhol count take it, without --when"
 REFUSED = [
     (["count", "a\nb"], 125, rf"PROGRAM: 'a\nb': {CONTROL}"),
     (["count", "tour", "--record", "a\x1bb"], 125, rf"--record: 'a\x1bb': {CONTROL}"),

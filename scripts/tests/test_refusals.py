@@ -8,7 +8,7 @@ import pytest
 
 from tests.calls import patch, path_of, record, run, words_of
 from tests.programs import HALTING, Programs, compile_text, inside
-from vaknuhol.recording.thread_use import ONLY_COUNTERS
+from vaknuhol.recording.thread_use import NO_RING
 
 pytestmark = pytest.mark.xdist_group("refusals")
 REPORT, PATCHED, STARTS = (path_of("lines", "count", it) for it in ("report", "patched", "starts"))
@@ -84,9 +84,9 @@ PATCH: list[tuple[list[str], str]] = [
     *(
         (
             ["lines", "--jumps", "--threads", *it],
-            f"--threads: {ONLY_COUNTERS}; give --count with it, and neither --ring nor --when",
+            f"--threads: {NO_RING}; give neither --ring nor --when with it",
         )
-        for it in ((), ("--ring", "3"), ("--count", "--when", "rax > 0"))
+        for it in (("--ring", "3"), ("--when", "rax > 0"), ("--count", "--when", "rax > 0"))
     ),
     (
         ["hlt", "--symbols", "stop"],

@@ -20,7 +20,7 @@ COUNTED = {"*(long *)sum += i;": 4 * TIMES, "pthread_create(": 4, "pthread_join(
 PATCHED_FOR = "so it is patched for threads (--no-threads leaves that)\n"
 LAST = "threads.vak/last.record"
 MEANT = "--threads is meant for such a program\n"
-NO_RING = "--threads, which is meant for such a program, has counters alone, and no ring or condition\n"
+NO_RING = "--threads, which is meant for such a program, has no ring and no condition\n"
 LOST = "several threads wrote this record, and what two do at once may be lost: "
 
 
@@ -84,14 +84,17 @@ def test_how_many_blocks_are_left_for_which_reason_is_told_as_they_are_patched(p
     assert ours and all(theirs[first] == count for first, count in ours.items()), (ours, theirs)
 
 
-def test_cover_is_by_the_same_patched_file(counted):
-    """And says of the same blocks what was executed."""
+def test_cover_says_of_the_same_blocks_what_was_executed(counted):
+    """By a patched file of its own, whose report has the action `cover`."""
     printed, shown = call("cover", "threads", "--threads")
-    assert printed == SUM and "patched" not in shown and "hottest" not in shown and "threads, cover\n" in shown, shown
+    assert printed == SUM and "patched" in shown and "hottest" not in shown and "threads, cover\n" in shown, shown
     executed = {first: int(count > 0) for first, count in known("counted.record").items()}
-    assert known(LAST) == executed and Record(LAST).action.name == "cover", known(LAST)
+    record = Record(LAST)
+    assert known(LAST) == executed and record.action.name == "cover" and record.for_threads, known(LAST)
     told = f"{len(executed)} blocks are known in both: 0 were executed in counted.record only, 0 in last.record only\n"
     assert call("diff", "threads", "counted.record", LAST)[0] == told
+    checked, _ = call("check", "threads")
+    assert checked.count("check yes") == len(checked.splitlines()) == 2, checked
 
 
 def test_records_of_threads_are_added_up(counted):

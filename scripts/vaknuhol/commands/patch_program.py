@@ -7,8 +7,9 @@ instruction of its block, in up to four rounds. If the program header table woul
 called; with --no-loader, new code is kept nearer and nearer. e9tool is $E9TOOL if that is set, otherwise
 crates/e9tool/out/e9tool of this repository, the one in PATH, or the unproved one beside the first.
 
-With --count --threads e9tool's `threads` is called, with `form:loader` if the table would get too long: the program may
-have threads, and no count is lost. The files are PROGRAM.threads.patched, PROGRAM.threads.report and so on.
+With --threads e9tool's `threads` is called, with `form:loader` if the table would get too long: the program may have
+threads, and nothing recorded is lost. The files are PROGRAM.threads-cover.patched, or with --count
+PROGRAM.threads.patched, and so on.
 
 The exit status is 0 if each chosen block is patched, 1 if some were left, and 2 if something is refused.
 """
@@ -20,7 +21,7 @@ from vaknuhol.recording.action_options import action_of_words, add_action
 from vaknuhol.recording.block_choice import add_choices, read_program
 from vaknuhol.recording.patch_files import RunFiles, blocks_text
 from vaknuhol.recording.patching import Patching, ThreadPatching
-from vaknuhol.recording.thread_use import ONLY_COUNTERS, warn_of_threads
+from vaknuhol.recording.thread_use import NO_RING, warn_of_threads
 
 
 def parse() -> argparse.Namespace:
@@ -29,8 +30,7 @@ def parse() -> argparse.Namespace:
     add_choices(parser)
     add_action(parser)
     parser.add_argument("--threads", action="store_true",
-                        help="with --count, for a program with threads: each counts in one instruction, and none "
-                             "disturbs another")
+                        help="for a program with threads: each records in one instruction, and none disturbs another")
     parser.add_argument("--reserve", metavar="LO-HI", type=address_range, action="append", default=[],
                         help="addresses to keep free of new code; may be repeated")
     add_loader(parser)
@@ -38,8 +38,8 @@ def parse() -> argparse.Namespace:
                         help="the folder to write to, in place of PROGRAM.vak")
     words = parser.parse_args()
     words.action = action_of_words(parser, words)
-    if words.threads and not (words.count and words.action.of_all):
-        parser.error(f"--threads: {ONLY_COUNTERS}; give --count with it, and neither --ring nor --when")
+    if words.threads and (words.action.is_ring or not words.action.of_all):
+        parser.error(f"--threads: {NO_RING}; give neither --ring nor --when with it")
     if len(words.reserve) > 250:
         parser.error(f"--reserve: {len(words.reserve)} ranges; at most 250 can be given")
     return words

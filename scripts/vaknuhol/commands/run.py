@@ -12,11 +12,11 @@ from vaknuhol.messages import manner, note
 from vaknuhol.outputs import as_file
 from vaknuhol.program.program_file import Program
 from vaknuhol.recording.action_options import action_of_type
-from vaknuhol.recording.actions import Action, CoverOfCounters, action_of
+from vaknuhol.recording.actions import Action, action_of
 from vaknuhol.recording.default_choice import add_choice, complete
 from vaknuhol.recording.kept_patches import Kept, folder_of
 from vaknuhol.recording.runs import run
-from vaknuhol.recording.thread_use import ONLY_COUNTERS, started_by
+from vaknuhol.recording.thread_use import NO_RING, started_by
 from vaknuhol.views.coverage import Coverage
 from vaknuhol.views.summary import summary
 
@@ -41,7 +41,7 @@ def add_patch_words(level: Level, name: str) -> None:
     add_choice(level)
     level.add_argument("--threads", action=argparse.BooleanOptionalAction,
                        help=argparse.SUPPRESS if name == "ring"
-                       else "patch for threads: each event counts in one instruction and disturbs no other thread; "
+                       else "patch for threads: each event records in one instruction and disturbs no other thread; "
                        "by default, if the program starts threads")
     level.add_argument("--reserve", metavar="LO-HI", type=address_range, action="append", default=[],
                        help="addresses to keep free of new code; may be repeated")
@@ -69,7 +69,7 @@ def add_words(level: Level, name: str) -> None:
 def refuse_threads(words: argparse.Namespace) -> None:
     """What threads can't share is refused."""
     if words.threads and (words.slots or words.when):
-        raise Refusal(f"--threads: {ONLY_COUNTERS}: vaknuhol cover and vaknuhol count take it, without --when")
+        raise Refusal(f"--threads: {NO_RING}: vaknuhol cover and vaknuhol count take it, without --when")
 
 
 def refuse_fast(words: argparse.Namespace) -> None:
@@ -83,8 +83,6 @@ def refuse_fast(words: argparse.Namespace) -> None:
 
 def action_of_words(words: argparse.Namespace) -> Action:
     """What the record tells."""
-    if words.threads and words.command == "cover":
-        return CoverOfCounters()
     if words.slots:
         return action_of(f"ring:{words.slots}")
     return action_of(f"{words.command} when {words.when}" if words.when else words.command)

@@ -84,20 +84,6 @@ class Counting(Action):
         return array.array(self.typecode, data)
 
 
-class CoverOfCounters(Counting):
-    """Cover, told of the counters of `count`: a patch for threads has no other data."""
-
-    def __init__(self) -> None:
-        super().__init__("cover")
-        self.counting = Counting("count")
-
-    def length(self, sites: int) -> int:
-        return self.counting.length(sites)
-
-    def numbers(self, data: bytes) -> "array.array[int]":
-        return array.array(self.typecode, map(bool, self.counting.numbers(data)))
-
-
 class Ring(Action):
     """The last executions of all sites, in order."""
     is_ring, file_part = True, "ring"

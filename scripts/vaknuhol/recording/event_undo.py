@@ -29,7 +29,7 @@ def of_condition(comparisons: int) -> Steps:
 
 def steps_of(action: Action, for_threads: bool) -> Steps:
     if for_threads:
-        return THREADS
+        return THREADS if action.adds else COVER
     if isinstance(action, Ring):
         return RING
     if action.comparisons:

@@ -20,10 +20,10 @@ from vaknuhol.program.kernel import entries_of, most_entries
 from vaknuhol.program.listing import Listing
 from vaknuhol.program.listing_file import LISTER
 from vaknuhol.program.program_file import Program, file_hash, read_bytes
-from vaknuhol.recording.actions import Action, action_of
+from vaknuhol.recording.actions import Action
 from vaknuhol.recording.default_choice import choice_text, read_chosen
 from vaknuhol.recording.entry_limit import Fitting, ThreadFitting
-from vaknuhol.recording.patch_files import THREADS, Run, RunFiles, blocks_text
+from vaknuhol.recording.patch_files import Run, RunFiles, blocks_text, file_part_of
 from vaknuhol.recording.patch_report import Report
 from vaknuhol.recording.patching import find_tool
 from vaknuhol.recording.thread_use import warn_of_threads
@@ -47,27 +47,24 @@ def scripts_hash() -> str:
 
 
 class Part:
-    """One patched file with its report and its run files, checked to belong together; an action says what its record
-    tells."""
+    """One patched file with its report and its run files, checked to belong together."""
 
-    def __init__(self, files: RunFiles, action: Action) -> None:
+    def __init__(self, files: RunFiles) -> None:
         self.files, self.report = files, Report(files.report)
         self.run = Run(self.report)
         self.run.check_patched(files.patched, self.report)
-        self.report.action = action
 
     def entries(self) -> int:
         return entries_of(self.files.patched)
 
 
 class Kept:
-    """The patched files of one choice: made, or found as they were made before. Those for threads count, whatever is
-    told. `alone` says why there may be one file only, where that is so."""
+    """The patched files of one choice: made, or found as they were made before. `alone` says why there may be one file
+    only, where that is so."""
 
     def __init__(self, words: argparse.Namespace, action: Action, alone: str = "") -> None:
-        self.words, self.shown_action = words, action
+        self.words, self.action = words, action
         self.alone = "a ring is of one file" if action.is_ring else alone
-        self.action = action_of("count") if words.threads else action
         top = words.into or folder_of(words.program)
         os.makedirs(top, exist_ok=True)
         self.runs_here = most_entries(top)
@@ -76,7 +73,7 @@ class Kept:
         self.what = {"choice": choice_text(words), "reserve": reserve, "entries": self.most, "loader": words.loader,
                      "threads": words.threads}
         mark = hashlib.sha256(json.dumps([self.action.name, self.what]).encode()).hexdigest()[:8]
-        self.folder = os.path.join(top, f"{THREADS if words.threads else action.file_part}-{mark}")
+        self.folder = os.path.join(top, f"{file_part_of(action, words.threads)}-{mark}")
         self.made_of = {**self.what, "action": self.action.name, "program": file_hash(words.program),
                         "tool": file_hash(find_tool()),
                         "scripts": scripts_hash(), "lister": file_hash(native_program(LISTER))}
@@ -96,7 +93,7 @@ class Kept:
         return RunFiles(os.path.join(self.folder, f"{os.path.basename(self.words.program)}.{number}"))
 
     def in_parts(self, parts: int) -> list[Part]:
-        return [Part(self.files(number), self.shown_action) for number in range(1, parts + 1)]
+        return [Part(self.files(number)) for number in range(1, parts + 1)]
 
     def found(self) -> list[Part] | None:
         """The parts that stand there, whole and made of the same; or nothing."""

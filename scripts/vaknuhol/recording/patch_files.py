@@ -3,7 +3,8 @@
 Of `prog` with the action `count` they are `prog.vak/prog.count.` with these endings: `starts`, `sites`, `patched`,
 `report`, and `blocks`, which has the hashes and for each block its first address, its end, and its site. With a ring
 they are `prog.vak/prog.ring.`, whatever its length, and with a condition `prog.vak/prog.cover-when.` or
-`prog.vak/prog.count-when.` Of a patch for threads they are `prog.vak/prog.threads.`
+`prog.vak/prog.count-when.` Of a patch for threads they are `prog.vak/prog.threads.`, or where it covers
+`prog.vak/prog.threads-cover.`
 """
 import itertools
 import os
@@ -17,11 +18,17 @@ from vaknuhol.recording.actions import Action
 from vaknuhol.recording.patch_report import Report
 
 HEAD = "vakblocks 1"
-THREADS = "threads"
 WRITTEN = ("sites", "patched", "report")
 HASHED = ("starts", *WRITTEN)
 ROWS = re.compile(r"(?:[0-9a-f]{8} [0-9a-f]{8} [0-9a-f]{8}\n)*")
 ROW, NUMBERS = "%08x %08x %08x\n", struct.Struct(">3I")
+
+
+def file_part_of(action: Action, threads: bool) -> str:
+    """The part of files' names that stands for an action, and for threads."""
+    if not threads:
+        return action.file_part
+    return "threads" if action.adds else f"threads-{action.file_part}"
 
 
 class RunFiles:
@@ -36,7 +43,7 @@ class RunFiles:
     @classmethod
     def of_program(cls, program: str, action: Action, folder: str | None = None, threads: bool = False) -> "RunFiles":
         name = os.path.basename(program)
-        part = THREADS if threads else action.file_part
+        part = file_part_of(action, threads)
         return cls(os.path.join(folder or file_name(f"{name}.vak"), f"{name}.{part}"))
 
 

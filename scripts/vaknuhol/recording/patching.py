@@ -49,6 +49,11 @@ def list_text(addresses: list[int]) -> str:
     return "%x\n" * len(addresses) % tuple(addresses)
 
 
+def threads_action(name: str) -> list[str]:
+    """The word that asks `threads` for an action: none where it counts."""
+    return [] if name == "count" else [f"action:{name}"]
+
+
 class Patching:
     """One program's way to its patched file: rounds, of which the one with the fewest left sites is kept. The first
     command is the one given: where another file of the same program needed the loader form, that."""
@@ -212,9 +217,10 @@ class Patching:
 
 
 class ThreadPatching(Patching):
-    """The same by `threads`, whose loader form is asked for by a word after OUT."""
+    """The same by `threads`, whose loader form is asked for by a word after OUT, and covering by the next one."""
     first_command, loader_command = "threads", "threads form:loader"
 
     def words(self, starts: str, files: RunFiles) -> list[str]:
         command, *form = self.command.split()
-        return [command, self.program, starts, files.sites, files.patched, *form, f"report:{files.report}"]
+        return [command, self.program, starts, files.sites, files.patched, *form, *threads_action(self.action.name),
+                f"report:{files.report}"]

@@ -94,7 +94,7 @@ def table_of(report: Report, run: Run, patched: str) -> bytes:
     tramps = rows_of_tramps(tramps_of(report))
     undo, comparisons, (rows, lines) = undo_of(action, report.for_threads), comparisons_of(action), rows_of(report, run)
     warning = "" if report.for_threads else f"{THREAD}; {meant(action)}"
-    numbers = [kind, kind == COUNT or report.for_threads, report.for_threads, action.slots if isinstance(action, Ring)
+    numbers = [kind, kind == COUNT, report.for_threads, action.slots if isinstance(action, Ring)
                else 0, report.sites(), len(undo),
                len(comparisons), len(rows) // ROW_BYTES, len(tramps) // TRAMP_BYTES, len(lines), report.private,
                -(-(SCRATCH + length) // PAGE) * PAGE, length,

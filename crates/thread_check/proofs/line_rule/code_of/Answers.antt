@@ -5,7 +5,7 @@ use Rattle.image_check.specs.Verdict.{case_of}
 use Rattle.thread_check.proofs.BuiltCode.{built, not_built, not_known}
 use Rattle.thread_check.proofs.line_rule.code_of.Goals as goal
 
-pub returns-in_default : goal.returns-in-None
+pub returns-in_default : goal.returns-in_default
 returns-in_default c = λ p. not_known (case_of c.args.orig.now.bytes p c.args.starts.now c.args.report.now.body) (line_of c.args.line.now) c.in_default.ensures.at
 
 pub returns-in-Ok : goal.returns-in-Ok
@@ -13,7 +13,7 @@ returns-in-Ok c = λ p.
     built c.thread_event_of.result (case_of c.args.orig.now.bytes p c.args.starts.now c.args.report.now.body) (line_of c.args.line.now) c.args.orig.now.bytes c.in-Some.at.entry.now
     c.in-Some.at.insn.now c.in-Some.at.bytes.now c.in-Ok.code.bytes c.private-private.result.lo
     (c.thread_event_of.ensures ∙ ap (λ b. thread_event_of b c.args.line.now.tramp.event) (c.thread_base.ensures ∙ ap thread_base c.action.ensures))
-    c.requires.accepted c.requires.built refl c.in-Some.ensures.at c.if-at-entry.false (ap (λ x. x.0) c.private-private.ensures)
+    c.requires.accepted c.requires.built refl c.in-Some.ensures.at c.if-at.false (ap (λ x. x.0) c.private-private.ensures)
     c.in-Ok.ensures.code c.in-Ok.ensures.size
 
 pub returns-in-Err : goal.returns-in-Err

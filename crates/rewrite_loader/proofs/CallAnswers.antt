@@ -1,9 +1,7 @@
 -- What a call of a rewriting into the loader form knows once the sites are planned, and what its answers then say.
-use Rattle.std.proofs.Common.{◌≡◌, inl, inr, ℕ, ◌≤◌, ◌<◌, List, [], ◌∷◌, ◌++◌, map, length, Result, Ok, Err, refl, sym, ap, ◌∙◌, subst}
-use Rattle.std.specs.List.{AllByRecursion}
+use Rattle.std.proofs.Common.{◌≡◌, inl, inr, ℕ, ◌≤◌, List, [], ◌∷◌, ◌++◌, map, Result, Ok, Err, refl, sym, ap, ◌∙◌, subst}
 use Rattle.pun_base.specs.Shown.{DeskState}
 use Rattle.pun_base.specs.declared.action.Action.{Action}
-use Rattle.pun_base.specs.declared.range.Range.{Range}
 use Rattle.address_space.specs.declared.extent.Extent.{Extent}
 use Rattle.address_space.specs.Free.{extent_of}
 use Rattle.page_group.specs.Grouping.{GroupsState}
@@ -28,7 +26,7 @@ use Rattle.rewrite_core.specs.declared.rewrite.RewriteError.{RewriteError}
 use Rattle.rewrite_core.specs.declared.rewrite.RewriteError.TheVariants as rewrite
 use Rattle.rewrite_core.specs.Asked.{Asked, request_of}
 use Rattle.rewrite_core.specs.Causes.{emit_error}
-use Rattle.rewrite_core.specs.Judging.{HasStarts, IsJobFor, Job, JudgesPlanBy, job_of, writing_of}
+use Rattle.rewrite_core.specs.Judging.{HasStarts, IsJobFor, Job, job_of, writing_of}
 use Rattle.rewrite_core.specs.Origins.{origin_of}
 use Rattle.rewrite_core.specs.Patching.{IsCall, PlansBy}
 use Rattle.rewrite_core.proofs.PlannedCalls.{written_whole}
@@ -36,7 +34,7 @@ use Rattle.rewrite_core.proofs.WrittenPlans.{report_is, is_report}
 use Rattle.loader_form.specs.declared.error.LoadError.{LoadError}
 use Rattle.loader_form.specs.declared.error.LoadError.TheVariants as load
 use Rattle.loader_form.specs.LoaderState.{LoaderState}
-use Rattle.loader_form.specs.Laid.{LaidLoads, loader_frame}
+use Rattle.loader_form.specs.Laid.{loader_frame}
 use Rattle.loader_form.specs.Lay as lay
 use Rattle.loader_form.specs.Lay.{code_extent, taken_after, Lays, laid_of}
 use Rattle.loader_form.proofs.PlannedLoader.{planned_loader_followed}
@@ -45,7 +43,7 @@ use Rattle.rewrite_loader.specs.declared.error.LoaderError.TheVariants.{Rewrite}
 use Rattle.rewrite_loader.specs.declared.writing.Loaded.{Loaded}
 use Rattle.rewrite_loader.specs.Causes.{load_error}
 use Rattle.rewrite_loader.specs.Judging.{LaidJob, file_by, extent_at, taken_by, run_count, with_loader, JudgesLoaderBy}
-use Rattle.rewrite_loader.specs.Writing.{IsLaidBeside, EmitsLaid, IsLoadedPlan, IsUnlaid, IsUnemitted, WritesLoader}
+use Rattle.rewrite_loader.specs.Writing.{IsLaidBeside, EmitsLaid, IsLoadedPlan, WritesLoader}
 use Rattle.rewrite_loader.specs.Followed.{IsLoaderFollowed}
 use Rattle.rewrite_loader.specs.Rewrites.{LoadsBy, IsRewritten, Rewrites}
 
@@ -94,6 +92,7 @@ module _ {J R : Type 0} (IsJob : Request → J → Type 0) (writing : J → writ
     unlaid groups g (load.NoLoader n) e h = ((job groups, (starts, is_job groups g), by_job groups (Err (load.NoLoader n)) h), e)
 
     module _ (groups : GroupsState) (l : LoaderState) (laid : IsLaidBeside a.file a.reserves p groups l) where
+      -- the frame of the job's file
       abbrev frame : written_job.Frame
       frame = loader_frame (writing (job groups)) (laid_of l)
 

@@ -97,9 +97,11 @@ module _ {J : Type 0} (IsJob : Request → J → Type 0) (writing : J → writte
     (once : (q : Request) (i j : J) → IsAsked q → IsJob q i → IsJob q j → i ≡ j) where
   -- ---- a planned job
 
+  -- the verdict is why nothing is laid for the job
   abbrev IsUnlaidSo : List Range → J → Result (LaidJob J) LoaderError → Type 0
   IsUnlaidSo rs j v = (e : LoadError) × (v ≡ Err (Load e)) × IsUnlaid (taken_by (writing j) rs) (run_count (writing j)) e
 
+  -- a stub is laid for the job, and the verdict is that of the table
   abbrev IsLaidSo : List Range → J → Result (LaidJob J) LoaderError → Type 0
   IsLaidSo rs j v = (l : LoaderState) × IsLaidFor rs (writing j) l × AfterLaid (with_loader j l) (entry_count writing (with_loader j l)) v
 
@@ -130,6 +132,7 @@ module _ {J : Type 0} (IsJob : Request → J → Type 0) (writing : J → writte
 
   -- ---- all of it
 
+  -- the verdict is that of the plan, or that of a planned job
   abbrev InTurn : Asked → Result (LaidJob J) LoaderError → Type 0
   InTurn a v = ((e : RewriteError) × (v ≡ Err (Rewrite e)) × JudgesPlanBy IsJob a (Err e)) ⊎ JudgesPlanned IsJob writing a v
 

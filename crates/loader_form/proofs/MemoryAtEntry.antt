@@ -155,9 +155,9 @@ led_with file b original base P Q s f h =
     record { moves = h.moves; run = h.run; few = h.few; reaches = h.reaches; on = f (original_start file b original base t) t h.on }
 
 -- from a start pair the headline holds
-pub goes_on : (r : Rewriting) (image : Bytes) (entry : ℕ) → r.patched ≡ image → r.entry ≡ entry → Headline Step r
-    → (a u : Machine) → IsStartPair r.original image entry a u → GoesOn r a u
-goes_on r image entry same there head a u p0 =
+pub goes_on : (r : Rewriting) (m : Bytes) (entry : ℕ) → r.patched ≡ m → r.entry ≡ entry → Headline Step r
+    → (a u : Machine) → IsStartPair r.original m entry a u → GoesOn r a u
+goes_on r m entry same there head a u p0 =
     let p1 = subst (λ (z : Bytes). IsStartPair r.original z entry a u) (sym same) p0 in
     let p = subst (λ (z : ℕ). IsStartPair r.original r.patched z a u) (sym there) p1 in
     record { pair = p; follows = λ is q. head a u p is q }

@@ -1,5 +1,5 @@
 -- What `load` wrote is taken back, and what `threads` wrote in the loader form.
-use Rattle.std.proofs.Common.{◌^◌, ◌<◌, ◌≤◌, ℕ, List, length, Ok, sym, subst}
+use Rattle.std.proofs.Common.{◌^◌, ◌<◌, ◌≤◌, List, length, Ok, sym, subst}
 use Rattle.address_space.specs.declared.extent.Extent.{Extent}
 use Rattle.elf_emit.specs.Job as written
 use Rattle.patch_report.specs.Values.{ReportValue}

@@ -1,8 +1,8 @@
-"""The text that `vaknuhol annotate` prints, and the names by which it finds copies of a function."""
+"""The text that `vaknuhol annotate` prints, and the names by which it finds a function."""
 import pytest
 
 from tests.doubles import double
-from vaknuhol.program.function_names import without_suffix
+from vaknuhol.program.function_names import spellings
 from vaknuhol.views.annotation import Block, Instruction, Part, Source
 from vaknuhol.views.annotation_text import text_of
 
@@ -30,14 +30,19 @@ def test_columns_are_kept_where_counts_are_long() -> None:
 
 
 @pytest.mark.parametrize(
-    "symbol, wanted",
+    "symbol, source, name",
     [
-        ("scaled.constprop.0", "scaled"),
-        ("scaled.isra.0.part.1.cold", "scaled"),
-        ("scaled.cold", "scaled"),
-        ("main.parted", "main.parted"),
-        ("constprop.0", "constprop.0"),
+        ("scaled.constprop.0", "scaled.constprop.0", "scaled"),
+        ("scaled.isra.0.part.1.cold", "scaled.isra.0.part.1.cold", "scaled"),
+        ("main.main", "main.main", "main.main"),
+        ("_ZN4Tree3addEi", "Tree::add(int)", "Tree::add"),
+        ("_ZN5words3add17h0123456789abcdefE", "words::add::h0123456789abcdef", "words::add"),
+        ("__sums_MOD_ack", "__sums_MOD_ack", "ack"),
     ],
 )
-def test_a_copy_has_the_name_of_its_function(symbol: str, wanted: str) -> None:
-    assert without_suffix(symbol) == wanted
+def test_a_function_is_found_by_the_name_that_its_source_has(symbol: str, source: str, name: str) -> None:
+    assert {symbol, source, name} <= spellings(symbol, source)
+
+
+def test_a_name_is_not_taken_for_a_part_of_another() -> None:
+    assert spellings("main.parted", "main.parted") == {"main.parted"}

@@ -5,7 +5,9 @@ import shutil
 import subprocess
 from typing import Callable, Iterable
 
-COPY = re.compile(r"(\.(constprop|isra|part|cold|lto_priv|localalias)(\.[0-9]+)*)+$")  # what gcc adds to a copy's symbol
+COPY = re.compile(r"(\.(constprop|isra|part|cold|lto_priv|localalias)(\.[0-9]+)*)+$")  # what gcc adds to copies
+HASH = re.compile(r"::h[0-9a-f]{16}$")  # what rustc adds to each function's name
+IN_MODULE = re.compile(r"__\w+?_MOD_(\w+)")  # how gfortran spells a procedure of a module
 
 
 @functools.cache
@@ -17,9 +19,13 @@ def demangled(names: tuple[str, ...]) -> dict[str, str]:
     return dict(zip(names, done.stdout.splitlines()))
 
 
-def without_suffix(symbol: str) -> str:
-    """The symbol of the function that a compiler's copy, as `f.constprop.0`, is made of."""
-    return COPY.sub("", symbol)
+@functools.cache
+def spellings(symbol: str, source: str) -> set[str]:
+    """The names by which one may ask for a function, by its symbol and its whole name in the source: also without
+    arguments, and without what compilers add."""
+    plain, bare = COPY.sub("", symbol), source.partition("(")[0]
+    module = IN_MODULE.fullmatch(plain)
+    return {symbol, plain, source, bare, HASH.sub("", bare), module.group(1) if module else symbol}
 
 
 def namer(names: Iterable[str]) -> Callable[[str], str]:

@@ -12,7 +12,7 @@ from collections.abc import Iterator
 from vaknuhol.arguments import Refusal
 from vaknuhol.program.binutils import run
 from vaknuhol.program.debug_info import INLINED
-from vaknuhol.program.function_names import without_suffix
+from vaknuhol.program.function_names import spellings
 from vaknuhol.recording.record_file import Row
 from vaknuhol.views.coverage import Coverage
 
@@ -82,10 +82,11 @@ class Annotation:
         """The inlined calls of a function."""
         info, names, parts = self.coverage.info, self.names, []
         for instance in info.instances():
-            if info.kind[instance - 1] & INLINED and name in (info.name_of(instance), names(info.name_of(instance))):
+            symbol = info.name_of(instance)
+            if info.kind[instance - 1] & INLINED and name in spellings(symbol, names(symbol)):
                 parent = info.parent[instance - 1]
                 where = f"{names(info.name_of(parent))}, line {info.call_line[instance - 1]}" if parent else ""
-                part = Part(info.name_of(instance), sorted(info.ranges_of(instance)), where)
+                part = Part(symbol, sorted(info.ranges_of(instance)), where)
                 if self.measure(part):
                     part.entered = self.coverage.instances.entered(instance)
                     parts.append(part)
@@ -116,8 +117,7 @@ class Annotation:
         parts, names = self.functions(), self.names
         if name is None:
             return [part for part in parts if part.work] or parts
-        found = [part for part in parts if name in (part.name, without_suffix(part.name), names(part.name),
-                                                    names(part.name).partition("(")[0])] or self.inlined(name)
+        found = [part for part in parts if name in spellings(part.name, names(part.name))] or self.inlined(name)
         if not found:
             raise Refusal(f"{name}: the record has no block of such a function: vaknuhol annotate {self.coverage.path} "
                           "shows all that ran")

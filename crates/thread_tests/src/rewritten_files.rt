@@ -1,5 +1,7 @@
 //! Files that are patched for guests of several threads.
-ghost use Rattle.std.specs.Prelude.{◌≡◌, None};
+ghost use Rattle.std.specs.Prelude.{◌≡◌, ◌≤◌, None, length, IfSome};
+ghost use Rattle.std.specs.List.Sorted.{IsStrictlyIncreasing};
+ghost use Rattle.pun_base.specs.Limits.{most_sites};
 
 use elf_read::writing::plain_file;
 use guest_threads::rewriting::{
@@ -19,6 +21,17 @@ use std::alloc::Global;
 use std::test::Fail;
 use thread_loader::rewriting::rewrite_threads_loader;
 
+/// The plain file of a text, if the starts and the sites ascend and there aren't too many sites.
+fn ordered_file(alloc: Global, text: &[u8], starts: &[u32], sites: &[u32]) -> Option<Vec<u8>>
+    ensures { IfSome result (λ _. IsStrictlyIncreasing starts.now
+        × IsStrictlyIncreasing sites.now × (length sites.now ≤ most_sites)) }
+{
+    if !ascend(starts) || !ascend(sites) || sites.len() > 65536 {
+        return None;
+    }
+    plain_file(alloc, text).ok()
+}
+
 /// Patches the plain file of a text under the name "O", with these starts and sites and nothing reserved.
 pub(crate) fn rewritten<D: Desk>(
     alloc: Global,
@@ -29,12 +42,7 @@ pub(crate) fn rewritten<D: Desk>(
 ) -> Option<Result<ThreadReport, ThreadError>>
     requires { (D.seen desk.old).writing ≡ None }
 {
-    let Ok(file) = plain_file(alloc, text) else {
-        return None;
-    };
-    if !ascend(starts) || !ascend(sites) || sites.len() > 65536 {
-        return None;
-    }
+    let file = ordered_file(alloc, text, starts, sites)?;
     Some(rewrite_threads(alloc, &file, starts, sites, Base::Count, &[], "O", desk))
 }
 
@@ -49,12 +57,7 @@ pub(crate) fn reported<D: Desk>(
 ) -> Option<Report>
     requires { (D.seen desk.old).writing ≡ None }
 {
-    let Ok(file) = plain_file(alloc, text) else {
-        return None;
-    };
-    if !ascend(starts) || !ascend(sites) || sites.len() > 65536 {
-        return None;
-    }
+    let file = ordered_file(alloc, text, starts, sites)?;
     rewrite_threads_reported(alloc, &file, starts, sites, base, &[], "O", desk).ok()
 }
 
@@ -68,12 +71,7 @@ fn loaded<D: Desk>(
 ) -> Option<Report>
     requires { (D.seen desk.old).writing ≡ None }
 {
-    let Ok(file) = plain_file(alloc, text) else {
-        return None;
-    };
-    if !ascend(starts) || !ascend(sites) || sites.len() > 65536 {
-        return None;
-    }
+    let file = ordered_file(alloc, text, starts, sites)?;
     rewrite_threads_loader(alloc, &file, starts, sites, Base::Count, &[], "O", desk).ok()
 }
 

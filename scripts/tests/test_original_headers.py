@@ -53,7 +53,8 @@ def counts_by_gdb(program: str, addresses: list[int]) -> dict[int, int]:
         for word in ("-ex", f"break *{at:#x}", "-ex", f"ignore {number} {OFTEN}")
     ]
     told = run("gdb", "-nx", "-q", "-batch", *words, "-ex", "run", "-ex", "info breakpoints", program)
-    found = re.findall(r"^[0-9]+ +breakpoint +keep y +0x([0-9a-f]+).*(?:\n\tbreakpoint already hit ([0-9]+))?", told, re.M)
+    rows = r"^[0-9]+ +breakpoint +keep y +0x([0-9a-f]+).*(?:\n\tbreakpoint already hit ([0-9]+))?"
+    found = re.findall(rows, told, re.M)
     assert len(found) == len(addresses), told
     return {int(at, 16): int(hits or 0) for at, hits in found}
 
@@ -70,7 +71,8 @@ def test_what_reads_the_table_finds_that_of_the_original(headers, form):
 @pytest.mark.parametrize("form", FORMS)
 def test_the_c_library_executes_as_much_as_gdb_counts(headers, form):
     """In each block of a function that reads the table as the program begins."""
-    first, size = (int(it, 16) for it in match(rf"([0-9a-f]+) ([0-9a-f]+) T {READER}\n", run("nm", "-S", "headers")).groups())
+    found = match(rf"([0-9a-f]+) ([0-9a-f]+) T {READER}\n", run("nm", "-S", "headers"))
+    first, size = (int(it, 16) for it in found.groups())
     call(*words_of(form, "--blocks", "--within", f"{first:x}-{first + size:x}"))
     counts = known(LAST)
     assert max(counts.values()) > 1 and counts == counts_by_gdb("./headers", sorted(counts))

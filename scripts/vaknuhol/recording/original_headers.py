@@ -22,7 +22,8 @@ def original_front(path: str, origin: Origin, end: int) -> bytes:
 
 def table_address(front: bytes, origin: Origin) -> int:
     """Where the kernel says that the table is loaded: the last segment to be loaded that has its first byte tells, and
-    0 is told if there is none (load_elf_binary of fs/binfmt_elf.c)."""
+    0 is told if there is none (load_elf_binary of fs/binfmt_elf.c; before Linux 5.18 the first segment told, whatever
+    it has)."""
     found = 0
     for number in range(origin.phnum):
         kind, _, offset, address, _, length, _, _ = ENTRY.unpack_from(front, origin.phoff + ENTRY.size * number)

@@ -1,6 +1,7 @@
 //! The rewriting of a file for a guest of several threads.
 ghost use Rattle.std.specs.Prelude.{◌≡◌, ◌^◌, ◌<◌, ◌≤◌, None, length};
 ghost use Rattle.std.specs.List.Sorted.{IsStrictlyIncreasing};
+ghost use Rattle.pun_base.specs.declared.action.Action.TheVariants.{Count};
 ghost use Rattle.pun_base.specs.Desk.{Stays};
 ghost use Rattle.pun_base.specs.Limits.{most_sites};
 ghost use Rattle.elf_read.specs.Refusals.{refusal};
@@ -84,7 +85,7 @@ fn write_threads<D: Desk>(
 }
 
 /// Writes the file that is patched for a guest of several threads under a name, in pieces of 4,096
-/// bytes: each patched site counts, and no thread's count is lost, or it covers.
+/// bytes: each patched site counts, and no thread's count is lost.
 ///
 /// `file` is the original, `starts` and `sites` are addresses in ascending order, and no new code
 /// stands in the reserved ranges.
@@ -93,7 +94,6 @@ pub fn rewrite_threads<D: Desk>(
     file: &[u8],
     starts: &[u32],
     sites: &[u32],
-    base: Base,
     reserves: &[Range],
     name: &str,
     desk: &mut D,
@@ -106,13 +106,22 @@ pub fn rewrite_threads<D: Desk>(
       file = file.now;
       starts = starts.now;
       sites = sites.now;
-      action = thread_action base;
+      action = Count;
       reserves = reserves.now;
     }) name.now (D.seen desk.old) (D.seen desk.new) result }
     ensures stays { Stays (D.seen desk.old) (D.seen desk.new) }
 {
     let elf = read_elf(alloc, file)?;
-    let patch = write_threads(alloc, &elf, starts, sites, base, reserves, name, desk)?;
+    let patch = write_threads(
+        alloc,
+        &elf,
+        starts,
+        sites,
+        Base::Count,
+        reserves,
+        name,
+        desk,
+    )?;
     let Patch {
         private,
         rows,
@@ -123,7 +132,7 @@ pub fn rewrite_threads<D: Desk>(
     Ok(ThreadReport { private, rows })
 }
 
-/// Writes what `rewrite_threads` writes, and returns a report of version 2 that undoes the patch.
+/// Writes what `rewrite_threads` writes, or a file whose events cover, and returns a report of version 2 that undoes the patch.
 /// After want of memory for the report the file stands under the name.
 ///
 /// `file` is the original, `starts` and `sites` are addresses in ascending order, and no new code

@@ -60,7 +60,6 @@ fn rewrite_inputs<'a, D: Desk>(
         file,
         &listed.starts,
         &listed.sites,
-        Base::Count,
         reserves,
         names.out,
         desk,

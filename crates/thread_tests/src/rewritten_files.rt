@@ -43,7 +43,7 @@ pub(crate) fn rewritten<D: Desk>(
     requires { (D.seen desk.old).writing ≡ None }
 {
     let file = ordered_file(alloc, text, starts, sites)?;
-    Some(rewrite_threads(alloc, &file, starts, sites, Base::Count, &[], "O", desk))
+    Some(rewrite_threads(alloc, &file, starts, sites, &[], "O", desk))
 }
 
 /// The report of such a patch whose events cover or count, if it was written.

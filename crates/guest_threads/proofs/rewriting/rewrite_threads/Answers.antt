@@ -1,4 +1,5 @@
 use Rattle.std.proofs.Common.{rules, Ok, refl}
+use Rattle.pun_base.specs.declared.action.Base.TheVariants.{Count}
 use Rattle.rewrite_core.specs.Asked.{Asked}
 use Rattle.rewrite_core.proofs.PlannedCalls.{by_error, of_input}
 use Rattle.guest_threads.specs.ThreadCalls.{sharing}
@@ -12,7 +13,7 @@ write_threads-requires-clause-order g c =
 
 pub returns-in_err-patch-clause-rewrites : goal.returns-in_err-patch-clause-rewrites
 returns-in_err-patch-clause-rewrites g c =
-    let a = sharing c.args.base c.in_ok-elf.elf.bytes c.args.starts.now c.args.sites.now c.args.reserves.now in
+    let a = sharing Count c.in_ok-elf.elf.bytes c.args.starts.now c.args.sites.now c.args.reserves.now in
     of_input (λ (z : Asked). RewritesThreads z c.args.name.now
     (g.D.Desk.seen c.args.desk.now) (g.D.Desk.seen c.write_threads.new.desk) c.from_residual-in_err-patch.result)
     (record a { file = c.args.file.now }) c.in_ok-elf.elf.bytes c.in_ok-elf.ensures.file.0
@@ -21,7 +22,7 @@ returns-in_err-patch-clause-rewrites g c =
 
 pub returns-clause-rewrites : goal.returns-clause-rewrites
 returns-clause-rewrites g c =
-    let a = sharing c.args.base c.in_ok-elf.elf.bytes c.args.starts.now c.args.sites.now c.args.reserves.now in
+    let a = sharing Count c.in_ok-elf.elf.bytes c.args.starts.now c.args.sites.now c.args.reserves.now in
     of_input (λ (z : Asked). RewritesThreads z c.args.name.now
     (g.D.Desk.seen c.args.desk.now) (g.D.Desk.seen c.write_threads.new.desk) (Ok (record { private = c.in_ok-patch.patch.private; rows = c.in_ok-patch.patch.rows })))
     (record a { file = c.args.file.now }) c.in_ok-elf.elf.bytes c.in_ok-elf.ensures.file.0

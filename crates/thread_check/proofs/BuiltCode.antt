@@ -1,5 +1,5 @@
 -- The code that is built for a trampoline is the one that it has for threads.
-use Rattle.std.proofs.Common.{◌≡◌, inl, inr, ℕ, ◌+◌, ◌<◌, false, true, List, ◌++◌, length, length-append, get_or, map, Option, Some, None, refl, sym, ap, ◌∙◌, subst, arith}
+use Rattle.std.proofs.Common.{◌≡◌, inl, inr, ℕ, ◌+◌, ◌<◌, false, List, ◌++◌, length, length-append, get_or, map, Option, Some, None, refl, sym, ap, ◌∙◌, subst, arith}
 use Rattle.std.specs.Option.{is_some, option_map}
 use Rattle.std.proofs.lemmas.Option.{slice_get-map, slice_get-get_or}
 use Rattle.pun_base.specs.Memory.{Bytes}
@@ -98,10 +98,6 @@ not_known c l f = by_entry (entry_at c.listed l.tramp.start) refl
     by_entry None e = inl (ap moved_from e)
     by_entry (Some e) o = let known : e.form ≡ None = sym (ap form_from o) ∙ f in
         inl (ap moved_from o ∙ ap (λ (z : Option Insn). can_by z e.len e.addr) known)
-
--- where an entry is marked, its instruction shares a byte
-pub not_alone : (c : Case) (l : Line) (e : StartEntry) → entry_at c.listed l.tramp.start ≡ Some e → e.shared ≡ true → IsCodeFound c l None
-not_alone c l e h s = inr (ap is_marked h ∙ s)
 
 -- without code rule 3 fails
 pub no_code_fails : (c : Case) (l : Line) (start : ℕ) → start ≡ l.tramp.start → IsCodeFound c l None → IsLineFailure c l (No start 3)

@@ -1,9 +1,6 @@
 -- Where the stub leads guests of several threads start; and what the answers of a call say.
-use Rattle.std.proofs.Common.{◌≡◌, ℕ, List, ◌∷◌, Result, Ok, Err, refl, sym, ap, ◌∙◌, subst}
-use Rattle.std.specs.List.{AllByRecursion}
-use Rattle.pun_base.specs.Memory.{Bytes}
+use Rattle.std.proofs.Common.{◌≡◌, ℕ, List, ◌∷◌, Ok, Err, refl, sym, ap, ◌∙◌, subst}
 use Rattle.pun_base.specs.Shown.{DeskState}
-use Rattle.page_group.specs.Grouping.{GroupsState}
 use Rattle.insn_form.specs.Machine.{Machine}
 use Rattle.elf_read.specs.Entries.{entry_of}
 use Rattle.elf_read.specs.Image.{image_of}
@@ -17,14 +14,12 @@ use Rattle.image_step.specs.Quiet.{IsStartPair}
 use Rattle.site_turns.specs.Modes.{thread_rules, thread_base}
 use Rattle.site_turns.specs.PlannedState.{PlannedState}
 use Rattle.site_turns.specs.Planning.{Turns}
-use Rattle.site_turns.specs.PlanLaws.{AreGroups, report_under}
+use Rattle.site_turns.specs.PlanLaws.{report_under}
 use Rattle.rewrite_core.specs.Asked.{Asked, request_of}
 use Rattle.rewrite_core.specs.Origins.{origin_of}
 use Rattle.rewrite_core.specs.Patching.{IsCallBy, PlansBy}
 use Rattle.rewrite_core.specs.declared.rewrite.RewriteError.{RewriteError}
 use Rattle.rewrite_core.specs.declared.rewrite.RewriteError.TheVariants as rewrite
-use Rattle.loader_form.specs.Starting.{IsLaidStart}
-use Rattle.loader_form.specs.Parting.{LeadsOn}
 use Rattle.loader_form.proofs.MemoryParts.{leads_with}
 use Rattle.loader_form.proofs.PlannedLoader.{written_leads}
 use Rattle.rewrite_loader.specs.declared.error.LoaderError.{LoaderError}
@@ -37,7 +32,7 @@ use Rattle.rewrite_loader.proofs.CallAnswers.{told_of}
 use Rattle.thread_runs.specs.Guest.{Thread, thread_of}
 use Rattle.thread_runs.specs.Threading.{Threading}
 use Rattle.guest_threads.specs.ThreadCalls.{IsSharedPlanned}
-use Rattle.guest_threads.specs.ThreadRewriting.{ThreadJob, IsThreadJobFor, writing_of}
+use Rattle.guest_threads.specs.ThreadRewriting.{IsThreadJobFor, writing_of}
 use Rattle.guest_threads.proofs.RewriteAnswers.{can_write, job, is_job, writes_job, told_plan, plan_report, shown_threaded}
 use Rattle.thread_loader.specs.Followed.{ThreadLoaderJob, threading_for, StartThreads, IsLoaderFollowedInThreads}
 use Rattle.thread_loader.specs.Rewriting.{IsReported, LoadsThreads}

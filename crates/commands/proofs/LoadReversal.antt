@@ -91,5 +91,5 @@ judged_thread_loaders_are_reversed a k order size h =
 -- after a `threads` in the loader form that answered 0 or 1, OUT and REPORT hold what gives FILE back
 pub loaded_threads_are_reversed : LoadedThreadsAreReversed
 loaded_threads_are_reversed b p files new s t k l status orig apart h bytes held w =
-    form_is_reversed (for_threads_with_stub b) (record { undone = judged_thread_loaders_are_reversed; told = λ file starts job f. f.of_job.told }) p files new s t
-    k l status orig apart h bytes held w.writes
+    form_is_reversed (for_threads_with_stub b) (record { undone = judged_thread_loaders_are_reversed; told = λ file starts job f. f.of_job.told }) p files new s
+    t k l status orig apart h bytes held w.writes

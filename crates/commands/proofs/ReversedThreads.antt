@@ -26,7 +26,8 @@ judged_threads_are_reversed a job order size judged =
     let is = writing_is_job q j.planned j.groups asked (writable q j.turns j.planned asked j.is_planned) j.are_groups size in
     subst (λ (z : ThreadJob). IsReversed a.file (layout z.emit) z.report) (sym j.is)
     (frame_is_reversed (frame_of w.emit) w.report (job_frame w.emit is) (subst (λ (z : ThreadJob). count z.emit ≤ 1024) j.is judged.1.few)
-    (writes_under (thread_rules (thread_base q.action)) q j.turns j.planned j.groups turned.rows) (told_under (thread_rules (thread_base q.action)) five_lead q j.turns j.groups asked turned.turns))
+    (writes_under (thread_rules (thread_base q.action)) q j.turns j.planned j.groups turned.rows)
+    (told_under (thread_rules (thread_base q.action)) five_lead q j.turns j.groups asked turned.turns))
 
 -- after a `threads` with a report that answered 0 or 1, OUT and REPORT hold what gives FILE back
 pub threads_are_reversed : ThreadsAreReversed

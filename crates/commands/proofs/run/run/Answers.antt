@@ -98,7 +98,8 @@ returns-in-Ok-ThreadsReported-clause-does g c =
     let n = names_of c.in-Ok-ThreadsReported.names in
     let b = c.in-Ok-ThreadsReported.base in
     let pairs = map ends c.deref-in-Ok-ThreadsReported.result.now in
-    let q : ThreadsReported n b (map ends c.in-Ok-ThreadsReported.reserves.items) ≡ command_of words = rw c.in-Ok-ThreadsReported.field-0-is at c.in-Ok-ThreadsReported.ensures in
+    let q : ThreadsReported n b (map ends c.in-Ok-ThreadsReported.reserves.items) ≡ command_of words =
+    rw c.in-Ok-ThreadsReported.field-0-is at c.in-Ok-ThreadsReported.ensures in
     let r : ThreadsReported n b pairs ≡ command_of words = ap (λ rs. ThreadsReported n b (map ends rs)) c.deref-in-Ok-ThreadsReported.ensures.value ∙ q in
     of_words words (ThreadsReported n b pairs) _ _ _ _ _ r
     (form_ended (for_threads b) (reported_patching n b pairs) (known_of words (ThreadsReported n b pairs) r) _ _ _ _ (seen_as told_of c.patch_reported.result) _
@@ -110,10 +111,12 @@ returns-in-Ok-ThreadsLoaded-clause-does g c =
     let n = names_of c.in-Ok-ThreadsLoaded.names in
     let b = c.in-Ok-ThreadsLoaded.base in
     let pairs = map ends c.deref-in-Ok-ThreadsLoaded.result.now in
-    let q : ThreadsLoaded n b (map ends c.in-Ok-ThreadsLoaded.reserves.items) ≡ command_of words = rw c.in-Ok-ThreadsLoaded.field-0-is at c.in-Ok-ThreadsLoaded.ensures in
+    let q : ThreadsLoaded n b (map ends c.in-Ok-ThreadsLoaded.reserves.items) ≡ command_of words =
+    rw c.in-Ok-ThreadsLoaded.field-0-is at c.in-Ok-ThreadsLoaded.ensures in
     let r : ThreadsLoaded n b pairs ≡ command_of words = ap (λ rs. ThreadsLoaded n b (map ends rs)) c.deref-in-Ok-ThreadsLoaded.ensures.value ∙ q in
     of_words words (ThreadsLoaded n b pairs) _ _ _ _ _ r
-    (form_ended (for_threads_with_stub b) (reported_patching n b pairs) (known_of words (ThreadsLoaded n b pairs) r) _ _ _ _ (seen_as told_of c.patch_loaded.result) _
+    (form_ended (for_threads_with_stub b) (reported_patching n b pairs) (known_of words (ThreadsLoaded n b pairs) r) _ _ _ _
+    (seen_as told_of c.patch_loaded.result) _
     c.patch_loaded.ensures.rest c.patch_loaded.ensures.ends c.tell-in-Ok-ThreadsLoaded.ensures.printed)
 
 pub returns-in-Ok-Unpatch-clause-does : goal.returns-in-Ok-Unpatch-clause-does

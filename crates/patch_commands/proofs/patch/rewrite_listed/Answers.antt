@@ -47,6 +47,7 @@ returns-in-Ok-rewrite_threads_loader-clause-rewrites g c =
     let starts = c.deref-in-ForThreadsWithStub.ensures.value in
     let sites = c.deref-in-ForThreadsWithStub-2.ensures.value in
     in_form x.form (ForThreadsWithStub c.in-ForThreadsWithStub.base) (asked_of x c.args.listed.now)
-    (asked (thread_action c.in-ForThreadsWithStub.base) x.reserves.now c.bytes_of-file.result.now c.deref-in-ForThreadsWithStub.result.now c.deref-in-ForThreadsWithStub-2.result.now)
+    (asked (thread_action c.in-ForThreadsWithStub.base) x.reserves.now c.bytes_of-file.result.now c.deref-in-ForThreadsWithStub.result.now
+    c.deref-in-ForThreadsWithStub-2.result.now)
     x.names.now.out.now (g.D.Desk.seen c.args.desk.now) (g.D.Desk.seen c.rewrite_threads_loader.new.desk) (Ok c.in-Ok-rewrite_threads_loader.report)
     c.in-ForThreadsWithStub.is (λ i. asked (action_in (sym c.in-ForThreadsWithStub.is i)) x.reserves.now (file i) (starts i) (sites i)) c.in-Ok-rewrite_threads_loader.ensures.rewrites

@@ -27,7 +27,7 @@ use Rattle.image_check.specs.Reports.{Line}
 use Rattle.image_check.specs.Rules.{displaced_from}
 use Rattle.scheme_search.proofs.OneJumpBytes.{within_parts}
 use Rattle.site_turns.specs.Modes.{thread_action, IsShared}
-use Rattle.site_turns.specs.PrivateRange.{taken_first, IsPrivate}
+use Rattle.site_turns.specs.PrivateRange.{taken_first}
 use Rattle.site_turns.specs.States.{Scene, State, memory_at, first_state}
 use Rattle.site_turns.specs.Choices.{Choice, state_after}
 use Rattle.site_turns.specs.Laws.{five}

@@ -1,5 +1,5 @@
 -- What a call of `rewrite_threads` or `rewrite_threads_reported` knows once the sites are planned, and once the file is written. Theorems cite it.
-use Rattle.std.specs.Prelude.{◌≡◌, List, ℕ, Result, Ok, Err}
+use Rattle.std.specs.Prelude.{List, ℕ, Result, Ok, Err}
 use Rattle.pun_base.specs.Shown.{DeskState}
 use Rattle.pun_base.specs.declared.action.Base.{Base}
 use Rattle.pun_base.specs.declared.range.Range.{Range}

@@ -13,7 +13,7 @@ use Rattle.thread_runs.specs.Watching.{Watched, Watch, watch_of}
 use Rattle.thread_runs.specs.Premises.{IsProperRun}
 use Rattle.thread_runs.specs.Theorem.{AreStartGuests, CanGo, last_watch}
 use Rattle.image_step.specs.declared.delivery.Delivery.{Delivery}
-use Rattle.thread_runs.specs.GuestDeliveries.{GuestItem, Goes, Takes}
+use Rattle.thread_runs.specs.GuestDeliveries.{Goes, Takes}
 use Rattle.thread_runs.specs.WatchedDeliveries.{WatchWith, watch_with, IsProperRunWith, last_with}
 use Rattle.guest_threads.specs.WorkedFile.{row_threading}
 

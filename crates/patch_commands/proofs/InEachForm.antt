@@ -1,5 +1,5 @@
 -- What the rewriting in each form comes to, by the form.
-use Rattle.std.proofs.Common.{◌≡◌, ℕ, ◌<◌, inl, inr, List, map, slice_index, Result, Ok, Err, refl, sym, ap, ◌∙◌, subst}
+use Rattle.std.proofs.Common.{◌≡◌, ℕ, ◌<◌, inl, List, map, slice_index, Result, Ok, Err, refl, sym, ap, ◌∙◌, subst}
 use Rattle.pun_base.specs.Shown.{DeskState}
 use Rattle.pun_base.specs.Desk.{Fills}
 use Rattle.pun_base.specs.declared.action.Base.{Base}

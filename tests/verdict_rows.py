@@ -161,7 +161,8 @@ UNSOUND_IN_THREADS: list[tuple[str, Files, str]] = [
     ("the victim's jump leads elsewhere", in_threads(NEAR, {PAGE + 11: b"\1"}, ("e900e9", "e901e9")), "0040100a 3"),
     ("another byte of the victim's code", in_threads(NEAR, {OF_NEAR + 1: b"\x80"}), "0040f910 4"),
     ("the victim has an event", in_threads(NEAR, {}, ("0040100a plain", "0040100a event")), "00401000 6"),
-    ("the action isn't to count", in_threads(NEAR, {}, ("action count", "action cover")), "00020000 6"),
+    ("the action is to cover, and the code counts", in_threads(NEAR, {}, ("action count", "action cover")), "00021011 4"),
+    ("the action is neither to count nor to cover", in_threads(NEAR, {}, ("action count", "action ring:1")), "00020000 6"),
 ]
 
 CPUID, IMUL, ANSWER = b"\x0f\xa2", b"\x0f\xaf\xc0", b"ask 0fa2 -\n"

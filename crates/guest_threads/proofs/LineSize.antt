@@ -1,5 +1,5 @@
 -- How many bytes the code of a line has, for threads.
-use Rattle.std.proofs.Common.{◌≡◌, ℕ, ◌+◌, ◌<◌, ◌≤◌, Bool, true, false, List, length, length-append, Option, Some, None, refl, sym, ap, ◌∙◌, arith}
+use Rattle.std.proofs.Common.{◌≡◌, ℕ, ◌+◌, ◌<◌, ◌≤◌, Bool, true, false, List, [], length, length-append, Option, Some, None, refl, sym, ap, ◌∙◌, arith}
 use Rattle.std.specs.Prelude.{Contains, unwrap_or}
 use Rattle.std.specs.Option.{is_some, option_map}
 use Rattle.std.specs.List.{AllByRecursion}
@@ -29,7 +29,7 @@ use Rattle.thread_runs.proofs.ThreadTrampolines.{event_long}
 use Rattle.thread_runs.proofs.WorkSize.{told, work_size}
 
 -- a turn takes the bytes of an event, where there is one, and those of the work
-size_by : (o : Base) (b : Bool) (e : StartEntry) (n : ℕ) → forms.work_length e ≡ Some n → size_from (thread_event_size o) b (Some e) ≡ Some (event_len (thread_event_of o b) + n)
+size_by : (o : Base) (b : Bool) (e : StartEntry) (n : ℕ) → forms.work_length e ≡ Some n → size_from (thread_event_size o) b (Some e) ≡ Some (event_len (thread_event_of o b) [] + n)
 size_by Cover true e n h = ap (option_map (λ n. 8 + n)) h
 size_by Count true e n h = ap (option_map (λ n. 32 + n)) h
 size_by o false e n h = ap (option_map (λ n. 0 + n)) h
@@ -73,16 +73,16 @@ module _ (g : Scene) (t : State) (A : AreEntries g.image g.entries) (T : IsForTh
         record { fields = k.fields; spelled = k.spelled; stands = k.stands; len = k.len; form = k.form; size = s.0; displaced = s.1 }
 
     abbrev pub code_with : Known → List ℕ
-    code_with k = code_if (thread_event_of (thread_base g.action) l.tramp.event) g.private.lo l.number k.fields (e.addr + e.len) l.tramp.place
+    code_with k = code_if (thread_event_of (thread_base g.action) l.tramp.event) [] g.private.lo l.number k.fields (e.addr + e.len) l.tramp.place
 
     -- the code of a line has as many bytes as its event, the instruction's own code and the jump back
-    long : (k : Known) → length (code_with k) ≡ event_len (thread_event_of (thread_base g.action) l.tramp.event) + (k.size + back (insn_of k.fields))
+    long : (k : Known) → length (code_with k) ≡ event_len (thread_event_of (thread_base g.action) l.tramp.event) [] + (k.size + back (insn_of k.fields))
     long k =
-        let to = l.tramp.place + event_len (thread_event_of (thread_base g.action) l.tramp.event) in
-        let event = event_long (thread_event_of (thread_base g.action) l.tramp.event) g.private.lo l.number in
+        let to = l.tramp.place + event_len (thread_event_of (thread_base g.action) l.tramp.event) [] in
+        let event = event_long (thread_event_of (thread_base g.action) l.tramp.event) [] g.private.lo l.number in
         omega (
           arith,
-          length-append (event_if (thread_event_of (thread_base g.action) l.tramp.event) g.private.lo l.number) (thread_work k.fields (e.addr + e.len) to),
+          length-append (event_if (thread_event_of (thread_base g.action) l.tramp.event) [] g.private.lo l.number) (thread_work k.fields (e.addr + e.len) to),
           event,
           work_size k.fields (e.addr + e.len) to k.size e.len e.addr k.spelled k.len k.displaced,
         )

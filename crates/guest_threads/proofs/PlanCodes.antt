@@ -1,5 +1,5 @@
 -- The code that is built for a trampoline for threads.
-use Rattle.std.proofs.Common.{◌≡◌, ℕ, ◌+◌, true, List, length, Option, Some, None, Result, Ok, Err, refl, sym, ap, ap₂, ◌∙◌, subst}
+use Rattle.std.proofs.Common.{◌≡◌, ℕ, ◌+◌, Bool, true, List, [], length, Option, Some, None, Result, Ok, Err, refl, sym, ap, ap₂, ◌∙◌, subst}
 use Rattle.std.specs.Option.{is_some}
 use Rattle.std.specs.Prelude.{MatchResult, IfOk, IsOk}
 use Rattle.std.proofs.lemmas.Bool.{false≢true}
@@ -27,7 +27,7 @@ use Rattle.guest_threads.specs.ThreadPlanning.{HasThreadCode}
 
 -- what the answer of a call that builds says of the code's length
 abbrev pub TellsSize : Option Base → Insn → ℕ → ℕ → Result Code NotRelocatable → Type 0
-TellsSize b i len addr r = MatchResult r (λ (k : Code). size_if b i len addr ≡ Some (length k.bytes)) (λ z. thread_len i len addr ≡ None)
+TellsSize b i len addr r = MatchResult r (λ (k : Code). size_if b [] i len addr ≡ Some (length k.bytes)) (λ z. thread_len i len addr ≡ None)
 
 -- where an instruction can be displaced for threads, its code is built
 pub built_ok : (b : Option Base) (e : StartEntry) (i : Insn) (len : ℕ) (r : Result Code NotRelocatable) → is_some (can_in_threads e) ≡ true → e.form ≡ Some i → len ≡ e.len
@@ -51,7 +51,7 @@ form_known es start h k f = by_entry (entry_at es start) refl
 pub has_code : (b : Base) (event : Option Base) (file : List ℕ) (es : List StartEntry) (e : StartEntry) (i : Insn) (bs : List ℕ) (l : Line) (private : ℕ) (code : Code)
     (r : Result Code NotRelocatable) → refusal 0x10000 file ≡ None → IsBuilt file es → IsInsnAt file es l.tramp.start e i bs
     → event ≡ thread_event_of b l.tramp.event → r ≡ Ok code
-    → ((f : Fields) → IsInstruction f → bs ≡ spelling f → IfOk r (λ (z : Code). z.bytes ≡ code_if event private l.number f (e.addr + length bs) l.tramp.place))
+    → ((f : Fields) → IsInstruction f → bs ≡ spelling f → IfOk r (λ (z : Code). z.bytes ≡ code_if event [] private l.number f (e.addr + length bs) l.tramp.place))
     → HasThreadCode b (image_of file) private l code.bytes
 has_code b event file es e i bs l private code r accepted own got same u told =
     let q : IsReadAt file e i = read_at file es l.tramp.start e i accepted own got.at got.form in
@@ -59,12 +59,12 @@ has_code b event file es e i bs l private code r accepted own got same u told =
     let f = q.fields in
     let spelled = taken_spelled file es l.tramp.start e i bs accepted own got in
     let next : e.addr + length bs ≡ l.tramp.start + length (spelling f) = ap₂ (λ x y. x + y) a (ap length spelled) in
-    let is : code.bytes ≡ code_if event private l.number f (e.addr + length bs) l.tramp.place =
-    subst (λ (z : Result Code NotRelocatable). IfOk z (λ (z : Code). z.bytes ≡ code_if event private l.number f (e.addr + length bs) l.tramp.place)) u
+    let is : code.bytes ≡ code_if event [] private l.number f (e.addr + length bs) l.tramp.place =
+    subst (λ (z : Result Code NotRelocatable). IfOk z (λ (z : Code). z.bytes ≡ code_if event [] private l.number f (e.addr + length bs) l.tramp.place)) u
     (told f q.is spelled) in
     record {
       fields = f;
       spelled = q.is;
       stands = subst (λ (x : ℕ). Stands (image_of file) x (spelling f)) a q.stands;
-      is = is ∙ (λ j. code_if (same j) private l.number f (next j) l.tramp.place);
+      is = is ∙ (λ j. code_if (same j) [] private l.number f (next j) l.tramp.place);
     }

@@ -139,12 +139,12 @@ module _ (q : Request) (t : Turns) (range : Range) (told : List ReportRow) (A : 
         (subst (λ (z : ℕ). Stands (image_of q.file) z (spelling known.fields)) (found_address q.listed l.tramp.start there.entry there.at) known.stands)
 
     -- the code is that of the trampoline
-    is_known : code ≡ code_if (thread_event_of (thread_base q.action) l.tramp.event) t.private.lo l.number known.fields (there.entry.addr + there.entry.len) l.tramp.place
+    is_known : code ≡ code_if (thread_event_of (thread_base q.action) l.tramp.event) [] t.private.lo l.number known.fields (there.entry.addr + there.entry.len) l.tramp.place
     is_known =
         let lo : range.lo ≡ t.private.lo = ap (λ (e : Extent). e.lo) h.private in
         let next : l.tramp.start + length (spelling k.fields) ≡ there.entry.addr + there.entry.len =
         ap₂ (λ x y. x + y) (sym (found_address q.listed l.tramp.start there.entry there.at)) (ap (λ (f : Fields). length (spelling f)) same ∙ known.len) in
-        k.is ∙ (λ j. code_if (thread_event_of (thread_base q.action) l.tramp.event) (lo j) l.number (same j) (next j) l.tramp.place)
+        k.is ∙ (λ j. code_if (thread_event_of (thread_base q.action) l.tramp.event) [] (lo j) l.number (same j) (next j) l.tramp.place)
 
     -- the code of a line has as many bytes as its turn took
     pub line_sized : code_size g l ≡ Some (length code)
@@ -194,10 +194,10 @@ module _ (q : Request) (t : Turns) (p : PlannedState) (a : IsAsked q) (h : IsThr
         let same : c.fields ≡ f = one_standing (image_of q.file) l.tramp.start c.fields f c.spelled is c.stands stands in
         let lo : p.private.lo ≡ t.private.lo = ap (λ (e : Extent). e.lo) h.turned.private in
         let ends : l.tramp.start + length (spelling c.fields) ≡ next = ap (λ (z : Fields). l.tramp.start + length (spelling z)) same ∙ sym n in
-        let code : x.built.code.bytes ≡ code_if (thread_event_of (thread_base q.action) l.tramp.event) t.private.lo l.number f next l.tramp.place =
-        c.is ∙ (λ k. code_if (thread_event_of (thread_base q.action) l.tramp.event) (lo k) l.number (same k) (ends k) l.tramp.place) in
+        let code : x.built.code.bytes ≡ code_if (thread_event_of (thread_base q.action) l.tramp.event) [] t.private.lo l.number f next l.tramp.place =
+        c.is ∙ (λ k. code_if (thread_event_of (thread_base q.action) l.tramp.event) [] (lo k) l.number (same k) (ends k) l.tramp.place) in
         let place = x.place in
-        let e : views.piece_of x.built ≡ record { addr = l.tramp.place; now = code_if (thread_event_of (thread_base q.action) l.tramp.event) t.private.lo l.number f next l.tramp.place } =
+        let e : views.piece_of x.built ≡ record { addr = l.tramp.place; now = code_if (thread_event_of (thread_base q.action) l.tramp.event) [] t.private.lo l.number f next l.tramp.place } =
         λ k. record { addr = place k; now = code k } in
         subst (Contains j.pieces) e (contains_at j.pieces w.0 (views.piece_of x.built) w.1)
 

@@ -73,7 +73,7 @@ module _ (g : Scene) (t : State) (patched : Bytes) (start : ℕ) (A : AreEntries
     in_lines : In d.lines line
     entry : StartEntry
     at : entry_at g.entries line.tramp.start ≡ Some entry
-    is : record { number = line.number; entry = entry; place = line.tramp.place; event = thread_event_of (thread_base g.action) line.tramp.event } ≡ s
+    is : record { number = line.number; entry = entry; place = line.tramp.place; event = thread_event_of (thread_base g.action) line.tramp.event; when = [] } ≡ s
     listed : Contains g.entries entry
     addr : entry.addr ≡ line.tramp.start
 
@@ -81,7 +81,7 @@ module _ (g : Scene) (t : State) (patched : Bytes) (start : ℕ) (A : AreEntries
   of_site : (s : ThreadSite) → Contains R.sites s → Of s
   of_site s c =
       let q = from_flat (site_of (thread_base g.action) g.entries) d.lines s (place_of R.sites s c) in
-      let o = one_of (λ (e : StartEntry). record { number = q.0.number; entry = e; place = q.0.tramp.place; event = thread_event_of (thread_base g.action) q.0.tramp.event }) (entry_at g.entries q.0.tramp.start) s q.2 in
+      let o = one_of (λ (e : StartEntry). record { number = q.0.number; entry = e; place = q.0.tramp.place; event = thread_event_of (thread_base g.action) q.0.tramp.event; when = [] }) (entry_at g.entries q.0.tramp.start) s q.2 in
       let f = finds (λ (e : StartEntry). eqb e.addr q.0.tramp.start) g.entries o.0 o.1 in
       record { line = q.0; in_lines = q.1; entry = o.0; at = o.1; is = o.2; listed = contains_at g.entries f.place o.0 f.at; addr = eqb-true o.0.addr q.0.tramp.start f.passes }
 
@@ -150,7 +150,7 @@ module _ (g : Scene) (t : State) (patched : Bytes) (start : ℕ) (A : AreEntries
     })
 
     -- the line's site is a patched one
-    site_sound : IsThreadSite R (record { number = l.number; entry = e; place = l.tramp.place; event = thread_event_of (thread_base g.action) l.tramp.event })
+    site_sound : IsThreadSite R (record { number = l.number; entry = e; place = l.tramp.place; event = thread_event_of (thread_base g.action) l.tramp.event; when = [] })
     site_sound =
         let k = instruction in record {
           listed = listed;
@@ -163,6 +163,7 @@ module _ (g : Scene) (t : State) (patched : Bytes) (start : ℕ) (A : AreEntries
           size = k.size;
           displaced = k.displaced;
           jump = jumps (subst (λ (z : ℕ). Leads (memory_at g t) g.entries z l.tramp.place) (sym addr) one.leads);
+          few = record { asked = tt; few = omega arith };
           code = loaded_fixed patched l.tramp.place (code_with k) (let h = low k in omega (arith, h)) (shown k);
           new = λ x a b. new_if (patched x) (g.image x) (byte_shown k x a b) (all_in _ d.lines l W.fresh i x (in_line k x a b));
           low = low k;
@@ -180,7 +181,7 @@ module _ (g : Scene) (t : State) (patched : Bytes) (start : ℕ) (A : AreEntries
   one_line s t o p e =
       let l : o.line ≡ p.line = some_is o.line p.line (sym o.in_lines.1 ∙ ap (slice_get d.lines) e ∙ p.in_lines.1) in
       let n : o.entry ≡ p.entry = some_is o.entry p.entry (sym o.at ∙ ap (λ (z : Line). entry_at g.entries z.tramp.start) l ∙ p.at) in
-      sym o.is ∙ (λ i. record { number = (l i).number; entry = n i; place = (l i).tramp.place; event = thread_event_of (thread_base g.action) (l i).tramp.event }) ∙ p.is
+      sym o.is ∙ (λ i. record { number = (l i).number; entry = n i; place = (l i).tramp.place; event = thread_event_of (thread_base g.action) (l i).tramp.event; when = [] }) ∙ p.is
 
   -- where one line at most passes a test, two that pass have one index
   twice : (f : Line → Bool) (o p : ℕ) (l m : Line) → count_by f d.lines ≤ 1 → slice_get d.lines o ≡ Some l → slice_get d.lines p ≡ Some m → f l ≡ true → f m ≡ true → o ≡ p
@@ -229,8 +230,8 @@ module _ (g : Scene) (t : State) (patched : Bytes) (start : ℕ) (A : AreEntries
       let k = instruction o.line o.in_lines o.entry o.at o.listed o.addr in
       let same : h.fields ≡ k.fields = one_standing g.image o.entry.addr h.fields k.fields h.spelled k.spelled
       (subst (λ (z : ThreadSite). Stands g.image z.entry.addr (spelling h.fields)) (sym o.is) h.stands) k.stands in
-      let e : code_if s.event g.private.lo s.number h.fields (next_of s) s.place ≡ code_with o.line o.in_lines o.entry o.at o.listed o.addr k =
-      λ i. code_if (sym o.is i).event g.private.lo (sym o.is i).number (same i) (next_of (sym o.is i)) (sym o.is i).place in
+      let e : code_if s.event s.when g.private.lo s.number h.fields (next_of s) s.place ≡ code_with o.line o.in_lines o.entry o.at o.listed o.addr k =
+      λ i. code_if (sym o.is i).event (sym o.is i).when g.private.lo (sym o.is i).number (same i) (next_of (sym o.is i)) (sym o.is i).place in
       let p : s.place ≡ o.line.tramp.place = ap (λ (z : ThreadSite). z.place) (sym o.is) in
       let n = ap length e in
       in_line o.line o.in_lines o.entry o.at o.listed o.addr k x (omega (arith, q.0, p)) (omega (arith, q.1, p, n))
@@ -256,8 +257,8 @@ module _ (g : Scene) (t : State) (patched : Bytes) (start : ℕ) (A : AreEntries
           let f = found (starts_at o.entry.addr) d.lines o.starts in
           let e : f.is.tramp.start ≡ o.entry.addr = eqb-true f.is.tramp.start o.entry.addr f.passes in
           let at : entry_at g.entries f.is.tramp.start ≡ Some o.entry = ap (entry_at g.entries) e ∙ entry_here g.image g.entries o.entry A o.listed in
-          let s : ThreadSite = record { number = f.is.number; entry = o.entry; place = f.is.tramp.place; event = thread_event_of (thread_base g.action) f.is.tramp.event } in
-          let c : In (site_of (thread_base g.action) g.entries f.is) s = (0, ap (λ (q : Option StartEntry). slice_get (option_to_list (option_map (λ (e : StartEntry). record { number = f.is.number; entry = e; place = f.is.tramp.place; event = thread_event_of (thread_base g.action) f.is.tramp.event }) q)) 0) at) in
+          let s : ThreadSite = record { number = f.is.number; entry = o.entry; place = f.is.tramp.place; event = thread_event_of (thread_base g.action) f.is.tramp.event; when = [] } in
+          let c : In (site_of (thread_base g.action) g.entries f.is) s = (0, ap (λ (q : Option StartEntry). slice_get (option_to_list (option_map (λ (e : StartEntry). record { number = f.is.number; entry = e; place = f.is.tramp.place; event = thread_event_of (thread_base g.action) f.is.tramp.event; when = [] }) q)) 0) at) in
           let i = in_flat (site_of (thread_base g.action) g.entries) d.lines f.is s (f.place, f.at) c in
           any_at (λ (s : ThreadSite). leb s.entry.addr x && ltb x (s.entry.addr + s.entry.len)) R.sites i.0 s i.1
           (and_from (leb o.entry.addr x) (ltb x (o.entry.addr + o.entry.len)) (le-leb o.entry.addr x o.low) (lt-ltb x (o.entry.addr + o.entry.len) o.high))

@@ -1,5 +1,5 @@
 -- An input is judged in one way at most, for threads.
-use Rattle.std.proofs.Common.{◌≡◌, ℕ, List, ◌+◌, length, sym, ap, ◌∙◌, subst}
+use Rattle.std.proofs.Common.{◌≡◌, ℕ, List, [], ◌+◌, length, sym, ap, ◌∙◌, subst}
 use Rattle.std.specs.List.{flat_map}
 use Rattle.length_decode.specs.Spelling.{spelling}
 use Rattle.elf_read.specs.Image.{image_of}
@@ -27,7 +27,7 @@ use Rattle.guest_threads.specs.ThreadRewriting.{ThreadJob, job_of, IsThreadJobFo
 one_code : (q : Request) (p : ℕ) (l : Line) (x y : List ℕ) → HasThreadCode (thread_base q.action) (image_of q.file) p l x → HasThreadCode (thread_base q.action) (image_of q.file) p l y → x ≡ y
 one_code q p l x y h k =
     let same : h.fields ≡ k.fields = one_standing (image_of q.file) l.tramp.start h.fields k.fields h.spelled k.spelled h.stands k.stands in
-    h.is ∙ ap (λ f. code_if (thread_event_of (thread_base q.action) l.tramp.event) p l.number f (l.tramp.start + length (spelling f)) l.tramp.place) same ∙ sym k.is
+    h.is ∙ ap (λ f. code_if (thread_event_of (thread_base q.action) l.tramp.event) [] p l.number f (l.tramp.start + length (spelling f)) l.tramp.place) same ∙ sym k.is
 
 -- what was planned twice is one job
 planned_once : (q : Request) (t u : Turns) (p r : PlannedState) (g h : GroupsState) → IsAsked q → IsThreadPlanned q t p → IsThreadPlanned q u r

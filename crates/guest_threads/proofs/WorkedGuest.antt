@@ -69,7 +69,7 @@ counting = record {
   patched = row_image;
   entry = 0x401000;
   listed = row_entry ∷ [];
-  sites = record { number = 0; entry = row_entry; place = 0x2401005; event = Some base.Count } ∷ [];
+  sites = record { number = 0; entry = row_entry; place = 0x2401005; event = Some base.Count; when = [] } ∷ [];
   private = 0x20000;
 }
 
@@ -112,43 +112,43 @@ abbrev w1 : Watch
 w1 = behind 0 w0 (jump_fields (rel_bytes 0x401005 0x2401005)) (running 0x7 0x601000 start_flags 0x2401005) (waiting 0x602000) mem0
 
 abbrev w2 : Watch
-w2 = behind 0 w1 (fields_at At0 0x20040) (running 0x7 0x601000 start_flags 0x240100d) (waiting 0x602000) mem1
+w2 = behind 0 w1 (fields_at base.Count At0 0x20040) (running 0x7 0x601000 start_flags 0x240100d) (waiting 0x602000) mem1
 
 abbrev w3 : Watch
-w3 = behind 0 w2 (fields_at At1 0x20040) (running 0x4307 0x601000 start_flags 0x240100e) (waiting 0x602000) mem1
+w3 = behind 0 w2 (fields_at base.Count At1 0x20040) (running 0x4307 0x601000 start_flags 0x240100e) (waiting 0x602000) mem1
 
 abbrev w4 : Watch
-w4 = behind 0 w3 (fields_at At2 0x20040) (running 0x4301 0x601000 start_flags 0x2401011) (waiting 0x602000) mem1
+w4 = behind 0 w3 (fields_at base.Count At2 0x20040) (running 0x4301 0x601000 start_flags 0x2401011) (waiting 0x602000) mem1
 
 abbrev w5 : Watch
-w5 = behind 0 w4 (fields_at At3 0x20040) (running 0x4301 0x601000 counted_flags 0x240101a) (waiting 0x602000) mem2
+w5 = behind 0 w4 (fields_at base.Count At3 0x20040) (running 0x4301 0x601000 counted_flags 0x240101a) (waiting 0x602000) mem2
 
 abbrev w6 : Watch
 w6 = behind 1 w5 (jump_fields (rel_bytes 0x401005 0x2401005)) (running 0x4301 0x601000 counted_flags 0x240101a) (running 0x7 0x602000 start_flags 0x2401005) mem2
 
 abbrev w7 : Watch
-w7 = behind 1 w6 (fields_at At0 0x20040) (running 0x4301 0x601000 counted_flags 0x240101a) (running 0x7 0x602000 start_flags 0x240100d) mem3
+w7 = behind 1 w6 (fields_at base.Count At0 0x20040) (running 0x4301 0x601000 counted_flags 0x240101a) (running 0x7 0x602000 start_flags 0x240100d) mem3
 
 abbrev w8 : Watch
-w8 = behind 1 w7 (fields_at At1 0x20040) (running 0x4301 0x601000 counted_flags 0x240101a) (running 0x4307 0x602000 start_flags 0x240100e) mem3
+w8 = behind 1 w7 (fields_at base.Count At1 0x20040) (running 0x4301 0x601000 counted_flags 0x240101a) (running 0x4307 0x602000 start_flags 0x240100e) mem3
 
 abbrev w9 : Watch
-w9 = behind 1 w8 (fields_at At2 0x20040) (running 0x4301 0x601000 counted_flags 0x240101a) (running 0x4301 0x602000 start_flags 0x2401011) mem3
+w9 = behind 1 w8 (fields_at base.Count At2 0x20040) (running 0x4301 0x601000 counted_flags 0x240101a) (running 0x4301 0x602000 start_flags 0x2401011) mem3
 
 abbrev w10 : Watch
-w10 = behind 1 w9 (fields_at At3 0x20040) (running 0x4301 0x601000 counted_flags 0x240101a) (running 0x4301 0x602000 counted_flags 0x240101a) mem4
+w10 = behind 1 w9 (fields_at base.Count At3 0x20040) (running 0x4301 0x601000 counted_flags 0x240101a) (running 0x4301 0x602000 counted_flags 0x240101a) mem4
 
 abbrev w11 : Watch
-w11 = behind 1 w10 (fields_at At4 0x20040) (running 0x4301 0x601000 counted_flags 0x240101a) (running 0x4380 0x602000 added_flags 0x240101c) mem4
+w11 = behind 1 w10 (fields_at base.Count At4 0x20040) (running 0x4301 0x601000 counted_flags 0x240101a) (running 0x4380 0x602000 added_flags 0x240101c) mem4
 
 abbrev w12 : Watch
-w12 = behind 1 w11 (fields_at At5 0x20040) (running 0x4301 0x601000 counted_flags 0x240101a) (running 0x4380 0x602000 start_flags 0x240101d) mem4
+w12 = behind 1 w11 (fields_at base.Count At5 0x20040) (running 0x4301 0x601000 counted_flags 0x240101a) (running 0x4380 0x602000 start_flags 0x240101d) mem4
 
 abbrev w13 : Watch
-w13 = behind 1 w12 (fields_at At6 0x20040) (running 0x4301 0x601000 counted_flags 0x240101a) (running 0x7 0x602000 start_flags 0x2401025) mem4
+w13 = behind 1 w12 (fields_at base.Count At6 0x20040) (running 0x4301 0x601000 counted_flags 0x240101a) (running 0x7 0x602000 start_flags 0x2401025) mem4
 
 abbrev w14 : Watch
-w14 = record (behind 1 w13 (jump_fields (rel_bytes 0x240102a 0x401000)) (running 0x4301 0x601000 counted_flags 0x240101a) (waiting 0x602000) mem4) { log = record { thread = 1; at = 0x401000 } ∷ [] }
+w14 = record (behind 1 w13 (jump_fields (rel_bytes 0x240102a 0x401000)) (running 0x4301 0x601000 counted_flags 0x240101a) (waiting 0x602000) mem4) { log = record { thread = 1; at = 0x401000; core = core_with 7 0x602000 start_flags } ∷ [] }
 
 -- the jump to itself touches no hidden byte
 quiet_by : (w : Watch) (f : Fields) → jump_to_itself ≡ f → leaves (is_hidden counting) (thread_task f (next_after (pick 1 w).projected.rip f)) (next_after (pick 1 w).projected.rip f) (machine_of w.mem (pick 1 w).projected) ≡ true
@@ -195,8 +195,8 @@ step0 =
 step1 : Proper 0 w1 w2
 unfolding template filled effect total carries overflows signed is_even ones is_met
 step1 =
-    made 0 w1 w2 (fields_at At0 0x20040) refl refl
-    (record { at = record { spelled = spelled_at At0 0x20040; here = (refl, refl, (refl, refl, (refl, refl, (refl, refl, (refl, refl, (refl, refl, (refl, refl, (refl, refl, tt)))))))) }; apart = refl; acts = refl }) refl
+    made 0 w1 w2 (fields_at base.Count At0 0x20040) refl refl
+    (record { at = record { spelled = spelled_at base.Count At0 0x20040 tt; here = (refl, refl, (refl, refl, (refl, refl, (refl, refl, (refl, refl, (refl, refl, (refl, refl, (refl, refl, tt)))))))) }; apart = refl; acts = refl }) refl
     (λ h. absurd (false≢true h)) (refl, (refl, tt)) (λ h. absurd (true≢false h)) (λ h. refl)
     (λ n h. absurd (n refl)) (λ n h. absurd (false≢true h))
 
@@ -204,8 +204,8 @@ step1 =
 step2 : Proper 0 w2 w3
 unfolding template filled effect total carries overflows signed is_even ones is_met
 step2 =
-    made 0 w2 w3 (fields_at At1 0x20040) refl refl
-    (record { at = record { spelled = spelled_at At1 0x20040; here = (refl, refl, tt) }; apart = refl; acts = refl }) refl
+    made 0 w2 w3 (fields_at base.Count At1 0x20040) refl refl
+    (record { at = record { spelled = spelled_at base.Count At1 0x20040 tt; here = (refl, refl, tt) }; apart = refl; acts = refl }) refl
     (λ h. absurd (false≢true h)) (refl, (refl, tt)) (λ h. absurd (true≢false h)) (λ h. absurd (false≢true h))
     (λ n h. absurd (n refl)) (λ n h. absurd (false≢true h))
 
@@ -213,8 +213,8 @@ step2 =
 step3 : Proper 0 w3 w4
 unfolding template filled effect total carries overflows signed is_even ones is_met
 step3 =
-    made 0 w3 w4 (fields_at At2 0x20040) refl refl
-    (record { at = record { spelled = spelled_at At2 0x20040; here = (refl, refl, (refl, refl, (refl, refl, tt))) }; apart = refl; acts = refl }) refl
+    made 0 w3 w4 (fields_at base.Count At2 0x20040) refl refl
+    (record { at = record { spelled = spelled_at base.Count At2 0x20040 tt; here = (refl, refl, (refl, refl, (refl, refl, tt))) }; apart = refl; acts = refl }) refl
     (λ h. absurd (false≢true h)) (refl, (refl, tt)) (λ h. absurd (true≢false h)) (λ h. absurd (false≢true h))
     (λ n h. absurd (n refl)) (λ n h. absurd (false≢true h))
 
@@ -222,8 +222,8 @@ step3 =
 step4 : Proper 0 w4 w5
 unfolding template filled effect total carries overflows signed is_even ones is_met
 step4 =
-    made 0 w4 w5 (fields_at At3 0x20040) refl refl
-    (record { at = record { spelled = spelled_at At3 0x20040; here = (refl, refl, (refl, refl, (refl, refl, (refl, refl, (refl, refl, (refl, refl, (refl, refl, (refl, refl, (refl, refl, tt))))))))) }; apart = refl; acts = refl }) refl
+    made 0 w4 w5 (fields_at base.Count At3 0x20040) refl refl
+    (record { at = record { spelled = spelled_at base.Count At3 0x20040 tt; here = (refl, refl, (refl, refl, (refl, refl, (refl, refl, (refl, refl, (refl, refl, (refl, refl, (refl, refl, (refl, refl, tt))))))))) }; apart = refl; acts = refl }) refl
     (λ h. absurd (false≢true h)) (refl, (refl, tt)) (λ h. absurd (true≢false h)) (λ h. absurd (false≢true h))
     (λ n h. absurd (n refl)) (λ n h. absurd (false≢true h))
 
@@ -240,8 +240,8 @@ step5 =
 step6 : Proper 1 w6 w7
 unfolding template filled effect total carries overflows signed is_even ones is_met
 step6 =
-    made 1 w6 w7 (fields_at At0 0x20040) refl refl
-    (record { at = record { spelled = spelled_at At0 0x20040; here = (refl, refl, (refl, refl, (refl, refl, (refl, refl, (refl, refl, (refl, refl, (refl, refl, (refl, refl, tt)))))))) }; apart = refl; acts = refl }) refl
+    made 1 w6 w7 (fields_at base.Count At0 0x20040) refl refl
+    (record { at = record { spelled = spelled_at base.Count At0 0x20040 tt; here = (refl, refl, (refl, refl, (refl, refl, (refl, refl, (refl, refl, (refl, refl, (refl, refl, (refl, refl, tt)))))))) }; apart = refl; acts = refl }) refl
     (λ h. absurd (false≢true h)) (refl, (refl, tt)) (λ h. absurd (true≢false h)) (λ h. refl)
     (λ n h. refl) (λ n h. absurd (n refl))
 
@@ -249,8 +249,8 @@ step6 =
 step7 : Proper 1 w7 w8
 unfolding template filled effect total carries overflows signed is_even ones is_met
 step7 =
-    made 1 w7 w8 (fields_at At1 0x20040) refl refl
-    (record { at = record { spelled = spelled_at At1 0x20040; here = (refl, refl, tt) }; apart = refl; acts = refl }) refl
+    made 1 w7 w8 (fields_at base.Count At1 0x20040) refl refl
+    (record { at = record { spelled = spelled_at base.Count At1 0x20040 tt; here = (refl, refl, tt) }; apart = refl; acts = refl }) refl
     (λ h. absurd (false≢true h)) (refl, (refl, tt)) (λ h. absurd (true≢false h)) (λ h. absurd (false≢true h))
     (λ n h. refl) (λ n h. absurd (n refl))
 
@@ -258,8 +258,8 @@ step7 =
 step8 : Proper 1 w8 w9
 unfolding template filled effect total carries overflows signed is_even ones is_met
 step8 =
-    made 1 w8 w9 (fields_at At2 0x20040) refl refl
-    (record { at = record { spelled = spelled_at At2 0x20040; here = (refl, refl, (refl, refl, (refl, refl, tt))) }; apart = refl; acts = refl }) refl
+    made 1 w8 w9 (fields_at base.Count At2 0x20040) refl refl
+    (record { at = record { spelled = spelled_at base.Count At2 0x20040 tt; here = (refl, refl, (refl, refl, (refl, refl, tt))) }; apart = refl; acts = refl }) refl
     (λ h. absurd (false≢true h)) (refl, (refl, tt)) (λ h. absurd (true≢false h)) (λ h. absurd (false≢true h))
     (λ n h. refl) (λ n h. absurd (n refl))
 
@@ -267,8 +267,8 @@ step8 =
 step9 : Proper 1 w9 w10
 unfolding template filled effect total carries overflows signed is_even ones is_met
 step9 =
-    made 1 w9 w10 (fields_at At3 0x20040) refl refl
-    (record { at = record { spelled = spelled_at At3 0x20040; here = (refl, refl, (refl, refl, (refl, refl, (refl, refl, (refl, refl, (refl, refl, (refl, refl, (refl, refl, (refl, refl, tt))))))))) }; apart = refl; acts = refl }) refl
+    made 1 w9 w10 (fields_at base.Count At3 0x20040) refl refl
+    (record { at = record { spelled = spelled_at base.Count At3 0x20040 tt; here = (refl, refl, (refl, refl, (refl, refl, (refl, refl, (refl, refl, (refl, refl, (refl, refl, (refl, refl, (refl, refl, tt))))))))) }; apart = refl; acts = refl }) refl
     (λ h. absurd (false≢true h)) (refl, (refl, tt)) (λ h. absurd (true≢false h)) (λ h. absurd (false≢true h))
     (λ n h. refl) (λ n h. absurd (n refl))
 
@@ -276,8 +276,8 @@ step9 =
 step10 : Proper 1 w10 w11
 unfolding template filled effect total carries overflows signed is_even ones is_met
 step10 =
-    made 1 w10 w11 (fields_at At4 0x20040) refl refl
-    (record { at = record { spelled = spelled_at At4 0x20040; here = (refl, refl, (refl, refl, tt)) }; apart = refl; acts = refl }) refl
+    made 1 w10 w11 (fields_at base.Count At4 0x20040) refl refl
+    (record { at = record { spelled = spelled_at base.Count At4 0x20040 tt; here = (refl, refl, (refl, refl, tt)) }; apart = refl; acts = refl }) refl
     (λ h. absurd (false≢true h)) (refl, (refl, tt)) (λ h. absurd (true≢false h)) (λ h. absurd (false≢true h))
     (λ n h. refl) (λ n h. absurd (n refl))
 
@@ -285,8 +285,8 @@ step10 =
 step11 : Proper 1 w11 w12
 unfolding template filled effect total carries overflows signed is_even ones is_met
 step11 =
-    made 1 w11 w12 (fields_at At5 0x20040) refl refl
-    (record { at = record { spelled = spelled_at At5 0x20040; here = (refl, refl, tt) }; apart = refl; acts = refl }) refl
+    made 1 w11 w12 (fields_at base.Count At5 0x20040) refl refl
+    (record { at = record { spelled = spelled_at base.Count At5 0x20040 tt; here = (refl, refl, tt) }; apart = refl; acts = refl }) refl
     (λ h. absurd (false≢true h)) (refl, (refl, tt)) (λ h. absurd (true≢false h)) (λ h. absurd (false≢true h))
     (λ n h. refl) (λ n h. absurd (n refl))
 
@@ -294,8 +294,8 @@ step11 =
 step12 : Proper 1 w12 w13
 unfolding template filled effect total carries overflows signed is_even ones is_met
 step12 =
-    made 1 w12 w13 (fields_at At6 0x20040) refl refl
-    (record { at = record { spelled = spelled_at At6 0x20040; here = (refl, refl, (refl, refl, (refl, refl, (refl, refl, (refl, refl, (refl, refl, (refl, refl, (refl, refl, tt)))))))) }; apart = refl; acts = refl }) refl
+    made 1 w12 w13 (fields_at base.Count At6 0x20040) refl refl
+    (record { at = record { spelled = spelled_at base.Count At6 0x20040 tt; here = (refl, refl, (refl, refl, (refl, refl, (refl, refl, (refl, refl, (refl, refl, (refl, refl, (refl, refl, tt)))))))) }; apart = refl; acts = refl }) refl
     (λ h. absurd (false≢true h)) (refl, (refl, tt)) (λ h. absurd (true≢false h)) (λ h. absurd (false≢true h))
     (λ n h. refl) (λ n h. absurd (n refl))
 

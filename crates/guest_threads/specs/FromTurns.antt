@@ -1,5 +1,5 @@
 -- What the turns have done, loaded with the code of threads, is sound for threads, and runs as the original does. Theorems cite it.
-use Rattle.std.specs.Prelude.{◌≡◌, ℕ, ◌+◌, ◌<◌, ◌≤◌, true, false, List, ◌∷◌, length, map, Contains, Some, None, is_some, option_to_list, option_map}
+use Rattle.std.specs.Prelude.{◌≡◌, ℕ, ◌+◌, ◌*◌, ◌<◌, ◌≤◌, true, false, List, [], ◌∷◌, length, map, Contains, Some, None, is_some, option_to_list, option_map}
 use Rattle.std.specs.List.{AllByRecursion, flat_map}
 use Rattle.pun_base.specs.Memory.{Bytes}
 use Rattle.pun_base.specs.declared.action.Base.{Base}
@@ -52,7 +52,7 @@ thread_scene b file starts reserves private = record {
 
 -- The site of a line, as threads have it, whose event covers or counts.
 abbrev pub site_of : Base → List StartEntry → Line → List ThreadSite
-site_of b es l = option_to_list (option_map (λ e. record { number = l.number; entry = e; place = l.tramp.place; event = thread_event_of b l.tramp.event }) (entry_at es l.tramp.start))
+site_of b es l = option_to_list (option_map (λ e. record { number = l.number; entry = e; place = l.tramp.place; event = thread_event_of b l.tramp.event; when = [] }) (entry_at es l.tramp.start))
 
 -- What was patched for threads, by the lines that the turns have done.
 abbrev pub threading_of : Scene → State → Bytes → ℕ → Threading
@@ -80,7 +80,7 @@ HaveMarks g ls = AllByRecursion (λ l. mark_at (thread_base g.action) g.private.
 -- P holds of a line's place and code, whatever the line's instruction is.
 abbrev pub OfCode : Scene → (ℕ → List ℕ → Type 0) → Line → Type 0
 OfCode g P l = (f : Fields) (next : ℕ) → IsInstruction f → Stands g.image l.tramp.start (spelling f) → next ≡ l.tramp.start + length (spelling f)
-    → P l.tramp.place (code_if (thread_event_of (thread_base g.action) l.tramp.event) g.private.lo l.number f next l.tramp.place)
+    → P l.tramp.place (code_if (thread_event_of (thread_base g.action) l.tramp.event) [] g.private.lo l.number f next l.tramp.place)
 
 -- Loaded are memory as it stands, the code of threads at each place, at new addresses, and the
 -- private range of zeros.

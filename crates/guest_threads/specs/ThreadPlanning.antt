@@ -1,5 +1,5 @@
 -- What is planned for a guest of several threads. Theorems cite it.
-use Rattle.std.specs.Prelude.{◌≡◌, ℕ, ◌+◌, ◌<◌, true, List, length, Some, None, is_some}
+use Rattle.std.specs.Prelude.{◌≡◌, ℕ, ◌+◌, ◌<◌, true, List, [], length, Some, None, is_some}
 use Rattle.pun_base.specs.Memory.{Bytes}
 use Rattle.pun_base.specs.declared.action.Base.{Base}
 use Rattle.pun_base.specs.Limits.{most_sites}
@@ -23,7 +23,7 @@ pub record HasThreadCode (b : Base) (image : Bytes) (p : ℕ) (l : Line) (code :
   pub fields : Fields
   pub spelled : IsInstruction fields
   pub stands : Stands image l.tramp.start (spelling fields)
-  pub is : code ≡ code_if (thread_event_of b l.tramp.event) p l.number fields (l.tramp.start + length (spelling fields)) l.tramp.place
+  pub is : code ≡ code_if (thread_event_of b l.tramp.event) [] p l.number fields (l.tramp.start + length (spelling fields)) l.tramp.place
 
 -- What was planned is what the turns for threads give: the private range, a row for each site in turn order, and the code of
 -- each trampoline in the order of the rows.

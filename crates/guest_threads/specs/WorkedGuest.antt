@@ -66,7 +66,7 @@ pub record ThreadsMeet (r : Threading) (ws : List Watch) : Type 0 where
   -- was made
   pub one : number_at (last_watch (started r) (take 5 ws)).mem (counter_at r.private 0) 8 ≡ 1
   pub two : number_at (last_watch (started r) ws).mem (counter_at r.private 0) 8 ≡ 2
-  pub effects : (last_watch (started r) ws).log ≡ record { thread = 1; at = 0x401000 } ∷ []
+  pub effects : (last_watch (started r) ws).log ≡ record { thread = 1; at = 0x401000; core = core_with 7 0x602000 start_flags } ∷ []
   -- thread 1 stands at 0x401000 again, as it was at the start
   pub back : slice_get (last_watch (started r) ws).threads 1 ≡ Some (waiting 0x602000)
   -- the premises of getting out of the trampoline are met at the start

@@ -43,6 +43,7 @@ impl Coding for ThreadSetting<'_> {
         };
         thread_trampoline(
             thread_event_of(self.base, tramp.event),
+            None,
             at.insn,
             at.bytes,
             at.entry.addr,

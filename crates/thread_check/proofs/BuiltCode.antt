@@ -1,5 +1,5 @@
 -- The code that is built for a trampoline is the one that it has for threads.
-use Rattle.std.proofs.Common.{◌≡◌, inl, inr, ℕ, ◌+◌, ◌<◌, false, List, ◌++◌, length, length-append, get_or, map, Option, Some, None, refl, sym, ap, ◌∙◌, subst, arith}
+use Rattle.std.proofs.Common.{◌≡◌, inl, inr, ℕ, ◌+◌, ◌<◌, false, true, List, [], ◌++◌, length, length-append, get_or, map, Option, Some, None, refl, sym, ap, ◌∙◌, subst, arith}
 use Rattle.std.specs.Option.{is_some, option_map}
 use Rattle.std.proofs.lemmas.Option.{slice_get-map, slice_get-get_or}
 use Rattle.pun_base.specs.Memory.{Bytes}
@@ -48,8 +48,8 @@ mapped_from f (Some k) n h = (k, refl)
 pub built : (event : Option Base) (c : Case) (l : Line) (file : List ℕ) (e : StartEntry) (i : Insn) (bs code : List ℕ) (private : ℕ)
     → event ≡ thread_event_of (thread_base c.report.action) l.tramp.event
     → refusal 0x10000 file ≡ None → IsBuilt file c.listed → c.original ≡ image_of file → IsInsnAt file c.listed l.tramp.start e i bs → e.shared ≡ false → private ≡ c.report.private.0
-    → ((f : Fields) → IsInstruction f → bs ≡ spelling f → code ≡ code_if event private l.number f (e.addr + length bs) l.tramp.place)
-    → size_if event i (length bs) e.addr ≡ Some (length code) → IsThreadCode c l code
+    → ((f : Fields) → IsInstruction f → bs ≡ spelling f → code ≡ code_if event [] private l.number f (e.addr + length bs) l.tramp.place)
+    → size_if event [] i (length bs) e.addr ≡ Some (length code) → IsThreadCode c l code
 built event c l file e i bs code private same accepted own o got alone p k s =
     let q : IsReadAt file e i = read_at file c.listed l.tramp.start e i accepted own got.at got.form in
     let spelled = taken_spelled file c.listed l.tramp.start e i bs accepted own got in
@@ -60,9 +60,9 @@ built event c l file e i bs code private same accepted own o got alone p k s =
     let low = q.low in
     let long_is = q.size in
     let next : e.addr + length bs ≡ next_after e.addr q.fields = omega (arith, size, low, long_is) in
-    let front = event_if event private l.number in
-    let work = thread_work q.fields (e.addr + length bs) (l.tramp.place + event_len event) in
-    let longer : 0 < length work = work_long q.fields (e.addr + length bs) (l.tramp.place + event_len event) w.0 e.len e.addr q.is q.size
+    let front = event_if event [] private l.number in
+    let work = thread_work q.fields (e.addr + length bs) (l.tramp.place + event_len event []) in
+    let longer : 0 < length work = work_long q.fields (e.addr + length bs) (l.tramp.place + event_len event []) w.0 e.len e.addr q.is q.size
     (ap (λ (x : Insn). thread_len x e.len e.addr) (sym q.insn) ∙ long) in
     let written : length code ≡ length (front ++ work) = ap length (k q.fields q.is spelled) in
     record {
@@ -76,8 +76,8 @@ built event c l file e i bs code private same accepted own o got alone p k s =
             (subst (λ (x : ℕ). Stands (image_of file) x (spelling q.fields)) a q.stands);
         displaced = ap is_some (ap displaced_from got.at ∙ ap (λ (z : Option Insn). displaced_by z e.len e.addr) got.form
             ∙ (told (is_atomic i) (displaced_len i e.len e.addr) w.0 long).1);
-        is = k q.fields q.is spelled ∙ (λ j. code_if (same j) (p j) l.number q.fields (next j) l.tramp.place)
-            ∙ ap (λ z. code_if (thread_event_of (thread_base c.report.action) l.tramp.event) c.report.private.0 l.number q.fields (next_after z q.fields) l.tramp.place) a;
+        is = k q.fields q.is spelled ∙ (λ j. code_if (same j) [] (p j) l.number q.fields (next j) l.tramp.place)
+            ∙ ap (λ z. code_if (thread_event_of (thread_base c.report.action) l.tramp.event) [] c.report.private.0 l.number q.fields (next_after z q.fields) l.tramp.place) a;
       };
       some = omega (arith, written, length-append front work, longer);
     }
@@ -98,6 +98,10 @@ not_known c l f = by_entry (entry_at c.listed l.tramp.start) refl
     by_entry None e = inl (ap moved_from e)
     by_entry (Some e) o = let known : e.form ≡ None = sym (ap form_from o) ∙ f in
         inl (ap moved_from o ∙ ap (λ (z : Option Insn). can_by z e.len e.addr) known)
+
+-- where an entry is marked, its instruction shares a byte
+pub not_alone : (c : Case) (l : Line) (e : StartEntry) → entry_at c.listed l.tramp.start ≡ Some e → e.shared ≡ true → IsCodeFound c l None
+not_alone c l e h s = inr (ap is_marked h ∙ s)
 
 -- without code rule 3 fails
 pub no_code_fails : (c : Case) (l : Line) (start : ℕ) → start ≡ l.tramp.start → IsCodeFound c l None → IsLineFailure c l (No start 3)

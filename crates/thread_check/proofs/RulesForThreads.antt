@@ -1,5 +1,5 @@
 -- Where no rule for threads fails, the patched image is sound for threads.
-use Rattle.std.proofs.Common.{◌≡◌, ◌≢◌, ◌⊎◌, inl, inr, ℕ, ◌+◌, ◌-◌, ◌<◌, ◌≤◌, Bool, true, false, not, ◌&&◌, eqb, leb, ltb, List, length, slice_index, Option, Some, None, refl, sym, ap, ap₂, ◌∙◌, subst, arith}
+use Rattle.std.proofs.Common.{◌≡◌, ◌≢◌, ◌⊎◌, inl, inr, ℕ, ◌+◌, ◌*◌, ◌-◌, ◌<◌, ◌≤◌, Bool, true, false, not, ◌&&◌, eqb, leb, ltb, List, [], length, slice_index, Option, Some, None, refl, sym, ap, ap₂, ◌∙◌, subst, arith}
 use Rattle.std.specs.Prelude.{Contains, slice_get}
 use Rattle.std.specs.Option.{is_some, option_map, option_to_list}
 use Rattle.std.specs.List.{list_any, count_by}
@@ -248,24 +248,24 @@ module _ (c : Case) (A : AreEntries c.original c.listed) (T : IsTold c.report) (
     in_lines : In (lines c.report) line
     entry : StartEntry
     at : entry_at c.listed line.tramp.start ≡ Some entry
-    is : record { number = line.number; entry = entry; place = line.tramp.place; event = (thread_event_of (thread_base c.report.action) line.tramp.event) } ≡ s
+    is : record { number = line.number; entry = entry; place = line.tramp.place; event = (thread_event_of (thread_base c.report.action) line.tramp.event); when = [] } ≡ s
 
   -- each site is that of a trampoline
   of_site : (s : ThreadSite) → Contains R.sites s → Of s
   of_site s k =
       let q = from_flat (site_of (thread_base c.report.action) c.listed) (lines c.report) s (place_of R.sites s k) in
-      let o = one_of (λ (e : StartEntry). record { number = q.0.number; entry = e; place = q.0.tramp.place; event = (thread_event_of (thread_base c.report.action) q.0.tramp.event) }) (entry_at c.listed q.0.tramp.start) s q.2 in
+      let o = one_of (λ (e : StartEntry). record { number = q.0.number; entry = e; place = q.0.tramp.place; event = (thread_event_of (thread_base c.report.action) q.0.tramp.event); when = [] }) (entry_at c.listed q.0.tramp.start) s q.2 in
       record { line = q.0; in_lines = q.1; entry = o.0; at = o.1; is = o.2 }
 
   -- the code of a trampoline, by its entry
   code_is : (l : Line) (e : Enters c l)
-      → code_if (thread_event_of (thread_base c.report.action) l.tramp.event) c.report.private.0 l.number e.fields (e.entry.addr + e.entry.len) l.tramp.place ≡ code_with c l e.fields
+      → code_if (thread_event_of (thread_base c.report.action) l.tramp.event) [] c.report.private.0 l.number e.fields (e.entry.addr + e.entry.len) l.tramp.place ≡ code_with c l e.fields
   code_is l e =
       let a = e.addr in
       let n = e.len in
       let low = e.low in
       let next : e.entry.addr + e.entry.len ≡ next_after l.tramp.start e.fields = omega (arith, a, n, low) in
-      ap (λ z. code_if (thread_event_of (thread_base c.report.action) l.tramp.event) c.report.private.0 l.number e.fields z l.tramp.place) next
+      ap (λ z. code_if (thread_event_of (thread_base c.report.action) l.tramp.event) [] c.report.private.0 l.number e.fields z l.tramp.place) next
 
   -- two jumps to a trampoline's place are two of the patched image, whose second stands at no new address
   by_two : (a x place : ℕ) → a ≡ x → ThreadLeads c x place → JumpsTo c.patched a place ⊎ ByTwoJumps R a place
@@ -283,11 +283,11 @@ module _ (c : Case) (A : AreEntries c.original c.listed) (T : IsTold c.report) (
       not_new false y e = refl
 
   -- the site of a trampoline is a patched one
-  site_sound : (l : Line) (h : In (lines c.report) l) → IsThreadSite R (record { number = l.number; entry = (enters l h).entry; place = l.tramp.place; event = (thread_event_of (thread_base c.report.action) l.tramp.event) })
+  site_sound : (l : Line) (h : In (lines c.report) l) → IsThreadSite R (record { number = l.number; entry = (enters l h).entry; place = l.tramp.place; event = (thread_event_of (thread_base c.report.action) l.tramp.event); when = [] })
   site_sound l h =
       let e = enters l h in
       let same = code_is l e in
-      let code = code_if (thread_event_of (thread_base c.report.action) l.tramp.event) c.report.private.0 l.number e.fields (e.entry.addr + e.entry.len) l.tramp.place in
+      let code = code_if (thread_event_of (thread_base c.report.action) l.tramp.event) [] c.report.private.0 l.number e.fields (e.entry.addr + e.entry.len) l.tramp.place in
       let n : length code ≡ length (code_with c l e.fields) = ap length same in
       let low : l.tramp.place + length code ≤ 0x7FFF1000 = (let k = code_low h.0 l e h.1 in omega (arith, n, k)) in
       let cells : (k : ℕ) → k < length code → c.patched (l.tramp.place + k) ≡ Some (record { byte = slice_index code k; perms = 5 }) =
@@ -306,6 +306,7 @@ module _ (c : Case) (A : AreEntries c.original c.listed) (T : IsTold c.report) (
         size = e.size;
         displaced = e.displaced;
         jump = by_two e.entry.addr l.tramp.start l.tramp.place e.addr (leads l h);
+        few = record { asked = tt; few = omega arith };
         code = loaded_fixed c.patched l.tramp.place code (omega (arith, low)) cells;
         new = λ x lo hi.
             let hi' : x < l.tramp.place + length (code_with c l e.fields) = omega (arith, hi, n) in
@@ -318,10 +319,10 @@ module _ (c : Case) (A : AreEntries c.original c.listed) (T : IsTold c.report) (
       new_if o q e f = ap₂ (λ x (y : Option Cell). x && not (is_some y)) e f
 
   -- the site of a trampoline has the entry that is found at the start
-  same_site : (s : ThreadSite) (o : Of s) → record { number = o.line.number; entry = (enters o.line o.in_lines).entry; place = o.line.tramp.place; event = (thread_event_of (thread_base c.report.action) o.line.tramp.event) } ≡ s
+  same_site : (s : ThreadSite) (o : Of s) → record { number = o.line.number; entry = (enters o.line o.in_lines).entry; place = o.line.tramp.place; event = (thread_event_of (thread_base c.report.action) o.line.tramp.event); when = [] } ≡ s
   same_site s o =
       let e : (enters o.line o.in_lines).entry ≡ o.entry = some_is (enters o.line o.in_lines).entry o.entry (sym (enters o.line o.in_lines).at ∙ o.at) in
-      ap (λ (z : StartEntry). (let t : ThreadSite = record { number = o.line.number; entry = z; place = o.line.tramp.place; event = (thread_event_of (thread_base c.report.action) o.line.tramp.event) } in t)) e ∙ o.is
+      ap (λ (z : StartEntry). (let t : ThreadSite = record { number = o.line.number; entry = z; place = o.line.tramp.place; event = (thread_event_of (thread_base c.report.action) o.line.tramp.event); when = [] } in t)) e ∙ o.is
 
   -- each site is a patched one
   sites : (s : ThreadSite) → Contains R.sites s → IsThreadSite R s
@@ -332,7 +333,7 @@ module _ (c : Case) (A : AreEntries c.original c.listed) (T : IsTold c.report) (
   one_line s t o p e =
       let l : o.line ≡ p.line = some_is o.line p.line (sym o.in_lines.1 ∙ ap (slice_get (lines c.report)) e ∙ p.in_lines.1) in
       let n : o.entry ≡ p.entry = some_is o.entry p.entry (sym o.at ∙ ap (λ (z : Line). entry_at c.listed z.tramp.start) l ∙ p.at) in
-      sym o.is ∙ (λ i. record { number = (l i).number; entry = n i; place = (l i).tramp.place; event = (thread_event_of (thread_base c.report.action) (l i).tramp.event) }) ∙ p.is
+      sym o.is ∙ (λ i. record { number = (l i).number; entry = n i; place = (l i).tramp.place; event = (thread_event_of (thread_base c.report.action) (l i).tramp.event); when = [] }) ∙ p.is
 
   -- each start has one site
   once : (s t : ThreadSite) → Contains R.sites s → Contains R.sites t → s.entry.addr ≡ t.entry.addr → s ≡ t
@@ -371,9 +372,9 @@ module _ (c : Case) (A : AreEntries c.original c.listed) (T : IsTold c.report) (
       let site = same_site s o in
       let same : h.fields ≡ e.fields = one_standing c.original e.entry.addr h.fields e.fields h.spelled e.spelled
       (subst (λ (z : ThreadSite). Stands c.original z.entry.addr (spelling h.fields)) (sym site) h.stands) e.stands in
-      let first : code_if s.event c.report.private.0 s.number h.fields (next_of s) s.place
-      ≡ code_if (thread_event_of (thread_base c.report.action) l.tramp.event) c.report.private.0 l.number e.fields (e.entry.addr + e.entry.len) l.tramp.place =
-      (λ i. code_if (sym site i).event c.report.private.0 (sym site i).number (same i) (next_of (sym site i)) (sym site i).place) in
+      let first : code_if s.event s.when c.report.private.0 s.number h.fields (next_of s) s.place
+      ≡ code_if (thread_event_of (thread_base c.report.action) l.tramp.event) [] c.report.private.0 l.number e.fields (e.entry.addr + e.entry.len) l.tramp.place =
+      (λ i. code_if (sym site i).event (sym site i).when c.report.private.0 (sym site i).number (same i) (next_of (sym site i)) (sym site i).place) in
       let code = first ∙ code_is l e in
       let p : s.place ≡ l.tramp.place = ap (λ (z : ThreadSite). z.place) (sym site) in
       let n = ap length code in
@@ -400,8 +401,8 @@ module _ (c : Case) (A : AreEntries c.original c.listed) (T : IsTold c.report) (
       owned w =
           let o = owned_at c rule_2 x w in
           let at : entry_at c.listed o.line.tramp.start ≡ Some o.entry = ap (entry_at c.listed) o.start ∙ entry_here c.original c.listed o.entry A o.in_list in
-          let s : ThreadSite = record { number = o.line.number; entry = o.entry; place = o.line.tramp.place; event = (thread_event_of (thread_base c.report.action) o.line.tramp.event) } in
-          let k : In (site_of (thread_base c.report.action) c.listed o.line) s = (0, ap (λ (q : Option StartEntry). slice_get (option_to_list (option_map (λ (e : StartEntry). record { number = o.line.number; entry = e; place = o.line.tramp.place; event = (thread_event_of (thread_base c.report.action) o.line.tramp.event) }) q)) 0) at) in
+          let s : ThreadSite = record { number = o.line.number; entry = o.entry; place = o.line.tramp.place; event = (thread_event_of (thread_base c.report.action) o.line.tramp.event); when = [] } in
+          let k : In (site_of (thread_base c.report.action) c.listed o.line) s = (0, ap (λ (q : Option StartEntry). slice_get (option_to_list (option_map (λ (e : StartEntry). record { number = o.line.number; entry = e; place = o.line.tramp.place; event = (thread_event_of (thread_base c.report.action) o.line.tramp.event); when = [] }) q)) 0) at) in
           let i = in_flat (site_of (thread_base c.report.action) c.listed) (lines c.report) o.line s o.in_lines k in
           any_at (λ (s : ThreadSite). leb s.entry.addr x && ltb x (s.entry.addr + s.entry.len)) R.sites i.0 s i.1
           (and_from (leb o.entry.addr x) (ltb x (o.entry.addr + o.entry.len)) (le-leb o.entry.addr x o.above) (lt-ltb x (o.entry.addr + o.entry.len) o.below))

@@ -1,6 +1,6 @@
 -- When an image that was patched for threads is sound: six rules, each told by the addresses at which it fails. Theorems cite it.
 -- Rules 1, 2 and 5 are those of any patched image.
-use Rattle.std.specs.Prelude.{◌≡◌, ◌⊎◌, ℕ, ◌≤◌, Bool, true, false, List, Option, Some, None, is_some, Contains}
+use Rattle.std.specs.Prelude.{◌≡◌, ◌⊎◌, ℕ, ◌≤◌, Bool, true, false, List, [], Option, Some, None, is_some, Contains}
 use Rattle.insn_form.specs.Step.{next_after}
 use Rattle.start_entries.specs.declared.entry.StartEntry.{StartEntry}
 use Rattle.start_entries.specs.Finding.{entry_at}
@@ -59,7 +59,7 @@ ThreadEntryFails c x = (l : Line) × Contains (lines c.report) l × (l.tramp.sta
 -- the instruction's work.
 abbrev pub thread_coding : BodyValue → Coding
 thread_coding v l f =
-    code_if (thread_event_of (thread_base v.action) l.tramp.event) v.private.0 l.number f (next_after l.tramp.start f) l.tramp.place
+    code_if (thread_event_of (thread_base v.action) l.tramp.event) [] v.private.0 l.number f (next_after l.tramp.start f) l.tramp.place
 
 -- Rule 4 fails at x, by that coding.
 abbrev pub ThreadCodeFails : Case → ℕ → Type 0

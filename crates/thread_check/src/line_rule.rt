@@ -38,6 +38,7 @@ fn code_of(orig: &Elf<'_>, starts: &Starts, report: &Report, line: &ReportLine) 
     let private = report.private().lo;
     match thread_trampoline(
         thread_event_of(thread_base(report.action()), line.tramp.event),
+        None,
         at.insn,
         at.bytes,
         at.entry.addr,

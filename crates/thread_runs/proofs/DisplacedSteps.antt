@@ -1,7 +1,7 @@
 -- The effect step of a displaced instruction, and the trampoline's steps after it, keep the relation.
-use Rattle.std.proofs.Common.{◌≡◌, inl, inr, ℕ, ◌+◌, ◌<◌, ◌≤◌, Bool, true, false, not, ◌&&◌, cond, eqb, length, Option, Some, Ok, refl, sym, ap, ◌∙◌, subst, arith}
+use Rattle.std.proofs.Common.{◌≡◌, inl, inr, ℕ, ◌+◌, ◌<◌, ◌≤◌, Bool, true, false, not, ◌&&◌, cond, eqb, length, Option, Some, Ok, refl, sym, ap, ap₂, ◌∙◌, subst, arith}
 use Rattle.std.specs.Prelude.{Contains}
-use Rattle.std.proofs.lemmas.Bool.{and_parts, and_from, and_left, or_right, cond-false, eqb-true, eq-eqb, false_from_ne_true}
+use Rattle.std.proofs.lemmas.Bool.{and_parts, and_left, or_right, cond-false, eqb-true, eq-eqb, false_from_ne_true}
 use Rattle.pun_base.specs.Memory.{Bytes}
 use Rattle.pun_base.specs.declared.action.Base.{Base}
 use Rattle.length_decode.specs.Spelling.{Fields, spelling}
@@ -27,14 +27,14 @@ use Rattle.thread_runs.specs.ThreadCode.{thread_work}
 use Rattle.thread_runs.specs.Threading.Part.{Whole, Save, Marked}
 use Rattle.thread_runs.specs.Work.{Tail, left, InTail, IsWork, AtWork, Worked}
 use Rattle.thread_runs.specs.Work.Tail.{Out, Back, Jump, Ecx}
-use Rattle.thread_runs.specs.Threading.{ThreadSite, Threading, next_of, work_at, is_new, is_hidden, is_kept, in_event, saves, is_counted, relocated_at, is_code_of, IsThreadSound}
+use Rattle.thread_runs.specs.Threading.{ThreadSite, Threading, next_of, work_at, is_new, is_hidden, is_kept, in_event, saves, is_part, is_met_by, is_counted, relocated_at, is_code_of, IsThreadSound}
 use Rattle.thread_runs.specs.Watching.{Watched, Watch, leads_to, led_on, behind, is_effect, projection, stale_after}
 use Rattle.thread_runs.specs.Premises.{IsQuietAt, reads_nothing_of}
 use Rattle.thread_runs.specs.StepLaws.{StepLaws, writes_of}
 use Rattle.thread_runs.proofs.ThreadPlaces.{part_only, kept_not, no_site, site_here, effect_there, effect_never, part_in, work_in, part_is, part_true, part_past, part_small, save_small, mark_from, mark_end, mark_some}
 use Rattle.thread_runs.proofs.KeptRelation.{keeps_code}
 use Rattle.thread_runs.proofs.StandingCode.{fields_of, site_stands, work_stands, code_length, mark_kept}
-use Rattle.thread_runs.proofs.OutsideSteps.{alike_on, none_more, all_zero, calm_projection, start_uncounted}
+use Rattle.thread_runs.proofs.OutsideSteps.{alike_on, none_more, uncounted, none_even, calm_projection, start_uncounted}
 use Rattle.thread_runs.proofs.ThreadEventSteps.{same_test}
 use Rattle.thread_runs.proofs.WatchedRelation.{Phase, ThreadKept, marked, Ground, Made}
 
@@ -57,16 +57,16 @@ module _ (r : Threading) (A : AreEntries r.original r.listed) (S : IsThreadSound
     landed Ecx p to h w start = inr (inr (inr (record { site = site; listed = listed; tail = Ecx; more = omega arith; there = h; world = w })))
 
     -- past the first address of the relocated code nothing is counted
-    pub past_uncounted : (x : ℕ) → at < x → x < at + length (thread_work F nx at) → (t : ThreadSite) → Contains r.sites t → is_counted t x ≡ false
-    past_uncounted x a b t h = false_from_ne_true (is_counted t x) (λ p.
+    pub past_uncounted : (x : ℕ) → at < x → x < at + length (thread_work F nx at) → (t : ThreadSite) → Contains r.sites t → is_part Marked x t ≡ false
+    past_uncounted x a b t h = false_from_ne_true (is_part Marked x t) (λ p.
         let q = part_is Marked x t p in
         let same : t ≡ site = S.apart t site h listed x (part_in r A S L.long Marked t h x p) (omega (arith, a), omega (arith, b, code_length r A S site listed)) in
         let z : work_at t ≡ work_at site = ap work_at same in
-        let small = part_small Marked t.event in
+        let small = part_small Marked t.event t.when in
         omega (arith, q.1, a, z, small))
 
     -- where a thread stands after its effect step nothing is counted
-    pub landed_uncounted : (k : Tail) (p : Thread) (to : Machine) → IsWork F site.entry.addr nx at to → InTail F nx at k p.core p.rip to → is_start r.listed p.rip ≡ true → (t : ThreadSite) → Contains r.sites t → is_counted t to.rip ≡ false
+    pub landed_uncounted : (k : Tail) (p : Thread) (to : Machine) → IsWork F site.entry.addr nx at to → InTail F nx at k p.core p.rip to → is_start r.listed p.rip ≡ true → (t : ThreadSite) → Contains r.sites t → is_part Marked to.rip t ≡ false
     landed_uncounted Out p to W h start t k = start_uncounted r A S L to.rip t k (ap (is_start r.listed) h.1 ∙ start)
     landed_uncounted Back p to W h start t k = let q = L.tail_inside F site.entry.addr nx at Back p.core p.rip to (omega arith) W h in past_uncounted to.rip q.0 q.1 t k
     landed_uncounted Jump p to W h start t k = let q = L.tail_inside F site.entry.addr nx at Jump p.core p.rip to (omega arith) W h in past_uncounted to.rip q.0 q.1 t k
@@ -109,7 +109,7 @@ module _ (r : Threading) (A : AreEntries r.original r.listed) (S : IsThreadSound
 
       -- in the relocated code staleness goes with what is written
       stale_is : is_code_of r site (S.sites site listed) x0 → at ≤ x0 → (x : ℕ) → stale' x ≡ still w.stale (writes_at (thread_task f (next_after x0 f)) (next_after x0 f) u) x
-      stale_is c l x = cond-false (saves r x0) _ _ (part_only r A S L.long site listed x0 Save c ∙ part_past Save x0 site (save_small site.event) l)
+      stale_is c l x = cond-false (saves r x0) _ _ (part_only r A S L.long site listed x0 Save c ∙ part_past Save x0 site (save_small site.event site.when) l)
           ∙ cond-false (in_event r x0) _ _ (part_only r A S L.long site listed x0 Whole c ∙ part_past Whole x0 site (omega arith) l)
 
       -- a step of a thread after its effect step leaves what is due: the original makes no step
@@ -133,8 +133,7 @@ module _ (r : Threading) (A : AreEntries r.original r.listed) (S : IsThreadSound
             counted = λ t h' b v. record {
               more = 0;
               number = none_more b (marked r b t to.mem) (marked r b t w.mem) (mark_kept r A S t h' b v w.mem to.mem (λ x e. ap (λ (z : Bytes). z x) N.mem));
-              even = all_zero (is_effect r x0 && eqb one.projected.rip t.entry.addr) (is_counted t to.rip) (is_counted t x0)
-                  (and_left (is_effect r x0) (eqb one.projected.rip t.entry.addr) eff)
+              even = none_even t (is_effect r x0) one.projected (projection r one w.mem to) x0 to.rip (and_left (is_effect r x0) (eqb one.projected.rip t.entry.addr) eff)
                   (landed_uncounted N.tail one.projected to W' N.there kept.start t h') (past_uncounted x0 q.0 q.1 t h');
             };
             processor = subst (λ (t : Thread). IsProcessorCore t.core) (sym p) kept.processor;
@@ -229,16 +228,19 @@ module _ (r : Threading) (A : AreEntries r.original r.listed) (S : IsThreadSound
             },
           )
         where
-          evenly : (t : ThreadSite) → Contains r.sites t → (b : Base) → t.event ≡ Some b → is_effect r x0 ≡ true → is_counted t to.rip ≡ false
-              → ◌≡◌ {A = ℕ} (cond (is_effect r x0 && eqb one.projected.rip t.entry.addr) 1 0 + cond (is_counted t to.rip) 1 0) (cond (is_counted t x0) 1 0 + 0)
+          evenly : (t : ThreadSite) → Contains r.sites t → (b : Base) → t.event ≡ Some b → is_effect r x0 ≡ true → is_part Marked to.rip t ≡ false
+              → ◌≡◌ {A = ℕ} (cond (is_effect r x0 && (is_met_by t one.projected.core && eqb one.projected.rip t.entry.addr)) 1 0 + cond (is_counted t to.rip (projection r one w.mem to).core) 1 0)
+              (cond (is_counted t x0 one.projected.core) 1 0 + 0)
           evenly t h d v eff none =
-              let same : (is_effect r x0 && eqb one.projected.rip t.entry.addr) ≡ is_counted t x0 = same_test _ _
-              (λ b. let q = eqb-true one.projected.rip t.entry.addr (and_parts (is_effect r x0) (eqb one.projected.rip t.entry.addr) b).1 in
+              let same : eqb one.projected.rip t.entry.addr ≡ is_part Marked x0 t = same_test _ _
+              (λ b. let q = eqb-true one.projected.rip t.entry.addr b in
               let y : t ≡ site = S.once t site h listed (sym q ∙ start) in let pl : work_at t ≡ work_at site = ap work_at y in
-              let g = mark_from t.event in let k = mark_end t.event (mark_some t.event d v) in
+              let g = mark_from t.event t.when in let k = mark_end t.event t.when (mark_some t.event t.when d v) in
               part_true Marked x0 t (omega (arith, pl, here, g)) (omega (arith, pl, here, k)))
               (λ b. let y : t ≡ site = S.apart t site h listed x0 (part_in r A S L.long Marked t h x0 b) (work_in r A S L.long site listed x0 here) in
-              and_from (is_effect r x0) (eqb one.projected.rip t.entry.addr) eff (eq-eqb one.projected.rip t.entry.addr (start ∙ sym (ap (λ (v : ThreadSite). v.entry.addr) y)))) in
-              let b1 : ◌≡◌ {A = ℕ} (cond (is_effect r x0 && eqb one.projected.rip t.entry.addr) 1 0) (cond (is_counted t x0) 1 0) = ap (λ b. cond b 1 0) same in
-              let b2 : ◌≡◌ {A = ℕ} (cond (is_counted t to.rip) 1 0) 0 = cond-false (is_counted t to.rip) 1 0 none in
+              eq-eqb one.projected.rip t.entry.addr (start ∙ sym (ap (λ (v : ThreadSite). v.entry.addr) y))) in
+              let met = is_met_by t one.projected.core in
+              let b1 : ◌≡◌ {A = ℕ} (cond (is_effect r x0 && (met && eqb one.projected.rip t.entry.addr)) 1 0) (cond (is_counted t x0 one.projected.core) 1 0) =
+              ap₂ (λ b c. cond (b && (met && c)) 1 0) eff same in
+              let b2 : ◌≡◌ {A = ℕ} (cond (is_counted t to.rip (projection r one w.mem to).core) 1 0) 0 = cond-false (is_counted t to.rip (projection r one w.mem to).core) 1 0 (uncounted t to.rip (projection r one w.mem to).core none) in
               omega (arith, b1, b2)

@@ -1,5 +1,5 @@
 -- A delivery that meets the premises keeps the relation between the watched guest and the original's.
-use Rattle.std.proofs.Common.{◌≡◌, inl, inr, ℕ, ◌+◌, Bool, true, false, cond, eqb, List, [], ◌∷◌, ◌++◌, length, Some, None, refl, sym, ap, ap₂, ◌∙◌, subst, arith}
+use Rattle.std.proofs.Common.{◌≡◌, inl, inr, ℕ, ◌+◌, Bool, true, false, cond, List, [], ◌∷◌, ◌++◌, length, Some, None, refl, sym, ap, ap₂, ◌∙◌, subst, arith}
 use Rattle.std.specs.Prelude.{Contains, count_by, slice_get, slice_set}
 use Rattle.std.proofs.lemmas.Bool.{cases_eq, and_parts, cond-false}
 use Rattle.pun_base.specs.Memory.{Bytes}
@@ -18,16 +18,17 @@ use Rattle.image_step.specs.Listed.{is_listed_byte}
 use Rattle.image_check.proofs.DeliveredStates.{written_code}
 use Rattle.thread_runs.specs.Guest.{Thread, Guest}
 use Rattle.thread_runs.specs.ThreadCode.{mark_at, mark_len}
-use Rattle.thread_runs.specs.Threading.{ThreadSite, Threading, is_new, is_hidden, is_saved, is_counted, IsThreadSound}
+use Rattle.thread_runs.specs.Threading.{ThreadSite, Threading, is_new, is_hidden, is_saved, IsThreadSound}
 use Rattle.thread_runs.specs.Watching.{Watched, Watch}
 use Rattle.thread_runs.specs.StepLaws.{StepLaws}
+use Rattle.thread_runs.specs.Theorem.{is_recorded, has_marked}
 use Rattle.thread_runs.specs.GuestDeliveries.{Takes, given, LeadsBy, Receives}
 use Rattle.thread_runs.specs.WatchedDeliveries.{WatchWith, writes_byte, watched_given, IsGiven}
 use Rattle.patch_report.proofs.ListPlaces.{some_is}
 use Rattle.thread_runs.proofs.ListUpdates.{set_here, set_away, map_set, get_map, count_set}
 use Rattle.thread_runs.proofs.KeptRelation.{run_more, last_more, lacking_on, other_kept}
 use Rattle.thread_runs.proofs.StandingCode.{mark_kept}
-use Rattle.thread_runs.proofs.OutsideSteps.{start_uncounted}
+use Rattle.thread_runs.proofs.OutsideSteps.{uncounted, start_uncounted}
 use Rattle.thread_runs.proofs.WatchedRelation.{shown_after, marked, ThreadKept, Related}
 use Rattle.thread_runs.proofs.WatchedSteps.{phase_outside}
 
@@ -96,18 +97,18 @@ module _ (r : Threading) (A : AreEntries r.original r.listed) (S : IsThreadSound
 
   -- what each event marks
   marks : (s : ThreadSite) → Contains r.sites s → (b : Base) → s.event ≡ Some b
-      → marked r b s v.mem ≡ shown_after b (count_by (λ e. eqb e.at s.entry.addr) v.log + count_by (λ t. is_counted s t.now.rip) v.threads)
+      → marked r b s v.mem ≡ shown_after b (count_by (is_recorded s) v.log + count_by (has_marked s) v.threads)
   marks s c b i =
-      let p = count_set (λ (t : Watched). is_counted s t.now.rip) w.threads k one one' D.there in
-      let before : is_counted s one.now.rip ≡ false = start_uncounted r A S L one.now.rip s c D.fits.here in
-      let after : is_counted s d.rip ≡ false = start_uncounted r A S L d.rip s c D.fits.there in
+      let p = count_set (has_marked s) w.threads k one one' D.there in
+      let before : has_marked s one ≡ false = uncounted s one.now.rip one.projected.core (start_uncounted r A S L one.now.rip s c D.fits.here) in
+      let after : has_marked s one' ≡ false = uncounted s d.rip (given d one.projected).core (start_uncounted r A S L d.rip s c D.fits.there) in
       let n = unchanged p before after in
-      mark_kept r A S s c b i w.mem v.mem news ∙ R.marks s c b i ∙ ap (λ z. shown_after b (count_by (λ e. eqb e.at s.entry.addr) v.log + z)) (sym n)
+      mark_kept r A S s c b i w.mem v.mem news ∙ R.marks s c b i ∙ ap (λ z. shown_after b (count_by (is_recorded s) v.log + z)) (sym n)
     where
-      unchanged : {m n : ℕ} → n + cond (is_counted s one.now.rip) 1 0 ≡ m + cond (is_counted s d.rip) 1 0 → is_counted s one.now.rip ≡ false → is_counted s d.rip ≡ false → n ≡ m
+      unchanged : {m n : ℕ} → n + cond (has_marked s one) 1 0 ≡ m + cond (has_marked s one') 1 0 → has_marked s one ≡ false → has_marked s one' ≡ false → n ≡ m
       unchanged q b c =
-          let e : ◌≡◌ {A = ℕ} (cond (is_counted s one.now.rip) 1 0) 0 = cond-false (is_counted s one.now.rip) 1 0 b in
-          let f : ◌≡◌ {A = ℕ} (cond (is_counted s d.rip) 1 0) 0 = cond-false (is_counted s d.rip) 1 0 c in
+          let e : ◌≡◌ {A = ℕ} (cond (has_marked s one) 1 0) 0 = cond-false (has_marked s one) 1 0 b in
+          let f : ◌≡◌ {A = ℕ} (cond (has_marked s one') 1 0) 0 = cond-false (has_marked s one') 1 0 c in
           omega (arith, q, e, f)
 
   -- the relation after the delivery

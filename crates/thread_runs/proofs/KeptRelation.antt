@@ -1,5 +1,5 @@
 -- A step of one thread keeps the relation between the watched guest and the original's.
-use Rattle.std.proofs.Common.{◌≡◌, ◌≢◌, inl, inr, ℕ, zero, suc, ◌+◌, ◌*◌, ◌<◌, Bool, true, false, cond, eqb, List, [], ◌∷◌, ◌++◌, Some, refl, sym, ap, ap₂, ◌∙◌, subst, arith}
+use Rattle.std.proofs.Common.{◌≡◌, inl, inr, ℕ, zero, suc, ◌+◌, ◌*◌, Bool, true, false, cond, eqb, List, [], ◌∷◌, ◌++◌, Some, refl, sym, ap, ap₂, ◌∙◌, subst, arith}
 use Rattle.std.specs.Prelude.{Contains, count_by, slice_get, slice_set}
 use Rattle.std.proofs.lemmas.Bool.{cond-true, cond-false, cases_eq, and_parts, or_left, or_right, eq-eqb}
 use Rattle.pun_base.specs.Memory.{Bytes}
@@ -19,23 +19,24 @@ use Rattle.thread_runs.specs.Guest.{Thread, Guest, machine_of, thread_of, Moves,
 use Rattle.thread_runs.specs.GuestDeliveries.{GuestItem, Goes, LeadsBy, IsInterleavedWith}
 use Rattle.thread_runs.specs.WatchedDeliveries.{made_after}
 use Rattle.thread_runs.specs.ThreadCode.{mark_at, mark_len, slot}
-use Rattle.thread_runs.specs.Event.{Point, offset, is_inside, has_point, HasSaved}
+use Rattle.thread_runs.specs.Event.{Point, is_inside, has_point, IsDecided, HasSaved}
 use Rattle.thread_runs.specs.Event.Point.{At0, At7}
-use Rattle.thread_runs.specs.Relation.{point_at}
+use Rattle.thread_runs.specs.Relation.{offset_if, point_at, has_rax}
 use Rattle.thread_runs.specs.Work.{Tail, InTail}
 use Rattle.thread_runs.specs.Work.Tail.{Out, Back, Jump, Ecx}
 use Rattle.thread_runs.specs.Threading.Part.{Saved}
-use Rattle.thread_runs.specs.Threading.{ThreadSite, Threading, part_to, is_part, has_saved, is_one_of, is_saved, is_counted, IsThreadSound}
+use Rattle.thread_runs.specs.Threading.{ThreadSite, Threading, is_part, has_saved, is_one_of, is_saved, IsThreadSound}
 use Rattle.thread_runs.specs.Watching.{Watched, Watch, EffectStep, is_effect, projection, stale_after, watched_after}
 use Rattle.thread_runs.specs.Premises.{touches_none, LeavesSaved}
 use Rattle.thread_runs.specs.StepLaws.{HoldsSlot}
+use Rattle.thread_runs.specs.Theorem.{is_recorded, has_marked}
 use Rattle.insn_form.specs.Alike.{AreAlike}
 use Rattle.insn_form.proofs.AlikeMemories.{same_allows}
 use Rattle.image_step.specs.Listed.{is_start}
 use Rattle.thread_runs.specs.Threading.{is_hidden}
 use Rattle.patch_report.proofs.ListPlaces.{some_is, any_at, place_of}
 use Rattle.thread_runs.proofs.ListUpdates.{set_here, set_away, map_set, map_same, get_map, count_set, count_more}
-use Rattle.thread_runs.proofs.ThreadPlaces.{part_true, point_inside, point_saving}
+use Rattle.thread_runs.proofs.ThreadPlaces.{part_true, point_inside, point_saved}
 use Rattle.thread_runs.proofs.WatchedRelation.{ThreadKept, HasRoom, shown_after, marked, Related, Changes, Made}
 
 -- runs that grow at the end
@@ -96,10 +97,10 @@ tail_on m w t f next to Ecx c rip h = h
 
 module _ (r : Threading) (S : IsThreadSound r) (H : HoldsSlot) where
   -- the saved bytes of another thread hold rax where they stay
-  saved_on : (m w : Bytes) (p : Point) (c : Core) → (is_inside p ≡ true → offset p ≢ 0 → offset p < 32 → number_at w (slot c) 8 ≡ number_at m (slot c) 8) → HasSaved p c m → HasSaved p c w
+  saved_on : (m w : Bytes) (p : Point) (c : Core) → (has_rax p ≡ true → number_at w (slot c) 8 ≡ number_at m (slot c) 8) → HasSaved p c m → HasSaved p c w
   saved_on m w At0 c h k = tt
   saved_on m w At7 c h k = tt
-  saved_on m w p c h k = h refl (λ e. omega (arith, e)) (omega arith) ∙ k
+  saved_on m w p c h k = h refl ∙ k
 
   -- where the bytes that another thread has saved stay, so does all that is kept of it
   pub other_kept : (m w : Bytes) (one : Watched) → (has_saved r one.now.rip ≡ true → (x : ℕ) → is_saved one.now.core x ≡ true → w x ≡ m x) → ThreadKept r S m one → ThreadKept r S w one
@@ -118,22 +119,28 @@ module _ (r : Threading) (S : IsThreadSound r) (H : HoldsSlot) where
         here = q.here;
         there = q.there;
         core = q.core;
+        decided = q.decided;
         world = q.world;
         old = q.old;
-        saved = saved_on m w q.point one.projected.core (λ i n l.
-            let same : slot one.now.core ≡ slot one.projected.core = H q.point one.projected.core one.now.core k.processor q.core in
-            subst (λ (z : ℕ). number_at w z 8 ≡ number_at m z 8) same (number_on m w (slot one.now.core) 8 (h (inside q.site q.listed q.point (q.inside i) i q.here n l)))) q.saved;
+        saved = saved_on m w q.point one.projected.core (λ n.
+            let same : slot one.now.core ≡ slot one.projected.core = H q.site.when q.point one.projected.core one.now.core k.processor q.core in
+            subst (λ (z : ℕ). number_at w z 8 ≡ number_at m z 8) same (number_on m w (slot one.now.core) 8 (h (inside q.site q.listed q.point one.projected.core (q.inside (rax_inside q.point n)) q.decided n q.here)))) q.saved;
       })))
       | inr (inr (inr q)) ↦ inr (inr (inr (record { site = q.site; listed = q.listed; tail = q.tail; more = q.more; there = tail_on m w one.now (S.sites q.site q.listed).fields _ _ q.tail _ _ q.there; world = q.world })))
     ];
   }
     where
-      inside : (s : ThreadSite) → Contains r.sites s → (p : Point) → has_point s.event p ≡ true → is_inside p ≡ true → one.now.rip ≡ point_at s p → offset p ≢ 0 → offset p < 32 → has_saved r one.now.rip ≡ true
-      inside s c p k j here n l =
-          let e : one.now.rip ≡ s.place + offset p = here ∙ point_inside s p j in
-          let i = place_of r.sites s c in
-          let to : part_to Saved s.event ≡ 32 = ap (part_to Saved) (point_saving s.event p k n) in
-          any_at (is_part Saved one.now.rip) r.sites i.0 s i.1 (part_true Saved one.now.rip s (omega (arith, e, n)) (omega (arith, e, l, to)))
+      rax_inside : (p : Point) → has_rax p ≡ true → is_inside p ≡ true
+      rax_inside At7 h = h
+      rax_inside p h = refl
+
+      inside : (s : ThreadSite) → Contains r.sites s → (p : Point) (c : Core) → has_point s.event s.when p ≡ true → IsDecided s.when p c → has_rax p ≡ true → one.now.rip ≡ point_at s p
+          → has_saved r one.now.rip ≡ true
+      inside s c p d k i n here =
+          let e : one.now.rip ≡ s.place + offset_if s.event s.when p = here ∙ point_inside s p (rax_inside p n) in
+          let q = point_saved s.event s.when p d k n i in
+          let z = place_of r.sites s c in
+          any_at (is_part Saved one.now.rip) r.sites z.0 s z.1 (part_true Saved one.now.rip s (omega (arith, e, q.0)) (omega (arith, e, q.1)))
 
   -- the whole relation after a step
   module _ (a : Guest) (made : List GuestItem) (w : Watch) (k : ℕ) (one : Watched) (there : slice_get w.threads k ≡ Some one) (f : Fields) (to : Machine)
@@ -156,22 +163,22 @@ module _ (r : Threading) (S : IsThreadSound r) (H : HoldsSlot) where
 
     -- what each event marks in v
     marks_after : (e : Bool) → is_effect r one.now.rip ≡ e → (s : ThreadSite) → Contains r.sites s → (b : Base) → s.event ≡ Some b
-        → Changes r e b s w.mem to.mem one.projected.rip one.now.rip to.rip
-        → marked r b s to.mem ≡ shown_after b (count_by (λ x. eqb x.at s.entry.addr) v.log + count_by (λ x. is_counted s x.now.rip) v.threads)
+        → Changes r e b s w.mem to.mem one.projected one'.projected one.now.rip to.rip
+        → marked r b s to.mem ≡ shown_after b (count_by (is_recorded s) v.log + count_by (has_marked s) v.threads)
     marks_after true e s c b i q =
-        let log : v.log ≡ w.log ++ record { thread = k; at = one.projected.rip } ∷ [] = cond-true (is_effect r one.now.rip) _ _ e in
-        let n1 = ap (λ (z : List EffectStep). count_by (λ x. eqb x.at s.entry.addr) z) log ∙ count_more (λ (x : EffectStep). eqb x.at s.entry.addr) w.log (record { thread = k; at = one.projected.rip }) in
-        let n2 = count_set (λ (x : Watched). is_counted s x.now.rip) w.threads k one one' there in
-        let n3 : count_by (λ x. eqb x.at s.entry.addr) w.log + count_by (λ x. is_counted s x.now.rip) w.threads + q.more
-        ≡ count_by (λ x. eqb x.at s.entry.addr) v.log + count_by (λ x. is_counted s x.now.rip) v.threads = omega (arith, q.even, n1, n2) in
-        q.number (count_by (λ x. eqb x.at s.entry.addr) w.log + count_by (λ x. is_counted s x.now.rip) w.threads) (R.marks s c b i) ∙ ap (shown_after b) n3
+        let log : v.log ≡ w.log ++ record { thread = k; at = one.projected.rip; core = one.projected.core } ∷ [] = cond-true (is_effect r one.now.rip) _ _ e in
+        let n1 = ap (λ (z : List EffectStep). count_by (is_recorded s) z) log ∙ count_more (is_recorded s) w.log (record { thread = k; at = one.projected.rip; core = one.projected.core }) in
+        let n2 = count_set (has_marked s) w.threads k one one' there in
+        let n3 : count_by (is_recorded s) w.log + count_by (has_marked s) w.threads + q.more
+        ≡ count_by (is_recorded s) v.log + count_by (has_marked s) v.threads = omega (arith, q.even, n1, n2) in
+        q.number (count_by (is_recorded s) w.log + count_by (has_marked s) w.threads) (R.marks s c b i) ∙ ap (shown_after b) n3
     marks_after false e s c b i q =
         let log : v.log ≡ w.log = cond-false (is_effect r one.now.rip) _ _ e in
-        let n1 = ap (λ (z : List EffectStep). count_by (λ x. eqb x.at s.entry.addr) z) log in
-        let n2 = count_set (λ (x : Watched). is_counted s x.now.rip) w.threads k one one' there in
-        let n3 : count_by (λ x. eqb x.at s.entry.addr) w.log + count_by (λ x. is_counted s x.now.rip) w.threads + q.more
-        ≡ count_by (λ x. eqb x.at s.entry.addr) v.log + count_by (λ x. is_counted s x.now.rip) v.threads = omega (arith, q.even, n1, n2) in
-        q.number (count_by (λ x. eqb x.at s.entry.addr) w.log + count_by (λ x. is_counted s x.now.rip) w.threads) (R.marks s c b i) ∙ ap (shown_after b) n3
+        let n1 = ap (λ (z : List EffectStep). count_by (is_recorded s) z) log in
+        let n2 = count_set (has_marked s) w.threads k one one' there in
+        let n3 : count_by (is_recorded s) w.log + count_by (has_marked s) w.threads + q.more
+        ≡ count_by (is_recorded s) v.log + count_by (has_marked s) v.threads = omega (arith, q.even, n1, n2) in
+        q.number (count_by (is_recorded s) w.log + count_by (has_marked s) w.threads) (R.marks s c b i) ∙ ap (shown_after b) n3
 
     -- a step that leaves what is due and touches none of the bytes that others saved keeps the relation, if its projection is at a start
     pub kept_by : (m' : Bytes) → LeavesSaved r w k f (machine_of w.mem one.now) → is_start r.listed one'.projected.rip ≡ true
@@ -220,7 +227,7 @@ module _ (r : Threading) (S : IsThreadSound r) (H : HoldsSlot) where
         room s c b i = keeps_room (mark_at b r.private s.number) (mark_len b) f (machine_of w.mem one.now) to steps (R.room s c b i)
 
         marks : (s : ThreadSite) → Contains r.sites s → (b : Base) → s.event ≡ Some b
-            → marked r b s to.mem ≡ shown_after b (count_by (λ x. eqb x.at s.entry.addr) v.log + count_by (λ x. is_counted s x.now.rip) v.threads)
+            → marked r b s to.mem ≡ shown_after b (count_by (is_recorded s) v.log + count_by (has_marked s) v.threads)
         marks s c b i = marks_after (is_effect r one.now.rip) refl s c b i (M.counted s c b i)
 
         each : (j : ℕ) (other : Watched) → slice_get v.threads j ≡ Some other → ThreadKept r S to.mem other

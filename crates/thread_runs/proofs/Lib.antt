@@ -2,6 +2,7 @@ pub mod ThreadTrampolines
 pub mod ListUpdates
 pub mod ThreadSteps
 pub mod KnownCodeSteps
+pub mod ComparisonCode
 pub mod EventCode
 pub mod ThreadEventInstructions
 pub mod CoverStep

@@ -11,7 +11,7 @@ use Rattle.insn_form.specs.Machine.{Machine}
 use Rattle.relocate_insn.proofs.FixedCode.{fixed_on}
 use Rattle.thread_runs.specs.ThreadSteps.{ThreadStep}
 use Rattle.thread_runs.specs.ThreadCode.{counter_at, thread_event, slot}
-use Rattle.thread_runs.specs.Event.{Point, following, is_inside, HasSaved, InEvent, memory_after, CanCount}
+use Rattle.thread_runs.specs.Event.{Point, following, is_inside, HasSaved, InEvent, memory_after, CanMark}
 use Rattle.thread_runs.specs.Event.Point.{At0, At1, At2, At3, At4, At5, At6}
 use Rattle.thread_runs.specs.Threading.{is_one_of}
 use Rattle.thread_runs.specs.Alone.{CanCountAlone, HasCountedAlone, EventCountsAlone}
@@ -28,21 +28,21 @@ module _ (p i place : ℕ) (s : Machine) (h : CanCountAlone p i place s) where
 
   -- the thread at a point of the event
   record At (k : Point) (v : Machine) : Type 0 where
-    event : InEvent p i place k c v
-    can : CanCount p i c v.mem
+    event : InEvent Count [] p i place k c v
+    can : CanMark Count p i c v.mem
     world : v.world ≡ s.world
 
   -- and after it
   record Next (k : Point) (v : Machine) : Type 0 where
     to : Machine
     steps : ThreadStep v to
-    mem : to.mem ≡ memory_after k a c v.mem
-    at : At (following k) to
+    mem : to.mem ≡ memory_after Count k a c v.mem
+    at : At (following [] c k) to
 
   -- at each point of the event there is a next state
-  onward : (k : Point) → is_inside k ≡ true → (v : Machine) → At k v → ((m : Bytes) → m ≡ memory_after k a c v.mem → HasSaved (following k) c m) → Next k v
+  onward : (k : Point) → is_inside k ≡ true → (v : Machine) → At k v → ((m : Bytes) → m ≡ memory_after Count k a c v.mem → HasSaved (following [] c k) c m) → Next k v
   onward k n v t saved =
-      let g = event_goes p i place k c v n t.event t.can in
+      let g = event_goes Count [] p i place k c v n t.event t.can in
       let f = g.1.0 in
       let st = g.1.1 in
       let perms = keeps_perms f v g.0 st in
@@ -54,17 +54,19 @@ module _ (p i place : ℕ) (s : Machine) (h : CanCountAlone p i place s) where
           event = record {
             processor = h.processor;
             core = g.2.core;
+            decided = g.2.decided;
             saved = saved g.0.mem g.2.mem;
             rip = g.2.rip;
-            stands = fixed_on v.mem g.0.mem place (thread_event Count p i) (keeps_code v.mem f v g.0 st (λ x y z. refl)) t.event.stands;
+            stands = fixed_on v.mem g.0.mem place (thread_event Count [] p i) (keeps_code v.mem f v g.0 st (λ x y z. refl)) t.event.stands;
+            few = record { asked = tt; few = omega arith };
             low = h.low;
             room = h.room;
           };
           can = record {
             slot_read = lacking_on 4 v.mem g.0.mem (slot c) 8 perms ∙ t.can.slot_read;
             slot_written = lacking_on 2 v.mem g.0.mem (slot c) 8 perms ∙ t.can.slot_written;
-            counter_read = lacking_on 4 v.mem g.0.mem a 8 perms ∙ t.can.counter_read;
-            counter_written = lacking_on 2 v.mem g.0.mem a 8 perms ∙ t.can.counter_written;
+            mark_read = lacking_on 4 v.mem g.0.mem a 8 perms ∙ t.can.mark_read;
+            mark_written = lacking_on 2 v.mem g.0.mem a 8 perms ∙ t.can.mark_written;
           };
           world = g.2.world ∙ t.world;
         };
@@ -76,9 +78,11 @@ module _ (p i place : ℕ) (s : Machine) (h : CanCountAlone p i place s) where
     event = record {
       processor = h.processor;
       core = refl;
+      decided = tt;
       saved = tt;
       rip = h.rip ∙ (let e : place ≡ place + 0 = omega arith in e);
       stands = h.stands;
+      few = record { asked = tt; few = omega arith };
       low = h.low;
       room = h.room;
     };
@@ -155,7 +159,7 @@ module _ (p i place : ℕ) (s : Machine) (h : CanCountAlone p i place s) where
       let v = (number_at n2.to.mem a 8 + 1) % 2 ^ 64 in
       let low = h.room in
       let e : v % 2 ^ (8 * 8) ≡ v = omega arith in
-      ap (λ (z : Bytes). number_at z a 8) behind ∙ read_back n2.to.mem 2 a 8 v (omega (arith, low)) (omega arith) n2.at.can.counter_written ∙ e
+      ap (λ (z : Bytes). number_at z a 8) behind ∙ read_back n2.to.mem 2 a 8 v (omega (arith, low)) (omega arith) n2.at.can.mark_written ∙ e
       ∙ ap (λ z. (z + 1) % 2 ^ 64) counter_stays
 
   -- all other bytes are after the event as they were at the start

@@ -33,16 +33,16 @@ use Rattle.relocate_insn.proofs.PieceSteps.{gone_to}
 use Rattle.start_entries.specs.Standing.{AreEntries}
 use Rattle.image_step.specs.Listed.{is_start, is_listed_byte}
 use Rattle.thread_runs.specs.Guest.{Thread, machine_of, thread_of}
-use Rattle.thread_runs.specs.Event.{Point, is_inside, has_point, Holds, HasSaved}
+use Rattle.thread_runs.specs.Event.{Point, is_inside, has_point, Holds, IsDecided, HasSaved}
 use Rattle.thread_runs.specs.Event.Point.{At0, At7}
 use Rattle.thread_runs.specs.Threading.Part.{Whole, Save, Marked}
-use Rattle.thread_runs.specs.Threading.{ThreadSite, Threading, is_new, is_hidden, is_site, is_kept, in_event, saves, is_counted, relocated_at, ByTwoJumps, IsThreadSound}
+use Rattle.thread_runs.specs.Threading.{ThreadSite, Threading, is_new, is_hidden, is_site, is_kept, in_event, saves, is_part, is_met_by, is_counted, relocated_at, ByTwoJumps, IsThreadSound}
 use Rattle.thread_runs.specs.Watching.{Watched, Watch, is_effect, behind, projection, stale_after}
 use Rattle.thread_runs.specs.Premises.{IsQuietAt, reads_nothing_of}
 use Rattle.thread_runs.specs.StepLaws.{StepLaws}
 use Rattle.patch_report.proofs.ListPlaces.{any_at, place_of}
 use Rattle.image_check.proofs.LoadedCode.{jump_acts}
-use Rattle.thread_runs.proofs.ThreadPlaces.{start_old, part_never, start_no_site, site_of, effect_kept, effect_never, old_uncounted, part_in, place_in, plain_len, mark_late, point_first, part_is}
+use Rattle.thread_runs.proofs.ThreadPlaces.{start_old, part_never, start_no_site, site_of, effect_kept, effect_never, old_uncounted, part_in, place_in, plain_len, mark_late, offset_first, point_first, part_is}
 use Rattle.thread_runs.proofs.StandingCode.{own_at, mark_kept}
 use Rattle.thread_runs.proofs.KeptRelation.{keeps_code}
 use Rattle.start_entries.specs.Leading.{JumpsTo}
@@ -68,22 +68,37 @@ all_zero b c d e f g = let x : ◌≡◌ {A = ℕ} (cond b 1 0) 0 = cond-false b
     let y : ◌≡◌ {A = ℕ} (cond c 1 0) 0 = cond-false c 1 0 f in
     let z : ◌≡◌ {A = ℕ} (cond d 1 0) 0 = cond-false d 1 0 g in omega (arith, x, y, z)
 
+-- where no mark stands, no thread has marked
+pub uncounted : (s : ThreadSite) (x : ℕ) (c : Core) → is_part Marked x s ≡ false → is_counted s x c ≡ false
+uncounted s x c e = and_right (is_met_by s c) (is_part Marked x s) e
+
+-- a step between places at which nothing is counted, that is no effect step of the site, counts nothing
+pub none_even : (s : ThreadSite) (effect : Bool) (p p' : Thread) (rip rip' : ℕ) → (effect && eqb p.rip s.entry.addr) ≡ false → is_part Marked rip' s ≡ false → is_part Marked rip s ≡ false
+    → ◌≡◌ {A = ℕ} (cond (effect && (is_met_by s p.core && eqb p.rip s.entry.addr)) 1 0 + cond (is_counted s rip' p'.core) 1 0) (cond (is_counted s rip p.core) 1 0 + 0)
+none_even s effect p p' rip rip' e a b =
+    all_zero (effect && (is_met_by s p.core && eqb p.rip s.entry.addr)) (is_counted s rip' p'.core) (is_counted s rip p.core)
+    (less effect (is_met_by s p.core) (eqb p.rip s.entry.addr) e) (uncounted s rip' p'.core a) (uncounted s rip p.core b)
+  where
+    less : (b m c : Bool) → (b && c) ≡ false → (b && (m && c)) ≡ false
+    less true m c h = and_right m c h
+    less false m c h = refl
+
 -- a trampoline step leaves the projection
 pub calm_projection : (r : Threading) (one : Watched) (m : Bytes) (to : Machine) → is_kept r one.now.rip ≡ false → relocated_at r.sites one.now.rip ≡ None → projection r one m to ≡ one.projected
 calm_projection r one m to h e = cond-false (is_kept r one.now.rip) (thread_of to) (behind (relocated_at r.sites one.now.rip) one m to) h ∙ ap (λ o. behind o one m to) e
 
 module _ (r : Threading) (A : AreEntries r.original r.listed) (S : IsThreadSound r) (L : StepLaws) where
   -- no start is where a thread is counted
-  pub start_uncounted : (x : ℕ) (s : ThreadSite) → Contains r.sites s → is_start r.listed x ≡ true → is_counted s x ≡ false
+  pub start_uncounted : (x : ℕ) (s : ThreadSite) → Contains r.sites s → is_start r.listed x ≡ true → is_part Marked x s ≡ false
   start_uncounted x s h e = old_uncounted r A S L.long x s h (start_old r A S L.long x e)
 
   -- nothing is counted at the first address of a trampoline
-  pub place_uncounted : (x : ℕ) (site : ThreadSite) → Contains r.sites site → x ≡ site.place → (t : ThreadSite) → Contains r.sites t → is_counted t x ≡ false
-  place_uncounted x site h e t k = false_from_ne_true (is_counted t x) (λ b.
+  pub place_uncounted : (x : ℕ) (site : ThreadSite) → Contains r.sites site → x ≡ site.place → (t : ThreadSite) → Contains r.sites t → is_part Marked x t ≡ false
+  place_uncounted x site h e t k = false_from_ne_true (is_part Marked x t) (λ b.
       let v = part_is Marked x t b in
       let same : t ≡ site = S.apart t site k h x (part_in r A S L.long Marked t k x b) (place_in r A S L.long site h x e) in
       let p : t.place ≡ site.place = ap (λ (y : ThreadSite). y.place) same in
-      let late = mark_late t.event (omega (arith, v.1, e, p)) in
+      let late = mark_late t.event t.when (omega (arith, v.1, e, p)) in
       omega (arith, v.0, e, p, late))
 
   -- a thread that comes to a site's trampoline, with its projection at the site, is at the first point
@@ -92,9 +107,9 @@ module _ (r : Threading) (A : AreEntries r.original r.listed) (S : IsThreadSound
   come site h m now projected here there core world = by_event site.event refl
     where
       -- the phase at a point at which the thread has the registers and flags of its projection
-      standing : (point : Point) → (is_inside point ≡ true → has_point site.event point ≡ true) → now.rip ≡ point_at site point → Holds point projected.core now.core
-          → HasSaved point projected.core m → has_rax point ≡ false → Phase r S m now projected
-      standing point inside place holds saved free = inr (inr (inl (record {
+      standing : (point : Point) → (is_inside point ≡ true → has_point site.event site.when point ≡ true) → now.rip ≡ point_at site point → Holds site.when point projected.core now.core
+          → IsDecided site.when point projected.core → HasSaved point projected.core m → has_rax point ≡ false → Phase r S m now projected
+      standing point inside place holds decided saved free = inr (inr (inl (record {
         site = site;
         listed = h;
         point = point;
@@ -102,14 +117,15 @@ module _ (r : Threading) (A : AreEntries r.original r.listed) (S : IsThreadSound
         here = place;
         there = there;
         core = holds;
+        decided = decided;
         world = world;
         saved = saved;
         old = λ e. absurd (false≢true (sym free ∙ e));
       })))
 
       by_event : (o : Option Base) → site.event ≡ o → Phase r S m now projected
-      by_event (Some b) e = standing At0 (λ i. ap (λ (z : Option Base). has_point z At0) e ∙ point_first b) (omega (arith, here)) core tt refl
-      by_event None e = standing At7 (λ i. absurd (false≢true i)) (omega (arith, here, plain_len site e)) core tt refl
+      by_event (Some b) e = standing At0 (λ i. ap (λ (z : Option Base). has_point z site.when At0) e ∙ point_first b site.when) (omega (arith, here, offset_first site.event site.when)) core tt tt refl
+      by_event None e = standing At7 (λ i. absurd (false≢true i)) (omega (arith, here, plain_len site e)) core tt tt refl
 
   module _ (M : Bytes) (w : Watch) (one : Watched) (f : Fields) (to : Machine)
       (steps : ThreadStepsBy f (machine_of w.mem one.now) to) (R : Ground r S M w.stale w.mem one) (old : is_new r one.now.rip ≡ false) where
@@ -158,9 +174,9 @@ module _ (r : Threading) (A : AreEntries r.original r.listed) (S : IsThreadSound
         not_from_true _ (ap (λ (t : Task). writes_none (λ y. eqb x y) t next s) task ∙ jump_writes (λ y. eqb x y) next (insn_of f) j.rel s.core (first s.world) i)
 
     -- a step by a direct jump leaves what is due, in the phase that it leads to, where nothing is counted: the original makes no step
-    made_jump : (target : ℕ) → JumpsTo r.patched x0 target → is_kept r x0 ≡ false → ((t : ThreadSite) → Contains r.sites t → is_counted t target ≡ false)
+    made_jump : (target : ℕ) → JumpsTo r.patched x0 target → is_kept r x0 ≡ false → ((t : ThreadSite) → Contains r.sites t → is_part Marked target t ≡ false)
         → Phase r S to.mem (thread_of to) one.projected → Made r S stale' M M one w.mem to
-    made_jump target j calm uncounted phase =
+    made_jump target j calm free phase =
         let end = jumped target j in
         let none = start_no_site r A S L.long x0 old in
         let p = calm_projection r one w.mem to calm none in
@@ -175,9 +191,8 @@ module _ (r : Threading) (A : AreEntries r.original r.listed) (S : IsThreadSound
           counted = λ t h b i. record {
             more = 0;
             number = none_more b (marked r b t to.mem) (marked r b t w.mem) (mark_kept r A S t h b i w.mem to.mem (λ x e. ap (λ (z : Bytes). z x) mem));
-            even = all_zero (is_effect r x0 && eqb one.projected.rip t.entry.addr) (is_counted t to.rip) (is_counted t x0)
-                (and_left (is_effect r x0) (eqb one.projected.rip t.entry.addr) eff)
-                (ap (is_counted t) rip ∙ uncounted t h) (old_uncounted r A S L.long x0 t h old);
+            even = none_even t (is_effect r x0) one.projected (projection r one w.mem to) x0 to.rip (and_left (is_effect r x0) (eqb one.projected.rip t.entry.addr) eff)
+                (ap (λ x. is_part Marked x t) rip ∙ free t h) (old_uncounted r A S L.long x0 t h old);
           };
           processor = subst (λ (t : Thread). IsProcessorCore t.core) (sym p) kept.processor;
           words = subst (λ (t : Thread). GiveWords t.world) (sym p) kept.words;
@@ -226,7 +241,7 @@ module _ (r : Threading) (A : AreEntries r.original r.listed) (S : IsThreadSound
             counted = λ t h b i. record {
               more = 0;
               number = none_more b (marked r b t to.mem) (marked r b t w.mem) (mark_kept r A S t h b i w.mem to.mem still_new);
-              even = all_zero (is_effect r x0 && eqb one.projected.rip t.entry.addr) (is_counted t to.rip) (is_counted t x0)
+              even = none_even t (is_effect r x0) one.projected (projection r one w.mem to) x0 to.rip
                   (and_right (is_effect r x0) (eqb one.projected.rip t.entry.addr) (ne_eqb one.projected.rip t.entry.addr (λ same. no_site t h (ap (λ (y : Thread). y.rip) o.same ∙ same))))
                   (start_uncounted to.rip t h go) (start_uncounted x0 t h o.start);
             };

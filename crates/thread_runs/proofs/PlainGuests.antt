@@ -29,7 +29,7 @@ plain w = record { watch = w; made = steps_of w.log }
 made_plain : (r : Threading) (k : ℕ) (one : Watched) (log : List EffectStep) → steps_of (logged r k one log) ≡ made_after r k one (steps_of log)
 made_plain r k one log = by_effect (is_effect r one.now.rip)
   where
-    by_effect : (b : Bool) → steps_of (cond b (log ++ record { thread = k; at = one.projected.rip } ∷ []) log) ≡ cond b (steps_of log ++ Goes k ∷ []) (steps_of log)
+    by_effect : (b : Bool) → steps_of (cond b (log ++ record { thread = k; at = one.projected.rip; core = one.projected.core } ∷ []) log) ≡ cond b (steps_of log ++ Goes k ∷ []) (steps_of log)
     by_effect true = ap items_of (map-append (λ (e : EffectStep). e.thread) log _) ∙ map-append Goes (map (λ (e : EffectStep). e.thread) log) _
     by_effect false = refl
 

@@ -78,15 +78,15 @@ module _ (r : Threading) (A : AreEntries r.original r.listed) (S : IsThreadSound
       stands_fixed r.original s.entry.addr (spelling k.fields) (omega (arith, i.low, k.len)) (λ x l g. (i.executed x l (omega (arith, k.len, g))).1) k.stands
 
   -- the event of a site stands at its trampoline's place in each memory that has the patched image's code
-  pub event_stands : (s : ThreadSite) (h : Contains r.sites s) (b : Base) → s.event ≡ Some b → (m : Bytes) → SameCode r.patched m → IsFixed m s.place (thread_event b r.private s.number)
-  event_stands s h b e m c = subst (λ (z : Option Base). IsFixed m s.place (event_if z r.private s.number)) e
-      (fixed_front m s.place (event_if s.event r.private s.number) (thread_work (fields_of s h) (next_of s) (work_at s)) (fixed_on r.patched m s.place (code_if s.event r.private s.number (fields_of s h) (next_of s) s.place) c (S.sites s h).code))
+  pub event_stands : (s : ThreadSite) (h : Contains r.sites s) (b : Base) → s.event ≡ Some b → (m : Bytes) → SameCode r.patched m → IsFixed m s.place (thread_event b s.when r.private s.number)
+  event_stands s h b e m c = subst (λ (z : Option Base). IsFixed m s.place (event_if z s.when r.private s.number)) e
+      (fixed_front m s.place (event_if s.event s.when r.private s.number) (thread_work (fields_of s h) (next_of s) (work_at s)) (fixed_on r.patched m s.place (code_if s.event s.when r.private s.number (fields_of s h) (next_of s) s.place) c (S.sites s h).code))
 
   -- the trampoline of a site has the event's bytes and those of the relocated code
   pub code_length : (s : ThreadSite) (h : Contains r.sites s)
-      → length (code_if s.event r.private s.number (fields_of s h) (next_of s) s.place) ≡ event_len s.event + length (thread_work (fields_of s h) (next_of s) (work_at s))
+      → length (code_if s.event s.when r.private s.number (fields_of s h) (next_of s) s.place) ≡ event_len s.event s.when + length (thread_work (fields_of s h) (next_of s) (work_at s))
   code_length s h =
-      omega (arith, length-append (event_if s.event r.private s.number) (thread_work (fields_of s h) (next_of s) (work_at s)), event_long s.event r.private s.number)
+      omega (arith, length-append (event_if s.event s.when r.private s.number) (thread_work (fields_of s h) (next_of s) (work_at s)), event_long s.event s.when r.private s.number)
 
   -- the relocated code stands after the event in each memory that has the patched image's code
   pub work_stands : (s : ThreadSite) (h : Contains r.sites s) (v : Machine) → SameCode r.patched v.mem → IsWork (fields_of s h) s.entry.addr (next_of s) (work_at s) v
@@ -94,7 +94,7 @@ module _ (r : Threading) (A : AreEntries r.original r.listed) (S : IsThreadSound
       let k = S.sites s h in
       let i = A.each s.entry k.listed in
       let n = code_length s h in
-      let e = event_long s.event r.private s.number in
+      let e = event_long s.event s.when r.private s.number in
       record {
         spelled = k.spelled;
         size = k.size;
@@ -102,7 +102,7 @@ module _ (r : Threading) (A : AreEntries r.original r.listed) (S : IsThreadSound
         behind = ap (λ z. s.entry.addr + z) (sym k.len);
         low = i.low;
         stands = subst (λ (z : ℕ). IsFixed v.mem (s.place + z) (thread_work k.fields (next_of s) (work_at s))) e
-            (fixed_back v.mem s.place (event_if s.event r.private s.number) (thread_work k.fields (next_of s) (work_at s)) (omega (arith, k.low, n, e)) (fixed_on r.patched v.mem s.place (code_if s.event r.private s.number k.fields (next_of s) s.place) c k.code));
+            (fixed_back v.mem s.place (event_if s.event s.when r.private s.number) (thread_work k.fields (next_of s) (work_at s)) (omega (arith, k.low, n, e)) (fixed_on r.patched v.mem s.place (code_if s.event s.when r.private s.number k.fields (next_of s) s.place) c k.code));
         place_low = omega (arith, k.low, n);
       }
 

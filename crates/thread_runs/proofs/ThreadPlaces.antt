@@ -1,24 +1,28 @@
 -- Where a thread stands in a sound image, by its address alone.
-use Rattle.std.proofs.Common.{◌≡◌, ◌≢◌, inl, inr, ℕ, zero, suc, ◌+◌, ◌<◌, ◌≤◌, Bool, true, false, not, ◌&&◌, ◌||◌, eqb, leb, ltb, List, [], ◌∷◌, length, Option, Some, None, refl, sym, ap, ap₂, ◌∙◌, arith}
+use Rattle.std.proofs.Common.{◌≡◌, ◌≢◌, inl, inr, ℕ, zero, suc, ◌+◌, ◌<◌, ◌≤◌, Bool, true, false, not, ◌&&◌, ◌||◌, cond, eqb, leb, ltb, List, [], ◌∷◌, length, Option, Some, None, refl, sym, ap, ap₂, ◌∙◌, arith}
 use Rattle.std.proofs.lemmas.List.{length-append}
 use Rattle.std.specs.Prelude.{Contains, slice_get}
 use Rattle.std.specs.Option.{is_some}
 use Rattle.std.specs.List.{list_any}
-use Rattle.std.proofs.lemmas.Bool.{cases_Bool, and_parts, and_from, cond-true, eqb-true, eq-eqb, ne_eqb, leb-true, ltb-true, le-leb, lt-ltb, false_from_ne_true, true≢false, false≢true}
+use Rattle.std.proofs.lemmas.Bool.{cases_Bool, and_parts, and_from, cond-true, cond-false, eqb-true, eq-eqb, ne_eqb, leb-true, ltb-true, le-leb, lt-ltb, false_from_ne_true, true≢false, false≢true}
 use Rattle.pun_base.specs.Memory.{Cell}
 use Rattle.pun_base.specs.declared.action.Base.{Base}
 use Rattle.pun_base.specs.declared.action.Base.TheVariants.{Cover, Count}
+use Rattle.pun_base.specs.declared.action.Comparison.{Comparison}
+use Rattle.cpu_state.specs.declared.state.Core.{Core}
 use Rattle.start_entries.specs.declared.entry.StartEntry.{StartEntry}
 use Rattle.start_entries.specs.Standing.{AreEntries}
 use Rattle.image_step.specs.Listed.{is_start}
-use Rattle.thread_runs.specs.ThreadCode.{event_len, event_if, thread_work, code_if}
-use Rattle.thread_runs.specs.Threading.{ThreadSite, Threading, next_of, work_at, is_new, is_site, is_kept, Part, part_from, part_to, is_part, is_counted, site_if, relocated_at, is_code_of, IsThreadSound}
+use Rattle.thread_runs.specs.ThreadCode.{is_saving, saving_event, saving_len, thread_event, event_len, event_if, thread_work, code_if}
+use Rattle.thread_runs.specs.Threading.{ThreadSite, Threading, next_of, work_at, is_new, is_site, is_kept, Part, part_from, part_to, is_part, site_if, relocated_at, is_code_of, IsThreadSound}
 use Rattle.thread_runs.specs.Threading.Part.{Whole, Save, Saved, Marked}
 use Rattle.thread_runs.specs.Watching.{is_effect, is_there}
 use Rattle.thread_runs.specs.StepLaws.{WorkLong}
-use Rattle.thread_runs.specs.Event.{Point, offset, is_inside, has_point}
-use Rattle.thread_runs.specs.Event.Point.{At0, At7}
-use Rattle.thread_runs.specs.Relation.{point_at}
+use Rattle.thread_runs.specs.Theorem.{when_at}
+use Rattle.thread_runs.specs.Event.{Point, offset, is_inside, has_point, IsDecided}
+use Rattle.thread_runs.specs.Event.Point.{At0, At1, At2, AtCompare, AtJump, At3, At4, At5, At6, At7}
+use Rattle.thread_runs.specs.Relation.{offset_if, point_at, has_rax}
+use Rattle.thread_runs.proofs.EventCode.{insn_some, ends_low}
 use Rattle.thread_runs.proofs.ThreadTrampolines.{event_long}
 use Rattle.patch_report.proofs.ListPlaces.{found, any_at, contains_at, place_of, some_is}
 use Rattle.image_check.proofs.RelatedStates.{allowed_some}
@@ -47,111 +51,198 @@ relocated_here x s (t ∷ ts) h (suc i) e f = by_test (eqb (work_at t) x) refl (
     by_test true k g = ap Some (h 0 t refl (eqb-true (work_at t) x k))
     by_test false k g = g
 
+-- where one site alone stands at an address, its condition is found there
+pub when_here : (x : ℕ) (s : ThreadSite) (ss : List ThreadSite) → ((i : ℕ) (t : ThreadSite) → slice_get ss i ≡ Some t → t.entry.addr ≡ x → t ≡ s)
+    → (i : ℕ) → slice_get ss i ≡ Some s → s.entry.addr ≡ x → when_at ss x ≡ s.when
+when_here x s [] h i e f = absurd cc
+when_here x s (t ∷ ts) h zero e f =
+    let same : t ≡ s = some_is t s e in
+    cond-true (eqb t.entry.addr x) t.when (when_at ts x) (eq-eqb t.entry.addr x (ap (λ (z : ThreadSite). z.entry.addr) same ∙ f)) ∙ ap (λ (z : ThreadSite). z.when) same
+when_here x s (t ∷ ts) h (suc i) e f = by_test (eqb t.entry.addr x) refl (when_here x s ts (λ j u k g. h (suc j) u k g) i e f)
+  where
+    by_test : (b : Bool) → eqb t.entry.addr x ≡ b → when_at ts x ≡ s.when → cond b t.when (when_at ts x) ≡ s.when
+    by_test true k g = ap (λ (z : ThreadSite). z.when) (h 0 t refl (eqb-true t.entry.addr x k))
+    by_test false k g = g
+
 -- where no site's relocated code begins at an address, no site is found for it
 pub relocated_none : (x : ℕ) (ss : List ThreadSite) → ((i : ℕ) (t : ThreadSite) → slice_get ss i ≡ Some t → work_at t ≡ x → ⊥) → relocated_at ss x ≡ None
 relocated_none x [] h = refl
 relocated_none x (t ∷ ts) h = ap (λ b. site_if b t (relocated_at ts x)) (ne_eqb (work_at t) x (h 0 t refl)) ∙ relocated_none x ts (λ j u k g. h (suc j) u k g)
 
 -- an address from the first byte of a part of a site's event on, and below its end, is in that part
-pub part_true : (p : Part) (x : ℕ) (s : ThreadSite) → s.place + part_from p s.event ≤ x → x < s.place + part_to p s.event → is_part p x s ≡ true
-part_true p x s a b = and_from (leb (s.place + part_from p s.event) x) (ltb x (s.place + part_to p s.event)) (le-leb (s.place + part_from p s.event) x a) (lt-ltb x (s.place + part_to p s.event) b)
+pub part_true : (p : Part) (x : ℕ) (s : ThreadSite) → s.place + part_from p s.event s.when ≤ x → x < s.place + part_to p s.event s.when → is_part p x s ≡ true
+part_true p x s a b = and_from (leb (s.place + part_from p s.event s.when) x) (ltb x (s.place + part_to p s.event s.when)) (le-leb (s.place + part_from p s.event s.when) x a) (lt-ltb x (s.place + part_to p s.event s.when) b)
 
 -- an address in a part of an event lies from the part's first byte on and below its end
-pub part_is : (p : Part) (x : ℕ) (s : ThreadSite) → is_part p x s ≡ true → (s.place + part_from p s.event ≤ x) × (x < s.place + part_to p s.event)
+pub part_is : (p : Part) (x : ℕ) (s : ThreadSite) → is_part p x s ≡ true → (s.place + part_from p s.event s.when ≤ x) × (x < s.place + part_to p s.event s.when)
 part_is p x s h =
-    let q = and_parts (leb (s.place + part_from p s.event) x) (ltb x (s.place + part_to p s.event)) h in
-    (leb-true (s.place + part_from p s.event) x q.0, ltb-true x (s.place + part_to p s.event) q.1)
+    let q = and_parts (leb (s.place + part_from p s.event s.when) x) (ltb x (s.place + part_to p s.event s.when)) h in
+    (leb-true (s.place + part_from p s.event s.when) x q.0, ltb-true x (s.place + part_to p s.event s.when) q.1)
 
 -- an address below a part isn't in it
-pub part_low : (p : Part) (x : ℕ) (s : ThreadSite) → x < s.place + part_from p s.event → is_part p x s ≡ false
+pub part_low : (p : Part) (x : ℕ) (s : ThreadSite) → x < s.place + part_from p s.event s.when → is_part p x s ≡ false
 part_low p x s h = false_from_ne_true (is_part p x s) (λ k. let q = part_is p x s k in omega (arith, q.0, h))
 
 -- an address after a part isn't in it
-pub part_high : (p : Part) (x : ℕ) (s : ThreadSite) → s.place + part_to p s.event ≤ x → is_part p x s ≡ false
+pub part_high : (p : Part) (x : ℕ) (s : ThreadSite) → s.place + part_to p s.event s.when ≤ x → is_part p x s ≡ false
 part_high p x s h = false_from_ne_true (is_part p x s) (λ k. let q = part_is p x s k in omega (arith, q.1, h))
 
 -- no part goes beyond the first byte after the event
-pub part_small : (p : Part) (e : Option Base) → part_to p e ≤ event_len e + 1
-part_small Whole e = omega arith
-part_small Save (Some Cover) = omega arith
-part_small Save (Some Count) = omega arith
-part_small Save None = omega arith
-part_small Saved (Some Cover) = omega arith
-part_small Saved (Some Count) = omega arith
-part_small Saved None = omega arith
-part_small Marked (Some Cover) = omega arith
-part_small Marked (Some Count) = omega arith
-part_small Marked None = omega arith
+pub part_small : (p : Part) (e : Option Base) (cs : List Comparison) → part_to p e cs ≤ event_len e cs + 1
+part_small Whole e cs = omega arith
+part_small Save e cs = by_test (is_saving e cs)
+  where
+    by_test : (b : Bool) → cond b 1 0 ≤ event_len e cs + 1
+    by_test true = omega arith
+    by_test false = omega arith
+part_small Saved e cs = by_test (is_saving e cs)
+  where
+    by_test : (b : Bool) → cond b (event_len e cs) 0 ≤ event_len e cs + 1
+    by_test true = omega arith
+    by_test false = omega arith
+part_small Marked (Some b) cs = omega arith
+part_small Marked None cs = omega arith
 
 -- the instruction that saves rax is one of the event's
-pub save_small : (e : Option Base) → part_to Save e ≤ event_len e
-save_small (Some Cover) = omega arith
-save_small (Some Count) = omega arith
-save_small None = omega arith
+pub save_small : (e : Option Base) (cs : List Comparison) → part_to Save e cs ≤ event_len e cs
+save_small (Some Cover) [] = omega arith
+save_small (Some Cover) (c ∷ cs) = omega arith
+save_small (Some Count) cs = omega arith
+save_small None cs = omega arith
 
 -- an event marks before the relocated code
-pub mark_from : (e : Option Base) → part_from Marked e ≤ event_len e
-mark_from (Some Cover) = omega arith
-mark_from (Some Count) = omega arith
-mark_from None = omega arith
+pub mark_from : (e : Option Base) (cs : List Comparison) → part_from Marked e cs ≤ event_len e cs
+mark_from (Some Cover) [] = omega arith
+mark_from (Some Cover) (c ∷ cs) = omega arith
+mark_from (Some Count) cs = omega arith
+mark_from None cs = omega arith
 
 -- it doesn't mark before its first instruction
-pub mark_late : (e : Option Base) → 0 < part_to Marked e → 0 < part_from Marked e
-mark_late (Some Cover) h = omega arith
-mark_late (Some Count) h = omega arith
-mark_late None h = absurd (omega (arith, h))
+pub mark_late : (e : Option Base) (cs : List Comparison) → 0 < part_to Marked e cs → 0 < part_from Marked e cs
+mark_late (Some Cover) [] h = omega arith
+mark_late (Some Cover) (c ∷ cs) h = omega arith
+mark_late (Some Count) cs h = omega arith
+mark_late None cs h = absurd (omega (arith, h))
 
 -- what is after the mark ends with the first byte of the relocated code
-pub mark_end : (e : Option Base) → 0 < part_to Marked e → part_to Marked e ≡ event_len e + 1
-mark_end (Some Cover) h = refl
-mark_end (Some Count) h = refl
-mark_end None h = absurd (omega (arith, h))
+pub mark_end : (e : Option Base) (cs : List Comparison) → 0 < part_to Marked e cs → part_to Marked e cs ≡ event_len e cs + 1
+mark_end (Some b) cs h = refl
+mark_end None cs h = absurd (omega (arith, h))
 
 -- each event marks
-pub mark_some : (e : Option Base) (b : Base) → e ≡ Some b → 0 < part_to Marked e
-mark_some (Some Cover) b h = omega arith
-mark_some (Some Count) b h = omega arith
-mark_some None b h = absurd cc
+pub mark_some : (e : Option Base) (cs : List Comparison) (b : Base) → e ≡ Some b → 0 < part_to Marked e cs
+mark_some (Some d) cs b h = omega arith
+mark_some None cs b h = absurd cc
 
--- the event of a site that counts has 32 bytes
-pub counted_len : (s : ThreadSite) → s.event ≡ Some Count → event_len s.event ≡ 32
-counted_len s e = ap event_len e
+-- an event that saves rax has the bytes that it is said
+pub saving_size : (b : Base) (cs : List Comparison) → is_saving (Some b) cs ≡ true → event_len (Some b) cs ≡ saving_len b cs
+saving_size Cover [] h = absurd (false≢true h)
+saving_size Cover (c ∷ cs) h = refl
+saving_size Count cs h = refl
+
+-- and its instructions
+pub saving_code_is : (b : Base) (cs : List Comparison) (p i : ℕ) → is_saving (Some b) cs ≡ true → thread_event b cs p i ≡ saving_event b cs p i
+saving_code_is Cover [] p i h = absurd (false≢true h)
+saving_code_is Cover (c ∷ cs) p i h = refl
+saving_code_is Count cs p i h = refl
+
+-- what is after its mark begins at the fourth point of those that it always has
+pub saving_mark : (b : Base) (cs : List Comparison) → is_saving (Some b) cs ≡ true → part_from Marked (Some b) cs ≡ offset b cs At4
+saving_mark Cover [] h = absurd (false≢true h)
+saving_mark Cover (c ∷ cs) h = refl
+saving_mark Count cs h = refl
+
+-- it has each point
+pub saving_points : (b : Base) (cs : List Comparison) (k : Point) → is_saving (Some b) cs ≡ true → has_point (Some b) cs k ≡ is_inside k
+saving_points Cover [] k h = absurd (false≢true h)
+saving_points Cover (c ∷ cs) k h = refl
+saving_points Count cs k h = refl
+
+-- an event that doesn't save rax, though there is one, covers under no condition
+pub store_alone : (b : Base) (cs : List Comparison) → is_saving (Some b) cs ≡ false → (b ≡ Cover) × (cs ≡ [])
+store_alone Cover [] h = (refl, refl)
+store_alone Cover (c ∷ cs) h = absurd (true≢false h)
+store_alone Count cs h = absurd (true≢false h)
+
+-- the event of a site that saves rax has the bytes that it is said
+pub counted_len : (s : ThreadSite) (b : Base) → s.event ≡ Some b → is_saving s.event s.when ≡ true → event_len s.event s.when ≡ saving_len b s.when
+counted_len s b e h = ap (λ o. event_len o s.when) e ∙ saving_size b s.when (sym (ap (λ o. is_saving o s.when) e) ∙ h)
 
 -- a site without an event has no code before its relocated code
-pub plain_len : (s : ThreadSite) → s.event ≡ None → event_len s.event ≡ 0
-plain_len s e = ap event_len e
+pub plain_len : (s : ThreadSite) → s.event ≡ None → event_len s.event s.when ≡ 0
+plain_len s e = ap (λ o. event_len o s.when) e
 
 -- a point inside the event lies as many bytes after the place as it is said
-pub point_inside : (s : ThreadSite) (k : Point) → is_inside k ≡ true → point_at s k ≡ s.place + offset k
-point_inside s k i = cond-true (is_inside k) (s.place + offset k) (work_at s) i
+pub point_inside : (s : ThreadSite) (k : Point) → is_inside k ≡ true → point_at s k ≡ s.place + offset_if s.event s.when k
+point_inside s k i = cond-true (is_inside k) (s.place + offset_if s.event s.when k) (work_at s) i
 
--- so does each point of a site that counts
-pub point_counted : (s : ThreadSite) (k : Point) → s.event ≡ Some Count → point_at s k ≡ s.place + offset k
-point_counted s At7 e = ap (λ z. s.place + z) (counted_len s e)
-point_counted s k e = refl
+-- so does each point of a site whose event saves rax
+pub point_counted : (s : ThreadSite) (b : Base) (k : Point) → s.event ≡ Some b → is_saving s.event s.when ≡ true → point_at s k ≡ s.place + offset b s.when k
+point_counted s b At7 e h = ap (λ z. s.place + z) (counted_len s b e h)
+point_counted s b At0 e h = ap (λ o. s.place + offset_if o s.when At0) e
+point_counted s b At1 e h = ap (λ o. s.place + offset_if o s.when At1) e
+point_counted s b At2 e h = ap (λ o. s.place + offset_if o s.when At2) e
+point_counted s b (AtCompare ds k es) e h = ap (λ o. s.place + offset_if o s.when (AtCompare ds k es)) e
+point_counted s b (AtJump ds k es) e h = ap (λ o. s.place + offset_if o s.when (AtJump ds k es)) e
+point_counted s b At3 e h = ap (λ o. s.place + offset_if o s.when At3) e
+point_counted s b At4 e h = ap (λ o. s.place + offset_if o s.when At4) e
+point_counted s b At5 e h = ap (λ o. s.place + offset_if o s.when At5) e
+point_counted s b At6 e h = ap (λ o. s.place + offset_if o s.when At6) e
+
+-- each point inside an event that saves rax lies in it
+pub inside_low : (b : Base) (cs : List Comparison) (k : Point) (c : Core) → is_inside k ≡ true → IsDecided cs k c → offset b cs k < saving_len b cs
+inside_low b cs k c i d = let n = ends_low b cs k c i d in let m = insn_some b k in omega (arith, n, m)
+
+-- past its first point only an event that saves rax has points
+pub point_saving : (e : Option Base) (cs : List Comparison) (k : Point) → has_point e cs k ≡ true → has_rax k ≡ true → is_saving e cs ≡ true
+point_saving None cs k h n = absurd (false≢true h)
+point_saving (Some Cover) [] At0 h n = absurd (false≢true n)
+point_saving (Some Cover) [] k h n = absurd (false≢true h)
+point_saving (Some Cover) (c ∷ cs) k h n = refl
+point_saving (Some Count) cs k h n = refl
+
+-- each of them lies after the first byte
+rax_late : (b : Base) (cs : List Comparison) (k : Point) → has_rax k ≡ true → 0 < offset b cs k
+rax_late b cs At0 h = absurd (false≢true h)
+rax_late b cs At7 h = absurd (false≢true h)
+rax_late b cs At1 h = omega arith
+rax_late b cs k h = omega arith
+
+-- and so between the save of rax and its restore
+pub point_saved : (e : Option Base) (cs : List Comparison) (k : Point) (c : Core) → has_point e cs k ≡ true → has_rax k ≡ true → IsDecided cs k c
+    → (part_from Saved e cs ≤ offset_if e cs k) × (offset_if e cs k < part_to Saved e cs)
+point_saved None cs k c h n d = absurd (false≢true h)
+point_saved (Some Cover) [] At0 c h n d = absurd (false≢true n)
+point_saved (Some Cover) [] k c h n d = absurd (false≢true h)
+point_saved (Some Cover) (x ∷ xs) k c h n d = (rax_late Cover (x ∷ xs) k n, inside_low Cover (x ∷ xs) k c h d)
+point_saved (Some Count) cs k c h n d = (rax_late Count cs k n, inside_low Count cs k c h d)
 
 -- a point that an event has lies in its code
-pub point_low : (e : Option Base) (k : Point) → has_point e k ≡ true → offset k < event_len e
-point_low None k h = absurd (false≢true h)
-point_low (Some Cover) At0 h = omega arith
-point_low (Some Cover) k h = absurd (false≢true h)
-point_low (Some Count) At7 h = absurd (false≢true h)
-point_low (Some Count) k h = omega arith
+pub point_low : (e : Option Base) (cs : List Comparison) (k : Point) (c : Core) → has_point e cs k ≡ true → IsDecided cs k c → offset_if e cs k < event_len e cs
+point_low None cs k c h d = absurd (false≢true h)
+point_low (Some Cover) [] At0 c h d = omega arith
+point_low (Some Cover) [] k c h d = absurd (false≢true h)
+point_low (Some Cover) (x ∷ xs) k c h d = inside_low Cover (x ∷ xs) k c h d
+point_low (Some Count) cs k c h d = inside_low Count cs k c h d
 
--- past its first point only an event that counts has points
-pub point_saving : (e : Option Base) (k : Point) → has_point e k ≡ true → offset k ≢ 0 → e ≡ Some Count
-point_saving None k h n = absurd (false≢true h)
-point_saving (Some Cover) At0 h n = absurd (n refl)
-point_saving (Some Cover) k h n = absurd (false≢true h)
-point_saving (Some Count) k h n = refl
+-- which is its first byte
+pub offset_first : (e : Option Base) (cs : List Comparison) → offset_if e cs At0 ≡ 0
+offset_first None cs = refl
+offset_first (Some b) cs = refl
+
+-- an event that covers by one store has no other
+pub store_first : (k : Point) → has_point (Some Cover) [] k ≡ true → k ≡ At0
+store_first At0 h = refl
+store_first k h = absurd (false≢true h)
 
 -- each event has a first point
-pub point_first : (b : Base) → has_point (Some b) At0 ≡ true
-point_first Cover = refl
-point_first Count = refl
+pub point_first : (b : Base) (cs : List Comparison) → has_point (Some b) cs At0 ≡ true
+point_first Cover [] = refl
+point_first Cover (c ∷ cs) = refl
+point_first Count cs = refl
 
 -- an address from the relocated code on is in no part of the event that ends with it
-pub part_past : (p : Part) (x : ℕ) (s : ThreadSite) → part_to p s.event ≤ event_len s.event → work_at s ≤ x → is_part p x s ≡ false
+pub part_past : (p : Part) (x : ℕ) (s : ThreadSite) → part_to p s.event s.when ≤ event_len s.event s.when → work_at s ≤ x → is_part p x s ≡ false
 part_past p x s b h = part_high p x s (omega (arith, b, h))
 
 -- a byte that is held before is not new
@@ -162,23 +253,23 @@ new_parts (Some c) (Some d) e = refl
 
 module _ (r : Threading) (A : AreEntries r.original r.listed) (S : IsThreadSound r) (W : WorkLong) where
   -- a site's trampoline has more than the event
-  pub longer : (s : ThreadSite) (h : Contains r.sites s) → event_len s.event < length (code_if s.event r.private s.number (S.sites s h).fields (next_of s) s.place)
+  pub longer : (s : ThreadSite) (h : Contains r.sites s) → event_len s.event s.when < length (code_if s.event s.when r.private s.number (S.sites s h).fields (next_of s) s.place)
   longer s h =
       let k = S.sites s h in
       omega (
         arith,
-        length-append (event_if s.event r.private s.number) (thread_work k.fields (next_of s) (work_at s)),
-        event_long s.event r.private s.number,
+        length-append (event_if s.event s.when r.private s.number) (thread_work k.fields (next_of s) (work_at s)),
+        event_long s.event s.when r.private s.number,
         W k.fields (next_of s) (work_at s) k.size s.entry.len s.entry.addr k.spelled k.len k.displaced,
       )
 
   -- each address of a site's event is one of its code, and so is the next one
-  pub in_code : (s : ThreadSite) (h : Contains r.sites s) (x : ℕ) → s.place ≤ x → x < s.place + (event_len s.event + 1) → is_code_of r s (S.sites s h) x
+  pub in_code : (s : ThreadSite) (h : Contains r.sites s) (x : ℕ) → s.place ≤ x → x < s.place + (event_len s.event s.when + 1) → is_code_of r s (S.sites s h) x
   in_code s h x a b = (a, omega (arith, b, longer s h))
 
   -- so is each address of a part of the event
   pub part_in : (p : Part) (s : ThreadSite) (h : Contains r.sites s) (x : ℕ) → is_part p x s ≡ true → is_code_of r s (S.sites s h) x
-  part_in p s h x e = let q = part_is p x s e in in_code s h x (omega (arith, q.0)) (omega (arith, q.1, part_small p s.event))
+  part_in p s h x e = let q = part_is p x s e in in_code s h x (omega (arith, q.0)) (omega (arith, q.1, part_small p s.event s.when))
 
   -- the first address of a site's trampoline is one of its code
   pub place_in : (s : ThreadSite) (h : Contains r.sites s) (x : ℕ) → x ≡ s.place → is_code_of r s (S.sites s h) x
@@ -189,9 +280,13 @@ module _ (r : Threading) (A : AreEntries r.original r.listed) (S : IsThreadSound
   work_in s h x e = (omega (arith, e), omega (arith, e, longer s h))
 
   -- each point of a site's trampoline is one of its code
-  pub point_in : (s : ThreadSite) (h : Contains r.sites s) (p : Point) (x : ℕ) → (is_inside p ≡ true → has_point s.event p ≡ true) → x ≡ point_at s p → is_code_of r s (S.sites s h) x
-  point_in s h At7 x c e = work_in s h x e
-  point_in s h p x c e = let l = point_low s.event p (c refl) in in_code s h x (omega (arith, e)) (omega (arith, e, l))
+  pub point_in : (s : ThreadSite) (h : Contains r.sites s) (p : Point) (c : Core) (x : ℕ) → (is_inside p ≡ true → has_point s.event s.when p ≡ true) → IsDecided s.when p c → x ≡ point_at s p
+      → is_code_of r s (S.sites s h) x
+  point_in s h p c x has d e = by_test (is_inside p) refl
+    where
+      by_test : (b : Bool) → is_inside p ≡ b → is_code_of r s (S.sites s h) x
+      by_test true i = let l = point_low s.event s.when p c (has i) d in let z = e ∙ point_inside s p i in in_code s h x (omega (arith, z)) (omega (arith, z, l))
+      by_test false i = work_in s h x (e ∙ cond-false (is_inside p) (s.place + offset_if s.event s.when p) (work_at s) i)
 
   -- each address of a site's code is new
   pub code_new : (s : ThreadSite) (h : Contains r.sites s) (x : ℕ) → is_code_of r s (S.sites s h) x → is_new r x ≡ true
@@ -218,8 +313,8 @@ module _ (r : Threading) (A : AreEntries r.original r.listed) (S : IsThreadSound
   part_never x p n = any_none (is_part p x) r.sites (λ t k e. true≢false (sym (code_new t k x (part_in p t k x e)) ∙ n))
 
   -- at an address that isn't new no site is counted
-  pub old_uncounted : (x : ℕ) (s : ThreadSite) → Contains r.sites s → is_new r x ≡ false → is_counted s x ≡ false
-  old_uncounted x s h n = false_from_ne_true (is_counted s x) (λ e. true≢false (sym (code_new s h x (part_in Marked s h x e)) ∙ n))
+  pub old_uncounted : (x : ℕ) (s : ThreadSite) → Contains r.sites s → is_new r x ≡ false → is_part Marked x s ≡ false
+  old_uncounted x s h n = false_from_ne_true (is_part Marked x s) (λ e. true≢false (sym (code_new s h x (part_in Marked s h x e)) ∙ n))
 
   -- no address of a site's code is a kept start
   pub kept_not : (s : ThreadSite) (h : Contains r.sites s) (x : ℕ) → is_code_of r s (S.sites s h) x → is_kept r x ≡ false

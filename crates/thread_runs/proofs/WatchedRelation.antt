@@ -15,8 +15,9 @@ use Rattle.thread_runs.specs.Guest.{Thread, Guest, machine_of, thread_of, last_g
 use Rattle.thread_runs.specs.GuestDeliveries.{GuestItem, IsInterleavedWith}
 use Rattle.thread_runs.specs.ThreadCode.{mark_at, mark_len}
 use Rattle.thread_runs.specs.Work.{Tail, left, InTail}
-use Rattle.thread_runs.specs.Threading.{ThreadSite, Threading, next_of, work_at, is_hidden, is_counted, IsThreadSound}
+use Rattle.thread_runs.specs.Threading.{ThreadSite, Threading, next_of, work_at, is_hidden, is_met_by, is_counted, IsThreadSound}
 use Rattle.thread_runs.specs.Watching.{Watched, Watch, is_effect, projection}
+use Rattle.thread_runs.specs.Theorem.{is_recorded, has_marked}
 use Rattle.thread_runs.specs.Relation.{Outside, AtSecond, AtEvent}
 
 -- after the effect step
@@ -53,10 +54,10 @@ shown_after Count n = n % 2 ^ 64
 abbrev pub marked : Threading → Base → ThreadSite → Bytes → ℕ
 marked r b s m = number_at m (mark_at b r.private s.number) (mark_len b)
 
--- what each event marks shows the number of the site's effect steps and of the threads between the mark and their effect step
+-- what each event marks shows the number of the site's effect steps at which the condition held, and of the threads between the mark and their effect step
 abbrev pub AreMarked : Threading → Watch → Type 0
 AreMarked r w = (s : ThreadSite) → Contains r.sites s → (b : Base) → s.event ≡ Some b
-    → marked r b s w.mem ≡ shown_after b (count_by (λ e. eqb e.at s.entry.addr) w.log + count_by (λ t. is_counted s t.now.rip) w.threads)
+    → marked r b s w.mem ≡ shown_after b (count_by (is_recorded s) w.log + count_by (has_marked s) w.threads)
 
 -- What one step of a thread rests on: how its memory lies beside the original's, and where it stands.
 pub record Ground (r : Threading) (S : IsThreadSound r) (m : Bytes) (stale : ℕ → Bool) (u : Bytes) (one : Watched) : Type 0 where
@@ -92,18 +93,18 @@ pub record Acts (effect : Bool) (m m' : Bytes) (t t' : Thread) : Type 0 where
   pub mem : m' ≡ to.mem
   pub thread : t' ≡ thread_of to
 
--- how what the event of a site marks changes, beside the threads that are counted and the effect steps
-pub record Changes (r : Threading) (effect : Bool) (b : Base) (s : ThreadSite) (m m' : Bytes) (at rip rip' : ℕ) : Type 0 where
+-- how what the event of a site marks changes, beside the threads that marked and the effect steps at which the condition held
+pub record Changes (r : Threading) (effect : Bool) (b : Base) (s : ThreadSite) (m m' : Bytes) (p p' : Thread) (rip rip' : ℕ) : Type 0 where
   pub more : ℕ
   pub number : (n : ℕ) → marked r b s m ≡ shown_after b n → marked r b s m' ≡ shown_after b (n + more)
-  pub even : cond (effect && eqb at s.entry.addr) 1 0 + cond (is_counted s rip') 1 0 ≡ cond (is_counted s rip) 1 0 + more
+  pub even : cond (effect && (is_met_by s p.core && eqb p.rip s.entry.addr)) 1 0 + cond (is_counted s rip' p'.core) 1 0 ≡ cond (is_counted s rip p.core) 1 0 + more
 
 -- what one step leaves: the original's step or none, memory alike again, what events mark as it is due, and the thread's new phase
 pub record Made (r : Threading) (S : IsThreadSound r) (stale' : ℕ → Bool) (m m' : Bytes) (one : Watched) (u : Bytes) (to : Machine) : Type 0 where
   pub went : Calm (is_effect r one.now.rip) m m' one.projected (projection r one u to) ⊎ Acts (is_effect r one.now.rip) m m' one.projected (projection r one u to)
   pub alike : AreAlike (is_hidden r) stale' m' to.mem
   pub own : SameCode r.original m'
-  pub counted : (s : ThreadSite) → Contains r.sites s → (b : Base) → s.event ≡ Some b → Changes r (is_effect r one.now.rip) b s u to.mem one.projected.rip one.now.rip to.rip
+  pub counted : (s : ThreadSite) → Contains r.sites s → (b : Base) → s.event ≡ Some b → Changes r (is_effect r one.now.rip) b s u to.mem one.projected (projection r one u to) one.now.rip to.rip
   pub processor : IsProcessorCore (projection r one u to).core
   pub words : GiveWords (projection r one u to).world
   pub phase : Phase r S to.mem (thread_of to) (projection r one u to)

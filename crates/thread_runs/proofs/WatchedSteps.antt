@@ -15,14 +15,14 @@ use Rattle.start_entries.specs.declared.entry.StartEntry.{StartEntry}
 use Rattle.start_entries.specs.Standing.{AreEntries}
 use Rattle.image_step.specs.Listed.{is_start, is_listed_byte}
 use Rattle.thread_runs.specs.Guest.{Thread, Guest, machine_of, thread_of}
-use Rattle.thread_runs.specs.ThreadCode.{mark_at, mark_len, slot}
-use Rattle.thread_runs.specs.Event.{Point, offset, is_inside, has_point, Holds, HasSaved}
-use Rattle.thread_runs.specs.Event.Point.{At0, At1, At2, At3, At4, At5, At6, At7}
-use Rattle.thread_runs.specs.Threading.{ThreadSite, Threading, next_of, work_at, is_new, is_hidden, is_site, is_kept, is_counted, relocated_at, is_code_of, IsThreadSound}
-use Rattle.thread_runs.specs.Watching.{Watched, Watch, EffectStep, watch_of, projection, stale_after, watched_after, Watches}
+use Rattle.thread_runs.specs.ThreadCode.{mark_at, mark_len, is_saving, slot}
+use Rattle.thread_runs.specs.Event.{Point, is_inside, has_point, Holds, IsDecided, HasSaved}
+use Rattle.thread_runs.specs.Event.Point.{At0, At7}
+use Rattle.thread_runs.specs.Threading.{ThreadSite, Threading, next_of, work_at, is_new, is_hidden, is_site, is_kept, relocated_at, is_code_of, IsThreadSound}
+use Rattle.thread_runs.specs.Watching.{Watched, Watch, watch_of, projection, stale_after, watched_after, Watches}
 use Rattle.thread_runs.specs.Premises.{StandAtStarts, IsProper}
-use Rattle.thread_runs.specs.Relation.{has_rax, point_at, Outside, AtSecond, AtEvent, BehindEffect, IsBeside}
-use Rattle.thread_runs.specs.Theorem.{AreStartGuests, AreCounted, AreCovered}
+use Rattle.thread_runs.specs.Relation.{offset_if, has_rax, point_at, Outside, AtSecond, AtEvent, BehindEffect, IsBeside}
+use Rattle.thread_runs.specs.Theorem.{AreStartGuests, is_recorded, has_marked, AreCounted, AreCovered}
 use Rattle.thread_runs.specs.GuestDeliveries.{GuestItem}
 use Rattle.thread_runs.specs.WatchedDeliveries.{WatchWith, made_after}
 use Rattle.thread_runs.specs.TheoremWithDeliveries.{IsGuestFollowedWith}
@@ -31,10 +31,10 @@ use Rattle.patch_report.proofs.ListPlaces.{any_at, place_of, some_is, all_in, al
 use Rattle.image_check.proofs.RelatedStates.{allowed_some}
 use Rattle.image_check.proofs.StartPairs.{held_first}
 use Rattle.thread_runs.proofs.ListUpdates.{set_here}
-use Rattle.thread_runs.proofs.ThreadPlaces.{any_none, effect_kept, effect_there, kept_not, site_here, work_in, point_in, start_old, code_unlisted}
+use Rattle.thread_runs.proofs.ThreadPlaces.{point_counted, store_alone, store_first, offset_first, any_none, effect_kept, effect_there, kept_not, site_here, work_in, point_in, start_old, code_unlisted}
 use Rattle.thread_runs.proofs.KeptRelation.{kept_by}
 use Rattle.thread_runs.proofs.StandingCode.{fields_of, code_length, work_stands}
-use Rattle.thread_runs.proofs.OutsideSteps.{made_kept, made_displaced, made_second, start_uncounted}
+use Rattle.thread_runs.proofs.OutsideSteps.{made_kept, made_displaced, made_second, uncounted, start_uncounted}
 use Rattle.thread_runs.proofs.ThreadEventSteps.{made_event, made_cover}
 use Rattle.thread_runs.proofs.DisplacedSteps.{made_tail, reads_too, at_work, effect_told, made_effect}
 use Rattle.thread_runs.proofs.WatchedRelation.{OnWay, Phase, ThreadKept, shown_after, Ground, Related, base_of, Made}
@@ -137,20 +137,27 @@ module _ (r : Threading) (A : AreEntries r.original r.listed) (S : IsThreadSound
           let q = made_kept r A S L R.end.mem w m.one m.fields m.to m.steps B (start_old r A S L.long m.one.now.rip o.start) o is (P.quiet (effect_kept r A S L.long m.one.now.rip is)) P.fresh stand in
           done q.0 q.1
 
-      event : (o : Option Base) (site : ThreadSite) → Contains r.sites site → site.event ≡ o → (p : Point) → has_point o p ≡ true → is_inside p ≡ true → m.one.now.rip ≡ site.place + offset p → m.one.projected.rip ≡ site.entry.addr
-          → Holds p m.one.projected.core m.one.now.core → m.one.now.world ≡ m.one.projected.world → HasSaved p m.one.projected.core w.mem
+      event : (site : ThreadSite) → Contains r.sites site → (p : Point) → has_point site.event site.when p ≡ true → is_inside p ≡ true → m.one.now.rip ≡ point_at site p → m.one.projected.rip ≡ site.entry.addr
+          → Holds site.when p m.one.projected.core m.one.now.core → IsDecided site.when p m.one.projected.core → m.one.now.world ≡ m.one.projected.world → HasSaved p m.one.projected.core w.mem
           → (has_rax p ≡ true → avoids (is_new r) (slot m.one.projected.core) 8 ≡ true) → Related r S a (made_after r k m.one made) (watched_after r k w m.one m.fields m.to)
-      event None site listed is p h i e at core world saved old = absurd (false≢true h)
-      event (Some Count) site listed is p h i e at core world saved old =
-          done R.end.mem (made_event r A S L R.end.mem w m.one m.fields m.to m.steps B site listed P.saved is p i e at core world saved old)
-      event (Some Cover) site listed is At0 h i e at core world saved old =
-          done R.end.mem (made_cover r A S L R.end.mem w m.one m.fields m.to m.steps B site listed is (omega (arith, e)) at core world)
-      event (Some Cover) site listed is p h i e at core world saved old = absurd (false≢true h)
+      event site listed p h i e at core decided world saved old = by_event site.event (is_saving site.event site.when) refl refl
+        where
+          by_event : (o : Option Base) (s : Bool) → site.event ≡ o → is_saving site.event site.when ≡ s → Related r S a (made_after r k m.one made) (watched_after r k w m.one m.fields m.to)
+          by_event None s is z = absurd (false≢true (sym (ap (λ o. has_point o site.when p) is) ∙ h))
+          by_event (Some b) true is z =
+              done R.end.mem (made_event r A S L R.end.mem w m.one m.fields m.to m.steps B site listed P.saved b is z p i (e ∙ point_counted site b p is z) at core decided world saved old)
+          by_event (Some b) false is z =
+              let q = store_alone b site.when (sym (ap (λ o. is_saving o site.when) is) ∙ z) in
+              let covers : site.event ≡ Some Cover = is ∙ ap Some q.0 in
+              let first : p ≡ At0 = store_first p (sym (ap₂ (λ o l. has_point o l p) covers q.1) ∙ h) in
+              let here : m.one.now.rip ≡ site.place + offset_if site.event site.when At0 = e ∙ ap (point_at site) first in
+              done R.end.mem (made_cover r A S L R.end.mem w m.one m.fields m.to m.steps B site listed covers q.1 (omega (arith, here, offset_first site.event site.when)) at
+              (subst (λ (z : Point). Holds site.when z m.one.projected.core m.one.now.core) first core) world)
 
-      by_point : (site : ThreadSite) → Contains r.sites site → (p : Point) → (is_inside p ≡ true → has_point site.event p ≡ true) → m.one.now.rip ≡ point_at site p → m.one.projected.rip ≡ site.entry.addr
-          → Holds p m.one.projected.core m.one.now.core → m.one.now.world ≡ m.one.projected.world → HasSaved p m.one.projected.core w.mem
+      by_point : (site : ThreadSite) → Contains r.sites site → (p : Point) → (is_inside p ≡ true → has_point site.event site.when p ≡ true) → m.one.now.rip ≡ point_at site p → m.one.projected.rip ≡ site.entry.addr
+          → Holds site.when p m.one.projected.core m.one.now.core → IsDecided site.when p m.one.projected.core → m.one.now.world ≡ m.one.projected.world → HasSaved p m.one.projected.core w.mem
           → (has_rax p ≡ true → avoids (is_new r) (slot m.one.projected.core) 8 ≡ true) → Related r S a (made_after r k m.one made) (watched_after r k w m.one m.fields m.to)
-      by_point site listed At7 c e at core world saved old =
+      by_point site listed At7 c e at core decided world saved old =
           let c = work_in r A S L.long site listed m.one.now.rip e in
           let calm = kept_not r A S L.long site listed m.one.now.rip c in
           let eff = effect_there r A S L.long m.one.now.rip site calm (ap (relocated_at r.sites) e ∙ site_here r A S L.long site listed) in
@@ -159,18 +166,12 @@ module _ (r : Threading) (A : AreEntries r.original r.listed) (S : IsThreadSound
           let T = effect_told r A S L site listed R.end.mem w m.one m.fields m.to m.steps B e at work in
           let q = made_effect r A S L site listed R.end.mem w m.one m.fields m.to m.steps B e at T stand in
           done q.0 q.1
-      by_point site listed At0 c e at core world saved old = event site.event site listed refl At0 (c refl) refl e at core world saved old
-      by_point site listed At1 c e at core world saved old = event site.event site listed refl At1 (c refl) refl e at core world saved old
-      by_point site listed At2 c e at core world saved old = event site.event site listed refl At2 (c refl) refl e at core world saved old
-      by_point site listed At3 c e at core world saved old = event site.event site listed refl At3 (c refl) refl e at core world saved old
-      by_point site listed At4 c e at core world saved old = event site.event site listed refl At4 (c refl) refl e at core world saved old
-      by_point site listed At5 c e at core world saved old = event site.event site listed refl At5 (c refl) refl e at core world saved old
-      by_point site listed At6 c e at core world saved old = event site.event site listed refl At6 (c refl) refl e at core world saved old
+      by_point site listed p c e at core decided world saved old = event site listed p (c refl) refl e at core decided world saved old
 
       by_phase : Phase r S w.mem m.one.now m.one.projected → Related r S a (made_after r k m.one made) (watched_after r k w m.one m.fields m.to)
       by_phase (inl o) = outside o (is_site r m.one.now.rip) refl
       by_phase (inr (inl q)) = done R.end.mem (made_second r A S L R.end.mem w m.one m.fields m.to m.steps B (second_old m.one.now m.one.projected q) q)
-      by_phase (inr (inr (inl q))) = by_point q.site q.listed q.point q.inside q.here q.there q.core q.world q.saved q.old
+      by_phase (inr (inr (inl q))) = by_point q.site q.listed q.point q.inside q.here q.there q.core q.decided q.world q.saved q.old
       by_phase (inr (inr (inr q))) = done R.end.mem (made_tail r A S L q.site q.listed R.end.mem w m.one m.fields m.to m.steps B q.tail q.more q.there q.world)
 
   -- what the relation shows. A thread on its way out is in the code: told in the original's memory, where the code stands
@@ -185,7 +186,7 @@ module _ (r : Threading) (A : AreEntries r.original r.listed) (S : IsThreadSound
   phase_outside m now projected c (inl o) h = o.same
   phase_outside m now projected c (inr (inl q)) h = absurd (true≢false (sym h ∙ ap (is_start r.listed) q.here ∙ q.jumps.unlisted))
   phase_outside m now projected c (inr (inr (inl q))) h = absurd (true≢false (sym h ∙ code_unlisted r A S L.long q.site q.listed now.rip
-      (point_in r A S L.long q.site q.listed q.point now.rip q.inside q.here)))
+      (point_in r A S L.long q.site q.listed q.point projected.core now.rip q.inside q.decided q.here)))
   phase_outside m now projected c (inr (inr (inr q))) h = absurd (true≢false (sym h ∙ code_unlisted r A S L.long q.site q.listed now.rip (way_inside m now projected c q)))
 
   -- where a thread stands beside its projection
@@ -226,7 +227,7 @@ module _ (r : Threading) (A : AreEntries r.original r.listed) (S : IsThreadSound
     },
     λ s c i. R.marks s c Count i,
     λ s c i. one_byte w.mem (mark_at Cover r.private s.number) ∙ R.marks s c Cover i
-        ∙ any_counted (λ (e : EffectStep). eqb e.at s.entry.addr) w.log (λ (t : Watched). is_counted s t.now.rip) w.threads,
+        ∙ any_counted (is_recorded s) w.log (has_marked s) w.threads,
   )
 
   -- guests that start together are in the relation
@@ -246,8 +247,8 @@ module _ (r : Threading) (A : AreEntries r.original r.listed) (S : IsThreadSound
     };
     marks = λ s c d v. let low = S.low s c d v in
         let n = zero_number b.mem (mark_at d r.private s.number) (mark_len d) (omega (arith, low)) (λ x i j. ap byte_of (zero_at s c d v x i j)) in
-        let k = count_none (λ (t : Watched). is_counted s t.now.rip) (watch_of b).threads (λ i t e. uncounted s c i t e) in
-        let z : count_by (λ (e : EffectStep). eqb e.at s.entry.addr) (watch_of b).log + count_by (λ (t : Watched). is_counted s t.now.rip) (watch_of b).threads ≡ 0 = omega (arith, k) in
+        let k = count_none (has_marked s) (watch_of b).threads (λ i t e. unmarked s c i t e) in
+        let z : count_by (is_recorded s) (watch_of b).log + count_by (has_marked s) (watch_of b).threads ≡ 0 = omega (arith, k) in
         n ∙ sym (ap (shown_after d) z ∙ shown_first d);
     each = λ k one e. let q = map_back (λ (t : Thread). record { now = t; projected = t }) b.threads k one e in
         let p = all_in (λ (t : Thread). IsProcessorState (machine_of a.mem t) × (t.rip ≡ r.entry)) a.threads q.0 G.each (k, ap (λ (l : List Thread). slice_get l k) (sym G.threads) ∙ q.1) in
@@ -294,8 +295,8 @@ module _ (r : Threading) (A : AreEntries r.original r.listed) (S : IsThreadSound
       zero_at : (s : ThreadSite) → Contains r.sites s → (d : Base) → s.event ≡ Some d → (x : ℕ) → mark_at d r.private s.number ≤ x → x < mark_at d r.private s.number + mark_len d → b.mem x ≡ Some (record { byte = 0; perms = 6 })
       zero_at s c d v x i j = let z = (S.marks s c d v x i j).0 in at_b x ∙ held_first (r.patched x) (G.further x) (ap is_some z) ∙ z
 
-      uncounted : (s : ThreadSite) → Contains r.sites s → (i : ℕ) (t : Watched) → slice_get (watch_of b).threads i ≡ Some t → is_counted s t.now.rip ≡ false
-      uncounted s c i t e =
+      unmarked : (s : ThreadSite) → Contains r.sites s → (i : ℕ) (t : Watched) → slice_get (watch_of b).threads i ≡ Some t → has_marked s t ≡ false
+      unmarked s c i t e =
           let q = map_back (λ (t : Thread). record { now = t; projected = t }) b.threads i t e in
           let k = all_in (λ (t : Watched). is_start r.listed t.projected.rip ≡ true) (watch_of b).threads t stand (i, e) in
-          start_uncounted r A S L t.now.rip s c (subst (λ (z : Watched). is_start r.listed z.projected.rip ≡ true → is_start r.listed z.now.rip ≡ true) q.2 (λ h. h) k)
+          uncounted s t.now.rip t.projected.core (start_uncounted r A S L t.now.rip s c (subst (λ (z : Watched). is_start r.listed z.projected.rip ≡ true → is_start r.listed z.now.rip ≡ true) q.2 (λ h. h) k))

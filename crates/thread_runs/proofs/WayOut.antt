@@ -1,10 +1,11 @@
 -- Scheduled alone, a thread gets through a trampoline.
-use Rattle.std.proofs.Common.{◌≡◌, ◌≢◌, ◌⊎◌, inl, inr, ℕ, zero, suc, ◌+◌, ◌<◌, ◌≤◌, Bool, true, false, not, ◌&&◌, ◌||◌, eqb, List, [], ◌∷◌, ◌++◌, replicate, Option, Some, None, Ok, refl, sym, ap, ap₂, ◌∙◌, subst, arith}
+use Rattle.std.proofs.Common.{◌≡◌, ◌≢◌, ◌⊎◌, inl, inr, ℕ, zero, suc, ◌+◌, ◌*◌, ◌<◌, ◌≤◌, Bool, true, false, not, ◌&&◌, ◌||◌, cond, eqb, List, [], ◌∷◌, ◌++◌, length, replicate, Option, Some, None, Ok, refl, sym, ap, ap₂, ◌∙◌, subst, arith}
 use Rattle.std.specs.Prelude.{Contains, slice_get, slice_set}
 use Rattle.std.proofs.lemmas.Bool.{and_parts, and_from, and_left, and_right, or_from, or_parts, not_from_false, not_from_true, cond-true, cond-false, eq-eqb, false≢true, true≢false}
 use Rattle.pun_base.specs.Memory.{Bytes}
 use Rattle.pun_base.specs.declared.action.Base.{Base}
-use Rattle.pun_base.specs.declared.action.Base.TheVariants.{Cover, Count}
+use Rattle.pun_base.specs.declared.action.Base.TheVariants.{Cover}
+use Rattle.pun_base.specs.declared.action.Comparison.{Comparison}
 use Rattle.length_decode.specs.Spelling.{Fields, IsInstruction, spelling}
 use Rattle.cpu_state.specs.declared.state.Core.{Core}
 use Rattle.cpu_state.specs.Bytes.{advanced, avoids, lacking, Stands}
@@ -14,7 +15,7 @@ use Rattle.insn_form.specs.declared.form.Insn.{Insn}
 use Rattle.insn_form.specs.declared.form.Insn.TheVariants.{Exact, Asked, Ending}
 use Rattle.insn_form.specs.declared.form.Op.TheVariants.{Jmp}
 use Rattle.insn_form.specs.declared.form.Target.TheVariants.{Rel}
-use Rattle.insn_form.specs.Operands.{word_of}
+use Rattle.insn_form.specs.Operands.{word_of, reg}
 use Rattle.insn_form.specs.Instruction.{insn_of}
 use Rattle.insn_form.specs.Meaning.{effect}
 use Rattle.insn_form.specs.Machine.{Machine, Task, act, avoids_span, leaves, put_all}
@@ -34,28 +35,29 @@ use Rattle.start_entries.specs.Standing.{AreEntries}
 use Rattle.image_step.specs.Listed.{is_start, is_known_start}
 use Rattle.thread_runs.specs.Guest.{Thread, Guest, machine_of, thread_of}
 use Rattle.thread_runs.specs.GuestDeliveries.{GuestItem, Goes, Takes, given, LeadsBy, IsInterleavedWith}
-use Rattle.thread_runs.specs.ThreadCode.{mark_at, mark_len, event_len, slot}
-use Rattle.thread_runs.specs.Event.{Point, offset, following, is_inside, Holds, HasSaved, InEvent, CanCount, AtStore, covered}
-use Rattle.thread_runs.specs.Event.Point.{At0, At1, At2, At3, At4, At5, At6, At7}
+use Rattle.cond_action.specs.Conditions.{compares}
+use Rattle.thread_runs.specs.ThreadCode.{mark_at, mark_len, is_saving, thread_event, event_len, slot}
+use Rattle.thread_runs.specs.Event.{Point, offset, checked, following, is_inside, Holds, IsDecided, HasSaved, InEvent, CanMark, AtStore, covered}
+use Rattle.thread_runs.specs.Event.Point.{At0, At1, At2, AtCompare, AtJump, At3, At4, At5, At6, At7}
 use Rattle.thread_runs.specs.Work.{Tail, left, InTail}
 use Rattle.thread_runs.specs.Work.Tail.{Out, Back, Jump, Ecx}
 use Rattle.thread_runs.specs.Threading.Part.{Save}
-use Rattle.thread_runs.specs.Threading.{ThreadSite, Threading, next_of, work_at, is_new, is_hidden, is_site, is_kept, part_to, in_event, saves, is_saving, saves_at, is_one_of, is_saved, is_code_of, ByTwoJumps, IsThreadSound}
+use Rattle.thread_runs.specs.Threading.{ThreadSite, Threading, next_of, work_at, is_new, is_hidden, is_site, is_kept, part_to, in_event, saves, saves_at, is_one_of, is_saved, is_code_of, ByTwoJumps, IsThreadSound}
 use Rattle.thread_runs.specs.Watching.{Watched, Watch, EffectStep, projection, stale_after, watched_after, is_effect, Watches}
 use Rattle.thread_runs.specs.Premises.{IsQuietAt, reads_nothing_of}
-use Rattle.thread_runs.specs.Theorem.{last_watch, IsWatched, CanGo, GetsOut}
+use Rattle.thread_runs.specs.Theorem.{last_watch, IsWatched, when_at, CanGo, GetsOut}
 use Rattle.thread_runs.specs.StepLaws.{StepLaws}
-use Rattle.patch_report.proofs.ListPlaces.{some_is, any_at, place_of}
+use Rattle.patch_report.proofs.ListPlaces.{some_is, any_at, contains_at, place_of}
 use Rattle.image_check.proofs.LoadedCode.{jump_acts}
 use Rattle.thread_runs.proofs.ListUpdates.{set_here}
-use Rattle.thread_runs.proofs.ThreadPlaces.{counted_len, plain_len, point_inside, point_counted, longer, start_old, start_no_site, site_of, effect_kept, effect_never, kept_not, no_site}
+use Rattle.thread_runs.proofs.ThreadPlaces.{when_here, saving_code_is, store_alone, offset_first, inside_low, counted_len, plain_len, point_counted, longer, start_old, start_no_site, site_of, effect_kept, effect_never, kept_not, no_site}
 use Rattle.thread_runs.proofs.KeptRelation.{keeps_code, keeps_perms, keeps_room, lacking_on}
 use Rattle.thread_runs.proofs.StandingCode.{fields_of, site_stands, own_at, work_stands, event_stands, code_length}
 use Rattle.thread_runs.proofs.OutsideSteps.{calm_projection, stale_is, made_displaced, made_second}
-use Rattle.thread_runs.proofs.ThreadEventSteps.{at_event, inside, stale_stays, inside_low, good_at, made_event, made_cover}
+use Rattle.thread_runs.proofs.ThreadEventSteps.{at_event, inside, stale_stays, good_at, made_event, made_cover}
 use Rattle.thread_runs.proofs.DisplacedSteps.{at_work, effect_told, made_effect, made_tail}
 use Rattle.thread_runs.proofs.WatchedSteps.{phase_outside}
-use Rattle.thread_runs.specs.Relation.{point_at, Outside}
+use Rattle.thread_runs.specs.Relation.{offset_if, point_at, Outside}
 use Rattle.thread_runs.proofs.WatchedRelation.{Ground, Related, base_of, Calm, Acts, Made}
 
 -- what a range avoids, it avoids in a set that is no larger
@@ -209,22 +211,22 @@ module _ (r : Threading) (A : AreEntries r.original r.listed) (S : IsThreadSound
 
     module _ (M : Bytes) (w0 : Watch) (one0 : Watched) (to0 : Machine) (st0 : ThreadStep (machine_of M one0.now) to0) (same0 : one0.now ≡ one0.projected)
         (quiet : IsQuietAt r (machine_of M one0.now)) (ends : is_start r.listed to0.rip ≡ true)
-        (read : is_saving site.event ≡ true → lacking 4 w0.mem (slot one0.now.core) 8 ≡ None) (written : is_saving site.event ≡ true → lacking 2 w0.mem (slot one0.now.core) 8 ≡ None)
-        (old0 : is_saving site.event ≡ true → avoids (is_new r) (slot one0.now.core) 8 ≡ true)
-        (unread : is_saving site.event ≡ true → reads_nothing_of (is_saved one0.now.core) (fields_of r A S site listed) (machine_of M one0.now) ≡ true)
+        (read : is_saving site.event site.when ≡ true → lacking 4 w0.mem (slot one0.now.core) 8 ≡ None) (written : is_saving site.event site.when ≡ true → lacking 2 w0.mem (slot one0.now.core) 8 ≡ None)
+        (old0 : is_saving site.event site.when ≡ true → avoids (is_new r) (slot one0.now.core) 8 ≡ true)
+        (unread : is_saving site.event site.when ≡ true → reads_nothing_of (is_saved one0.now.core) (fields_of r A S site listed) (machine_of M one0.now) ≡ true)
         (fresh : reads_nothing_of w0.stale (fields_of r A S site listed) (machine_of M one0.now) ≡ true) where
       -- the bytes in which the site's event saves rax
       abbrev held : ℕ → Bool
-      held x = is_saving site.event && is_saved one0.now.core x
+      held x = is_saving site.event site.when && is_saved one0.now.core x
 
       -- the instruction reads none of them
       unheld : reads_nothing_of held (fields_of r A S site listed) (machine_of M one0.now) ≡ true
-      unheld = by_test (is_saving site.event) refl
+      unheld = by_test (is_saving site.event site.when) refl
         where
           s0 : Machine
           s0 = machine_of M one0.now
 
-          by_test : (b : Bool) → is_saving site.event ≡ b → reads_nothing_of held (fields_of r A S site listed) (machine_of M one0.now) ≡ true
+          by_test : (b : Bool) → is_saving site.event site.when ≡ b → reads_nothing_of held (fields_of r A S site listed) (machine_of M one0.now) ≡ true
           by_test true e = subst (λ (b : Bool). reads_nothing_of (λ x. b && is_saved one0.now.core x) (fields_of r A S site listed) (machine_of M one0.now) ≡ true) (sym e) (unread e)
           by_test false e = subst (λ (b : Bool). reads_nothing_of (λ x. b && is_saved one0.now.core x) (fields_of r A S site listed) (machine_of M one0.now) ≡ true) (sym e)
               (insn_both w0.stale w0.stale (λ x. false) (thread_task (fields_of r A S site listed) (next_after s0.rip (fields_of r A S site listed))).insn (next_after s0.rip (fields_of r A S site listed)) s0.core (λ x a b. refl) fresh fresh)
@@ -239,13 +241,14 @@ module _ (r : Threading) (A : AreEntries r.original r.listed) (S : IsThreadSound
         projected : one.projected ≡ one0.now
         here : one.now.rip ≡ point_at site p
         at : one.projected.rip ≡ site.entry.addr
-        core : Holds p one.projected.core one.now.core
+        core : Holds site.when p one.projected.core one.now.core
+        decided : IsDecided site.when p one.projected.core
         world : one.now.world ≡ one.projected.world
         saved : HasSaved p one.projected.core w.mem
-        old : is_saving site.event ≡ true → avoids (is_new r) (slot one.projected.core) 8 ≡ true
+        old : is_saving site.event site.when ≡ true → avoids (is_new r) (slot one.projected.core) 8 ≡ true
 
       abbrev log1 : List EffectStep
-      log1 = w0.log ++ record { thread = k; at = one0.now.rip } ∷ []
+      log1 = w0.log ++ record { thread = k; at = one0.now.rip; core = one0.now.core } ∷ []
 
       -- the original's memory after an effect step is that of its own step
       made_memory : (stale : ℕ → Bool) (m : Bytes) (w : Watch) (one : Watched) (to : Machine) → Made r S stale M m one w.mem to → is_effect r one.now.rip ≡ true
@@ -285,7 +288,7 @@ module _ (r : Threading) (A : AreEntries r.original r.listed) (S : IsThreadSound
           let stand : is_start r.listed (projection r one w.mem to).rip ≡ true = ap (λ (t : Thread). is_start r.listed t.rip) gone ∙ ends in
           let q1 = made_effect r A S L site listed M w one f to st P.base P.here P.at T stand in
           let B' = base_after M q1.0 w one f to st P.base q1.1 stand in
-          let log : (after_watch w one f to).log ≡ log1 = cond-true (is_effect r one.now.rip) _ _ T.effect ∙ ap₂ (λ (l : List EffectStep) (t : Thread). l ++ record { thread = k; at = t.rip } ∷ []) P.log P.projected in
+          let log : (after_watch w one f to).log ≡ log1 = cond-true (is_effect r one.now.rip) _ _ T.effect ∙ ap₂ (λ (l : List EffectStep) (t : Thread). l ++ record { thread = k; at = t.rip; core = t.core } ∷ []) P.log P.projected in
           let z = T.thread in
           let there : InTail F (next_of site) (work_at site) T.worked.tail (projection r one w.mem to).core (projection r one w.mem to).rip to =
           subst (λ (p : Thread). InTail F (next_of site) (work_at site) T.worked.tail p.core p.rip to) (sym z) T.worked.there in
@@ -305,98 +308,122 @@ module _ (r : Threading) (A : AreEntries r.original r.listed) (S : IsThreadSound
 
       -- at each point of the way rsp gives the same saved bytes
       same_slot : (w : Watch) (one : Watched) (p : Point) → At p w one → slot one.now.core ≡ slot one0.now.core
-      same_slot w one p P = L.slots p one.projected.core one.now.core P.base.kept.processor P.core ∙ ap (λ (t : Thread). slot t.core) P.projected
+      same_slot w one p P = L.slots site.when p one.projected.core one.now.core P.base.kept.processor P.core ∙ ap (λ (t : Thread). slot t.core) P.projected
 
-      -- one step of an event that counts, and then the rest
-      event_out : site.event ≡ Some Count → (n : ℕ) (p : Point) → is_inside p ≡ true → ((v : Watch) (one' : Watched) → At (following p) v one' → GoesOut r k v log1 (thread_of to0) to0.mem n)
-          → (w : Watch) (one : Watched) → At p w one → GoesOut r k w log1 (thread_of to0) to0.mem (suc n)
-      event_out counts n p i rest w one P =
-          let u : Machine = machine_of w.mem one.now in
-          let K = S.sites site listed in
-          let more = longer r A S L.long site listed in
-          let low = S.low site listed Count counts in
-          let c = one.projected.core in
-          let rip : one.now.rip ≡ site.place + offset p = P.here ∙ point_inside site p i in
-          let len = counted_len site counts in
-          let E : InEvent r.private site.number site.place p c u = record {
-            processor = P.base.kept.processor;
-            core = P.core;
-            saved = P.saved;
-            rip = rip;
-            stands = event_stands r A S site listed Count counts w.mem P.base.other;
-            low = omega (arith, K.low, more, len);
-            room = omega (arith, low);
-          } in
-          let room = P.base.room site listed Count counts in
-          let where' : slot c ≡ slot one0.now.core = ap (λ (t : Thread). slot t.core) P.projected in
-          let C : CanCount r.private site.number c w.mem = record {
-            slot_read = lacking_on 4 w0.mem w.mem (slot c) 8 P.perms ∙ ap (λ z. lacking 4 w0.mem z 8) where' ∙ read saving;
-            slot_written = lacking_on 2 w0.mem w.mem (slot c) 8 P.perms ∙ ap (λ z. lacking 2 w0.mem z 8) where' ∙ written saving;
-            counter_read = room.read;
-            counter_written = room.written;
-          } in
-          let G = L.goes r.private site.number site.place p c u i E C in
-          let to = G.0 in
-          let f = G.1.0 in
-          let st : ThreadStepsBy f u to = G.1.1 in
-          let N = G.2 in
-          let l = inside_low r A S L M w one f to st P.base site listed (λ e. free w one p P) counts p i in
-          let from : site.place ≤ one.now.rip = omega (arith, rip) in
-          let below : one.now.rip < work_at site = omega (arith, rip, l, len) in
-          let good = good_at r A S L M w one f to st P.base site listed (λ e. free w one p P) counts p i E P.saved (λ e. P.old saving) N in
-          let made = made_event r A S L M w one f to st P.base site listed (λ e. free w one p P) counts p i rip P.at P.core P.world P.saved (λ e. P.old saving) in
-          let q = calm_in one w.mem to (at_event r A S L M w one f to st P.base site listed from below) (λ e. omega (arith, e, below)) in
-          let start = ap (λ (t : Thread). is_start r.listed t.rip) q.1 ∙ P.base.kept.start in
-          let B' = base_after M M w one f to st P.base made start in
-          let log : (after_watch w one f to).log ≡ w0.log = cond-false (is_effect r one.now.rip) _ _ q.0 ∙ P.log in
-          let inside' : in_event r one.now.rip ≡ true = inside r A S L M w one f to st P.base site listed from below in
-          let s = sym q.1 in
-          one_more r k w (after_watch w one f to) log1 (thread_of to0) to0.mem n (watches w one f to P.there st)
-          (rest (after_watch w one f to) (after_thread w one f to) (record {
-            there = set_here w.threads k one (after_thread w one f to) P.there;
-            base = B';
-            log = log;
-            perms = λ x. keeps_perms f u to st x ∙ P.perms x;
-            staler = λ x a b. stale_in w one f u x (saves r one.now.rip) refl inside' (P.staler x a b)
-                (ap (λ z. is_one_of z 8 x) (same_slot w one p P) ∙ (sym (ap (λ z. z && is_saved one0.now.core x) saving) ∙ b));
-            projected = q.1 ∙ P.projected;
-            here = N.rip ∙ sym (point_counted site (following p) counts);
-            at = ap (λ (t : Thread). t.rip) q.1 ∙ P.at;
-            core = subst (λ (t : Thread). Holds (following p) t.core to.core) s N.core;
-            world = N.world ∙ P.world ∙ ap (λ (t : Thread). t.world) s;
-            saved = subst (λ (t : Thread). HasSaved (following p) t.core to.mem) s good.saved;
-            old = λ e. subst (λ (t : Thread). avoids (is_new r) (slot t.core) 8 ≡ true) s (P.old e);
-          }))
-        where
-          saving : is_saving site.event ≡ true
-          saving = ap is_saving counts
+      -- an event that saves rax
+      module _ (b : Base) (has : site.event ≡ Some b) (saving : is_saving site.event site.when ≡ true) where
+        -- its comparisons
+        abbrev cs : List Comparison
+        cs = site.when
 
-          free : (w : Watch) (one : Watched) (p : Point) → At p w one → avoids (is_new r) (slot one.now.core) 8 ≡ true
-          free w one p P = subst (λ z. avoids (is_new r) z 8 ≡ true) (sym (L.slots p one.projected.core one.now.core P.base.kept.processor P.core)) (P.old saving)
+        -- no saved byte is new
+        free : (w : Watch) (one : Watched) (p : Point) → At p w one → avoids (is_new r) (slot one.now.core) 8 ≡ true
+        free w one p P = subst (λ z. avoids (is_new r) z 8 ≡ true) (sym (L.slots cs p one.projected.core one.now.core P.base.kept.processor P.core)) (P.old saving)
 
-          stale_in : (w : Watch) (one : Watched) (f : Fields) (u : Machine) (x : ℕ) (b : Bool) → saves r one.now.rip ≡ b → in_event r one.now.rip ≡ true → w.stale x ≡ false → is_saved one.now.core x ≡ false
-              → stale_after r w.stale one f u x ≡ false
-          stale_in w one f u x true e g h j = cond-true (saves r one.now.rip) _ _ e ∙ or_from (w.stale x) (is_saved one.now.core x) h j
-          stale_in w one f u x false e g h j = cond-false (saves r one.now.rip) _ _ e ∙ cond-true (in_event r one.now.rip) _ _ g ∙ h
+        -- what isn't stale before a step isn't after it, but for saved bytes
+        stale_in : (w : Watch) (one : Watched) (f : Fields) (u : Machine) (x : ℕ) (b : Bool) → saves r one.now.rip ≡ b → in_event r one.now.rip ≡ true → w.stale x ≡ false → is_saved one.now.core x ≡ false
+            → stale_after r w.stale one f u x ≡ false
+        stale_in w one f u x true e g h j = cond-true (saves r one.now.rip) _ _ e ∙ or_from (w.stale x) (is_saved one.now.core x) h j
+        stale_in w one f u x false e g h j = cond-false (saves r one.now.rip) _ _ e ∙ cond-true (in_event r one.now.rip) _ _ g ∙ h
 
-      -- a whole event that counts
-      event_whole : site.event ≡ Some Count → (w : Watch) (one : Watched) → At At0 w one → GoesOut r k w log1 (thread_of to0) to0.mem 10
-      event_whole c =
-          event_out c 9 At0 refl (event_out c 8 At1 refl (event_out c 7 At2 refl (event_out c 6 At3 refl (event_out c 5 At4 refl (event_out c 4 At5 refl (event_out c 3 At6 refl effect_out))))))
+        -- one step, and then the rest
+        event_out : (n : ℕ) (p : Point) → is_inside p ≡ true → ((v : Watch) (one' : Watched) → At (following cs one0.now.core p) v one' → GoesOut r k v log1 (thread_of to0) to0.mem n)
+            → (w : Watch) (one : Watched) → At p w one → GoesOut r k w log1 (thread_of to0) to0.mem (suc n)
+        event_out n p i rest w one P =
+            let u : Machine = machine_of w.mem one.now in
+            let K = S.sites site listed in
+            let more = longer r A S L.long site listed in
+            let low = S.low site listed b has in
+            let c = one.projected.core in
+            let len = counted_len site b has saving in
+            let saving' : is_saving (Some b) cs ≡ true = sym (ap (λ o. is_saving o cs) has) ∙ saving in
+            let rip : one.now.rip ≡ site.place + offset b cs p = P.here ∙ point_counted site b p has saving in
+            let E : InEvent b cs r.private site.number site.place p c u = record {
+              processor = P.base.kept.processor;
+              core = P.core;
+              decided = P.decided;
+              saved = P.saved;
+              rip = rip;
+              stands = subst (λ (z : List ℕ). IsFixed w.mem site.place z) (saving_code_is b cs r.private site.number saving') (event_stands r A S site listed b has w.mem P.base.other);
+              few = K.few;
+              low = omega (arith, K.low, more, len);
+              room = low;
+            } in
+            let room = P.base.room site listed b has in
+            let where' : slot c ≡ slot one0.now.core = ap (λ (t : Thread). slot t.core) P.projected in
+            let C : CanMark b r.private site.number c w.mem = record {
+              slot_read = lacking_on 4 w0.mem w.mem (slot c) 8 P.perms ∙ ap (λ z. lacking 4 w0.mem z 8) where' ∙ read saving;
+              slot_written = lacking_on 2 w0.mem w.mem (slot c) 8 P.perms ∙ ap (λ z. lacking 2 w0.mem z 8) where' ∙ written saving;
+              mark_read = room.read;
+              mark_written = room.written;
+            } in
+            let G = L.goes b cs r.private site.number site.place p c u i E C in
+            let to = G.0 in
+            let f = G.1.0 in
+            let st : ThreadStepsBy f u to = G.1.1 in
+            let N = G.2 in
+            let next = following cs c p in
+            let l = inside_low b cs p c i P.decided in
+            let from : site.place ≤ one.now.rip = omega (arith, rip) in
+            let below : one.now.rip < work_at site = omega (arith, rip, l, len) in
+            let good = good_at r A S L M w one f to st P.base site listed (λ e. free w one p P) b has saving p i E (λ e. P.old saving) N in
+            let made = made_event r A S L M w one f to st P.base site listed (λ e. free w one p P) b has saving p i rip P.at P.core P.decided P.world P.saved (λ e. P.old saving) in
+            let q = calm_in one w.mem to (at_event r A S L M w one f to st P.base site listed from below) (λ e. omega (arith, e, below)) in
+            let start = ap (λ (t : Thread). is_start r.listed t.rip) q.1 ∙ P.base.kept.start in
+            let B' = base_after M M w one f to st P.base made start in
+            let log : (after_watch w one f to).log ≡ w0.log = cond-false (is_effect r one.now.rip) _ _ q.0 ∙ P.log in
+            let inside' : in_event r one.now.rip ≡ true = inside r A S L M w one f to st P.base site listed from below in
+            let s = sym q.1 in
+            one_more r k w (after_watch w one f to) log1 (thread_of to0) to0.mem n (watches w one f to P.there st)
+            (rest (after_watch w one f to) (after_thread w one f to) (subst (λ (t : Thread). At (following cs t.core p) (after_watch w one f to) (after_thread w one f to)) P.projected (record {
+              there = set_here w.threads k one (after_thread w one f to) P.there;
+              base = B';
+              log = log;
+              perms = λ x. keeps_perms f u to st x ∙ P.perms x;
+              staler = λ x a b. stale_in w one f u x (saves r one.now.rip) refl inside' (P.staler x a b)
+                  (ap (λ z. is_one_of z 8 x) (same_slot w one p P) ∙ (sym (ap (λ z. z && is_saved one0.now.core x) saving) ∙ b));
+              projected = q.1 ∙ P.projected;
+              here = N.rip ∙ sym (point_counted site b next has saving);
+              at = ap (λ (t : Thread). t.rip) q.1 ∙ P.at;
+              core = subst (λ (t : Thread). Holds cs next t.core to.core) s N.core;
+              decided = subst (λ (t : Thread). IsDecided cs next t.core) s N.decided;
+              world = N.world ∙ P.world ∙ ap (λ (t : Thread). t.world) s;
+              saved = subst (λ (t : Thread). HasSaved next t.core to.mem) s good.saved;
+              old = λ e. subst (λ (t : Thread). avoids (is_new r) (slot t.core) 8 ≡ true) s (P.old e);
+            })))
 
-      -- an event that covers, and then the effect step
-      cover_out : site.event ≡ Some Cover → (w : Watch) (one : Watched) → At At0 w one → GoesOut r k w log1 (thread_of to0) to0.mem 4
-      cover_out covers w one P =
+        -- from the point behind the mark, three instructions that restore
+        restored_out : (w : Watch) (one : Watched) → At At4 w one → GoesOut r k w log1 (thread_of to0) to0.mem 6
+        restored_out = event_out 5 At4 refl (event_out 4 At5 refl (event_out 3 At6 refl effect_out))
+
+        -- from a comparison, or the mark, where none is left
+        checks_out : (ds es : List Comparison) (w : Watch) (one : Watched) → At (checked ds es) w one → GoesOut r k w log1 (thread_of to0) to0.mem (7 + 2 * length es)
+        checks_out ds [] w one P = wider w _ _ _ 7 (7 + 2 * length {A = Comparison} []) (omega arith) (event_out 6 At3 refl restored_out w one P)
+        checks_out ds (x ∷ es) w one P =
+            wider w _ _ _ (suc (suc (7 + 2 * length es))) (7 + 2 * length (x ∷ es)) (omega arith)
+            (event_out (suc (7 + 2 * length es)) (AtCompare ds x es) refl (event_out (7 + 2 * length es) (AtJump ds x es) refl (by_test (compares x.op (reg one0.now.core x.reg) x.value) (checks_out (ds ++ x ∷ []) es))) w one P)
+          where
+            by_test : (z : Bool) → ((v : Watch) (one' : Watched) → At (checked (ds ++ x ∷ []) es) v one' → GoesOut r k v log1 (thread_of to0) to0.mem (7 + 2 * length es)) → (v : Watch) (one' : Watched) → At (cond z (checked (ds ++ x ∷ []) es) At4) v one' → GoesOut r k v log1 (thread_of to0) to0.mem (7 + 2 * length es)
+            by_test true go v one' P = go v one' P
+            by_test false go v one' P = wider v _ _ _ 6 (7 + 2 * length es) (omega arith) (restored_out v one' P)
+
+        -- a whole event
+        event_whole : (w : Watch) (one : Watched) → At At0 w one → GoesOut r k w log1 (thread_of to0) to0.mem (suc (suc (suc (7 + 2 * length cs))))
+        event_whole = event_out (suc (suc (7 + 2 * length cs))) At0 refl (event_out (suc (7 + 2 * length cs)) At1 refl (event_out (7 + 2 * length cs) At2 refl (checks_out [] cs)))
+
+      -- an event that covers by one store, and then the effect step
+      cover_out : site.event ≡ Some Cover → site.when ≡ [] → (w : Watch) (one : Watched) → At At0 w one → GoesOut r k w log1 (thread_of to0) to0.mem 4
+      cover_out covers alone w one P =
           let u : Machine = machine_of w.mem one.now in
           let K = S.sites site listed in
           let more = longer r A S L.long site listed in
           let low = S.low site listed Cover covers in
-          let len : event_len site.event ≡ 8 = ap event_len covers in
-          let none : part_to Save site.event ≡ 0 = ap (part_to Save) covers in
-          let here : one.now.rip ≡ site.place = P.here ∙ (let z : site.place + 0 ≡ site.place = omega arith in z) in
+          let len : event_len site.event site.when ≡ 8 = ap₂ event_len covers alone in
+          let none : part_to Save site.event site.when ≡ 0 = ap₂ (part_to Save) covers alone in
+          let here : one.now.rip ≡ site.place = omega (arith, P.here, offset_first site.event site.when) in
           let E : AtStore r.private site.number site.place u = record {
             rip = here;
-            stands = event_stands r A S site listed Cover covers w.mem P.base.other;
+            stands = subst (λ (z : List Comparison). IsFixed w.mem site.place (thread_event Cover z r.private site.number)) alone (event_stands r A S site listed Cover covers w.mem P.base.other);
             low = omega (arith, K.low, more, len);
             room = low;
           } in
@@ -406,7 +433,7 @@ module _ (r : Threading) (A : AreEntries r.original r.listed) (S : IsThreadSound
           let st : ThreadStepsBy f u to = G.1 in
           let from : site.place ≤ one.now.rip = omega (arith, here) in
           let below : one.now.rip < work_at site = omega (arith, here, len) in
-          let made = made_cover r A S L M w one f to st P.base site listed covers here P.at P.core P.world in
+          let made = made_cover r A S L M w one f to st P.base site listed covers alone here P.at P.core P.world in
           let q = calm_in one w.mem to (at_event r A S L M w one f to st P.base site listed from below) (λ e. omega (arith, e, below)) in
           let start = ap (λ (t : Thread). is_start r.listed t.rip) q.1 ∙ P.base.kept.start in
           let B' = base_after M M w one f to st P.base made start in
@@ -422,9 +449,10 @@ module _ (r : Threading) (A : AreEntries r.original r.listed) (S : IsThreadSound
             here = ap (λ z. site.place + z) (sym len);
             at = ap (λ (t : Thread). t.rip) q.1 ∙ P.at;
             core = P.core ∙ ap (λ (t : Thread). t.core) s;
+            decided = tt;
             world = P.world ∙ ap (λ (t : Thread). t.world) s;
             saved = tt;
-            old = λ e. absurd (true≢false (sym e ∙ ap is_saving covers));
+            old = λ e. absurd (true≢false (sym e ∙ ap₂ is_saving covers alone));
           }))
 
       -- the thread before the trampoline, at an address, with the registers and flags of its projection
@@ -439,11 +467,12 @@ module _ (r : Threading) (A : AreEntries r.original r.listed) (S : IsThreadSound
         at : one.projected.rip ≡ site.entry.addr
         core : one.now.core ≡ one.projected.core
         world : one.now.world ≡ one.projected.world
-        old : is_saving site.event ≡ true → avoids (is_new r) (slot one.projected.core) 8 ≡ true
+        old : is_saving site.event site.when ≡ true → avoids (is_new r) (slot one.projected.core) 8 ≡ true
 
       -- before the trampoline the thread is at a point of it, where the point's address is the thread's
-      entered : (p : Point) (w : Watch) (one : Watched) (x : ℕ) → Near x w one → x ≡ point_at site p → Holds p one.projected.core one.now.core → HasSaved p one.projected.core w.mem → At p w one
-      entered p w one x P e core saved = record {
+      entered : (p : Point) (w : Watch) (one : Watched) (x : ℕ) → Near x w one → x ≡ point_at site p → Holds site.when p one.projected.core one.now.core → IsDecided site.when p one.projected.core
+          → HasSaved p one.projected.core w.mem → At p w one
+      entered p w one x P e core decided saved = record {
         there = P.there;
         base = P.base;
         log = P.log;
@@ -453,19 +482,26 @@ module _ (r : Threading) (A : AreEntries r.original r.listed) (S : IsThreadSound
         here = P.here ∙ e;
         at = P.at;
         core = core;
+        decided = decided;
         world = P.world;
         saved = saved;
         old = P.old;
       }
 
       -- from the first address of the trampoline, with an event or without
-      come_out : (w : Watch) (one : Watched) → Near site.place w one → GoesOut r k w log1 (thread_of to0) to0.mem 10
-      come_out w one P = by_event site.event refl
+      come_out : (w : Watch) (one : Watched) → Near site.place w one → GoesOut r k w log1 (thread_of to0) to0.mem (10 + 2 * length site.when)
+      come_out w one P = by_event site.event (is_saving site.event site.when) refl refl
         where
-          by_event : (o : Option Base) → site.event ≡ o → GoesOut r k w log1 (thread_of to0) to0.mem 10
-          by_event (Some Count) e = event_whole e w one (entered At0 w one site.place P (omega arith) P.core tt)
-          by_event (Some Cover) e = wider w _ _ _ 4 10 (omega arith) (cover_out e w one (entered At0 w one site.place P (omega arith) P.core tt))
-          by_event None e = wider w _ _ _ 3 10 (omega arith) (effect_out w one (entered At7 w one site.place P (omega (arith, plain_len site e)) P.core tt))
+          first : site.place ≡ site.place + offset_if site.event site.when At0
+          first = omega (arith, offset_first site.event site.when)
+
+          by_event : (o : Option Base) (s : Bool) → site.event ≡ o → is_saving site.event site.when ≡ s → GoesOut r k w log1 (thread_of to0) to0.mem (10 + 2 * length site.when)
+          by_event (Some b) true e z =
+              wider w _ _ _ (suc (suc (suc (7 + 2 * length site.when)))) (10 + 2 * length site.when) (omega arith) (event_whole b e z w one (entered At0 w one site.place P first P.core tt tt))
+          by_event (Some b) false e z =
+              let q = store_alone b site.when (sym (ap (λ o. is_saving o site.when) e) ∙ z) in
+              wider w _ _ _ 4 (10 + 2 * length site.when) (omega arith) (cover_out (e ∙ ap Some q.0) q.1 w one (entered At0 w one site.place P first P.core tt tt))
+          by_event None s e z = wider w _ _ _ 3 (10 + 2 * length site.when) (omega arith) (effect_out w one (entered At7 w one site.place P (omega (arith, plain_len site e)) P.core tt tt))
 
       -- one direct jump outside the trampolines, and then the rest
       jump_out : (n x target : ℕ) → JumpsTo r.patched x target → is_new r x ≡ false → is_kept r x ≡ false → (w : Watch) (one : Watched) → Near x w one
@@ -510,7 +546,7 @@ module _ (r : Threading) (A : AreEntries r.original r.listed) (S : IsThreadSound
 
       -- from the displaced start, by one jump or by two
       displaced_out : slice_get w0.threads k ≡ Some one0 → Ground r S M w0.stale w0.mem one0 → is_start r.listed one0.now.rip ≡ true → site.entry.addr ≡ one0.now.rip → is_site r one0.now.rip ≡ true
-          → GoesOut r k w0 log1 (thread_of to0) to0.mem 12
+          → GoesOut r k w0 log1 (thread_of to0) to0.mem (12 + 2 * length site.when)
       displaced_out e B start here is = by_jump (S.sites site listed).jump
         where
           old : is_new r one0.now.rip ≡ false
@@ -537,17 +573,18 @@ module _ (r : Threading) (A : AreEntries r.original r.listed) (S : IsThreadSound
           first : (f : Fields) (to : Machine) → ThreadStepsBy f (machine_of w0.mem one0.now) to → Made r S (stale_after r w0.stale one0 f (machine_of w0.mem one0.now)) M M one0 w0.mem to
           first f to st = made_displaced r A S L M w0 one0 f to st B old (record { same = same0; start = start }) is
 
-          by_jump : JumpsTo r.patched site.entry.addr site.place ⊎ ByTwoJumps r site.entry.addr site.place → GoesOut r k w0 log1 (thread_of to0) to0.mem 12
-          by_jump (inl j) = wider w0 _ _ _ 11 12 (omega arith)
-              (jump_out 10 one0.now.rip site.place (subst (λ (z : ℕ). JumpsTo r.patched z site.place) here j) old calm w0 one0 near first come_out)
-          by_jump (inr j) = jump_out 11 one0.now.rip j.second (subst (λ (z : ℕ). JumpsTo r.patched z j.second) here j.there) old calm w0 one0 near first (λ v one' P.
-              jump_out 10 j.second site.place j.on j.old (and_left (is_start r.listed j.second) (not (is_site r j.second)) j.unlisted) v one' P (λ f to st.
-              made_second r A S L M v one' f to st P.base (ap (is_new r) P.here ∙ j.old) (record { site = site; listed = listed; jumps = j; here = P.here; there = P.at; core = P.core; world = P.world })) come_out)
+          by_jump : JumpsTo r.patched site.entry.addr site.place ⊎ ByTwoJumps r site.entry.addr site.place → GoesOut r k w0 log1 (thread_of to0) to0.mem (12 + 2 * length site.when)
+          by_jump (inl j) = wider w0 _ _ _ (suc (10 + 2 * length site.when)) (12 + 2 * length site.when) (omega arith)
+              (jump_out (10 + 2 * length site.when) one0.now.rip site.place (subst (λ (z : ℕ). JumpsTo r.patched z site.place) here j) old calm w0 one0 near first come_out)
+          by_jump (inr j) = wider w0 _ _ _ (suc (suc (10 + 2 * length site.when))) (12 + 2 * length site.when) (omega arith)
+              (jump_out (suc (10 + 2 * length site.when)) one0.now.rip j.second (subst (λ (z : ℕ). JumpsTo r.patched z j.second) here j.there) old calm w0 one0 near first (λ v one' P.
+              jump_out (10 + 2 * length site.when) j.second site.place j.on j.old (and_left (is_start r.listed j.second) (not (is_site r j.second)) j.unlisted) v one' P (λ f to st.
+              made_second r A S L M v one' f to st P.base (ap (is_new r) P.here ∙ j.old) (record { site = site; listed = listed; jumps = j; here = P.here; there = P.at; core = P.core; world = P.world })) come_out))
 
   -- at a kept start
   kept_out : (M : Bytes) (w : Watch) (one : Watched) (f : Fields) (to0 : Machine) → ThreadStepsBy f (machine_of M one.now) to0 → one.now ≡ one.projected → IsQuietAt r (machine_of M one.now)
       → is_start r.listed to0.rip ≡ true → reads_nothing_of w.stale f (machine_of M one.now) ≡ true → slice_get w.threads k ≡ Some one → Ground r S M w.stale w.mem one → is_kept r one.now.rip ≡ true
-      → GoesOut r k w (w.log ++ record { thread = k; at = one.now.rip } ∷ []) (thread_of to0) to0.mem 1
+      → GoesOut r k w (w.log ++ record { thread = k; at = one.now.rip; core = one.now.core } ∷ []) (thread_of to0) to0.mem 1
   kept_out M w one f to0 st0 same quiet ends fresh e B kept =
       let s : Machine = machine_of M one.now in
       let u : Machine = machine_of w.mem one.now in
@@ -572,7 +609,7 @@ module _ (r : Threading) (A : AreEntries r.original r.listed) (S : IsThreadSound
         run = (watches w one f to e X.1.other, tt);
         there = set_here w.threads k one (after_thread w one f to) e ∙ ap₂ (λ (t p : Thread). Some (record { now = t; projected = p })) now projected;
         memory = λ x h z. X.1.alike.mem.bytes x h (sym (stale_is r A S L M w one f to X.1.other B (start_old r A S L.long x0 o.start) x) ∙ z);
-        effect = cond-true (is_effect r x0) _ _ (effect_kept r A S L.long x0 kept) ∙ ap (λ (t : Thread). w.log ++ record { thread = k; at = t.rip } ∷ []) (sym same);
+        effect = cond-true (is_effect r x0) _ _ (effect_kept r A S L.long x0 kept) ∙ ap (λ (t : Thread). w.log ++ record { thread = k; at = t.rip; core = t.core } ∷ []) (sym same);
       }
 
   -- a thread that can go from a listed start gets out, whether the start is kept or displaced
@@ -585,10 +622,10 @@ module _ (r : Threading) (A : AreEntries r.original r.listed) (S : IsThreadSound
       same : one.now ≡ one.projected
       same = phase_outside r A S L w.mem one.now one.projected R.other (R.each k one e).phase C.stands
 
-      done : GoesOut r k w (w.log ++ record { thread = k; at = one.now.rip } ∷ []) (thread_of C.to) C.to.mem 12 → GetsOut r k w one C.to
+      done : GoesOut r k w (w.log ++ record { thread = k; at = one.now.rip; core = one.now.core } ∷ []) (thread_of C.to) C.to.mem (12 + 2 * length (when_at r.sites one.now.rip)) → GetsOut r k w one C.to
       done g = record { few = g.few; bound = g.bound; states = g.states; run = g.run; there = g.there; outside = C.ends; memory = g.memory; effect = g.effect }
 
-      displaced : is_site r one.now.rip ≡ true → (s : ThreadSite) × Contains r.sites s × (s.entry.addr ≡ one.now.rip) → GoesOut r k w (w.log ++ record { thread = k; at = one.now.rip } ∷ []) (thread_of C.to) C.to.mem 12
+      displaced : is_site r one.now.rip ≡ true → (s : ThreadSite) × Contains r.sites s × (s.entry.addr ≡ one.now.rip) → GoesOut r k w (w.log ++ record { thread = k; at = one.now.rip; core = one.now.core } ∷ []) (thread_of C.to) C.to.mem (12 + 2 * length (when_at r.sites one.now.rip))
       displaced is q =
           let F = fields_of r A S q.0 q.1 in
           let m : Machine = machine_of R.end.mem one.now in
@@ -600,14 +637,16 @@ module _ (r : Threading) (A : AreEntries r.original r.listed) (S : IsThreadSound
           } in
           let g : C.fields ≡ F = one_instruction m C.fields F C.steps.at at_s in
           let i = place_of r.sites q.0 q.1 in
-          let there : is_saving q.0.event ≡ true → saves_at r one.now.rip ≡ true = λ h.
-          any_at (λ (s : ThreadSite). eqb s.entry.addr one.now.rip && is_saving s.event) r.sites i.0 q.0 i.1 (and_from (eqb q.0.entry.addr one.now.rip) (is_saving q.0.event) (eq-eqb q.0.entry.addr one.now.rip q.2) h) in
-          displaced_out q.0 q.1 R.end.mem w one C.to (C.fields, C.steps) same C.quiet C.ends (λ h. C.read (there h)) (λ h. C.written (there h)) (λ h. C.old (there h))
-          (λ h. subst (λ (z : Fields). reads_nothing_of (is_saved one.now.core) z m ≡ true) g (C.unread (there h))) (subst (λ (z : Fields). reads_nothing_of w.stale z m ≡ true) g C.fresh) e B C.stands q.2 is
+          let there : is_saving q.0.event q.0.when ≡ true → saves_at r one.now.rip ≡ true = λ h.
+          any_at (λ (s : ThreadSite). eqb s.entry.addr one.now.rip && is_saving s.event s.when) r.sites i.0 q.0 i.1 (and_from (eqb q.0.entry.addr one.now.rip) (is_saving q.0.event q.0.when) (eq-eqb q.0.entry.addr one.now.rip q.2) h) in
+          let when : when_at r.sites one.now.rip ≡ q.0.when = when_here one.now.rip q.0 r.sites (λ j t h e'. S.once t q.0 (contains_at r.sites j t h) q.1 (e' ∙ sym q.2)) i.0 i.1 q.2 in
+          subst (λ (l : List Comparison). GoesOut r k w (w.log ++ record { thread = k; at = one.now.rip; core = one.now.core } ∷ []) (thread_of C.to) C.to.mem (12 + 2 * length l)) (sym when)
+          (displaced_out q.0 q.1 R.end.mem w one C.to (C.fields, C.steps) same C.quiet C.ends (λ h. C.read (there h)) (λ h. C.written (there h)) (λ h. C.old (there h))
+          (λ h. subst (λ (z : Fields). reads_nothing_of (is_saved one.now.core) z m ≡ true) g (C.unread (there h))) (subst (λ (z : Fields). reads_nothing_of w.stale z m ≡ true) g C.fresh) e B C.stands q.2 is)
 
-      by_start : (b : Bool) → is_site r one.now.rip ≡ b → GoesOut r k w (w.log ++ record { thread = k; at = one.now.rip } ∷ []) (thread_of C.to) C.to.mem 12
+      by_start : (b : Bool) → is_site r one.now.rip ≡ b → GoesOut r k w (w.log ++ record { thread = k; at = one.now.rip; core = one.now.core } ∷ []) (thread_of C.to) C.to.mem (12 + 2 * length (when_at r.sites one.now.rip))
       by_start true is = displaced is (site_of r A S L.long one.now.rip is)
-      by_start false is = wider w _ _ _ 1 12 (omega arith) (kept_out R.end.mem w one C.fields C.to C.steps same C.quiet C.ends C.fresh e B
+      by_start false is = wider w _ _ _ 1 (12 + 2 * length (when_at r.sites one.now.rip)) (omega arith) (kept_out R.end.mem w one C.fields C.to C.steps same C.quiet C.ends C.fresh e B
           (and_from (is_start r.listed one.now.rip) (not (is_site r one.now.rip)) C.stands (not_from_false (is_site r one.now.rip) is)))
 
 -- an item leads from a guest to one guest at most

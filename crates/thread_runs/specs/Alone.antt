@@ -1,5 +1,5 @@
--- The event that counts, of a thread that runs alone: what it needs, and what it leaves. Theorems cite it.
-use Rattle.std.specs.Prelude.{◌≡◌, ℕ, ◌+◌, ◌%◌, ◌^◌, ◌<◌, ◌≤◌, true, false, List, length}
+-- The event that counts under no condition, of a thread that runs alone: what it needs, and what it leaves. Theorems cite it.
+use Rattle.std.specs.Prelude.{◌≡◌, ℕ, ◌+◌, ◌%◌, ◌^◌, ◌<◌, ◌≤◌, true, false, List, [], length}
 use Rattle.pun_base.specs.declared.action.Base.TheVariants.{Count}
 use Rattle.cpu_state.specs.Bytes.{number_at}
 use Rattle.cpu_state.specs.Fixed.{IsFixed}
@@ -8,17 +8,17 @@ use Rattle.insn_form.specs.Machine.{Machine}
 use Rattle.insn_form.specs.Runs.{IsPath, last_of}
 use Rattle.thread_runs.specs.ThreadSteps.{ThreadStep}
 use Rattle.thread_runs.specs.ThreadCode.{counter_at, thread_event}
-use Rattle.thread_runs.specs.Event.{CanCount}
+use Rattle.thread_runs.specs.Event.{CanMark}
 use Rattle.thread_runs.specs.Threading.{is_one_of, is_saved}
 
 -- a thread stands at the event of site i, which counts; the eight bytes in which rax is saved and those of the counter can be read and written, and lie apart
 pub record CanCountAlone (p i place : ℕ) (s : Machine) : Type 0 where
   pub processor : IsProcessorCore s.core
   pub rip : s.rip ≡ place
-  pub stands : IsFixed s.mem place (thread_event Count p i)
+  pub stands : IsFixed s.mem place (thread_event Count [] p i)
   pub low : place + 32 < 2 ^ 31
   pub room : counter_at p i + 8 ≤ 0x7FFF0000
-  pub can : CanCount p i s.core s.mem
+  pub can : CanMark Count p i s.core s.mem
   pub apart : (x : ℕ) → is_saved s.core x ≡ true → is_one_of (counter_at p i) 8 x ≡ false
 
 -- Seven steps lead to the end of the event. The counter is one more; registers, flags, bases and

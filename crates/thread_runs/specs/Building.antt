@@ -1,6 +1,9 @@
 -- The trampoline of an instruction for threads, as it is built. Theorems cite it.
-use Rattle.std.specs.Prelude.{ℕ, ◌+◌, Bool, ◌==◌, if◌then◌else◌, List, ◌++◌, length, Option, Some, None, option_map}
+use Rattle.std.specs.Prelude.{ℕ, ◌+◌, Bool, ◌==◌, if◌then◌else◌, List, [], ◌++◌, length, Option, Some, None, option_map}
 use Rattle.pun_base.specs.declared.action.Base.{Base}
+use Rattle.pun_base.specs.declared.action.Comparison.{Comparison}
+use Rattle.pun_base.specs.declared.action.Comparisons.{Comparisons}
+use Rattle.pun_base.specs.Actions.{AreComparisons, listed}
 use Rattle.insn_form.specs.declared.form.Spot.{Spot}
 use Rattle.insn_form.specs.declared.form.Spot.TheVariants.{Reg, High, Mem}
 use Rattle.insn_form.specs.declared.form.Target.{Target}
@@ -59,10 +62,19 @@ abbrev pub work_by : Option ℕ → List ℕ → Bool → ℕ → ℕ → List �
 work_by None work falls to next = work ++ back_if falls (to + length work) next
 work_by (Some r) work falls to next = call_reg_code r next
 
--- how many bytes the trampoline of an instruction has, with an event or without
-abbrev pub size_if : Option Base → Insn → ℕ → ℕ → Option ℕ
-size_if event i len addr = option_map (λ n. event_len event + n + (if falls i then 5 else 0)) (thread_len i len addr)
+-- the comparisons of a condition, and none without one
+abbrev pub when_of : Option Comparisons → List Comparison
+when_of None = []
+when_of (Some list) = listed list
 
--- how many bytes the trampoline of a site that counts has
+-- a condition that can be asked for, or none
+abbrev pub CanBeAsked : Option Comparisons → Type 0
+CanBeAsked when = AreComparisons (when_of when)
+
+-- how many bytes the trampoline of an instruction has, with an event or without
+abbrev pub size_if : Option Base → List Comparison → Insn → ℕ → ℕ → Option ℕ
+size_if event cs i len addr = option_map (λ n. event_len event cs + n + (if falls i then 5 else 0)) (thread_len i len addr)
+
+-- how many bytes the trampoline of a site that counts under no condition has
 abbrev pub thread_size : Insn → ℕ → ℕ → Option ℕ
 thread_size i len addr = option_map (λ n. 32 + n + (if falls i then 5 else 0)) (thread_len i len addr)

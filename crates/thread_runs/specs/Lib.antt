@@ -16,5 +16,6 @@ pub mod WatchedDeliveries
 pub mod TheoremWithDeliveries
 pub mod EachRun
 pub mod LockedSpelling
+pub mod WorkedConditions
 pub mod ThreadJudging
 pub mod Running

@@ -1,22 +1,28 @@
 -- Where a thread of the patched guest stands beside the original's that it counts as, and what else both guests keep. Theorems cite it.
-use Rattle.std.specs.Prelude.{◌≡◌, ◌⊎◌, ℕ, ◌+◌, ◌<◌, Bool, true, false, if◌then◌else◌, Contains, Some, None}
+use Rattle.std.specs.Prelude.{◌≡◌, ◌⊎◌, ℕ, ◌+◌, ◌<◌, Bool, true, false, if◌then◌else◌, List, Contains, Option, Some, None}
 use Rattle.pun_base.specs.Memory.{Bytes}
 use Rattle.pun_base.specs.declared.action.Base.{Base}
+use Rattle.pun_base.specs.declared.action.Comparison.{Comparison}
 use Rattle.cpu_state.specs.Bytes.{allows, avoids, lacking}
 use Rattle.cpu_state.specs.Processor.{IsProcessorCore, GiveWords}
 use Rattle.image_step.specs.Listed.{is_start}
 use Rattle.thread_runs.specs.Guest.{Thread, machine_of}
 use Rattle.thread_runs.specs.ThreadCode.{mark_at, mark_len, slot}
-use Rattle.thread_runs.specs.Event.{Point, offset, is_inside, has_point, Holds, HasSaved}
+use Rattle.thread_runs.specs.Event.{Point, offset, is_inside, has_point, Holds, IsDecided, HasSaved}
 use Rattle.thread_runs.specs.Event.Point.{At0, At7}
 use Rattle.thread_runs.specs.Work.{Tail, left, InTail}
 use Rattle.thread_runs.specs.Threading.{ThreadSite, Threading, next_of, work_at, is_new, ByTwoJumps, IsThreadSite}
 use Rattle.thread_runs.specs.Watching.{Watched}
 
+-- how many bytes after a trampoline's first one the instruction at a point of its event begins
+abbrev pub offset_if : Option Base → List Comparison → Point → ℕ
+offset_if (Some b) cs k = offset b cs k
+offset_if None cs k = 0
+
 -- the address of a point in a site's trampoline: in its event, or, after all of it, where the relocated
 -- code begins
 abbrev pub point_at : ThreadSite → Point → ℕ
-point_at s k = if is_inside k then s.place + offset k else work_at s
+point_at s k = if is_inside k then s.place + offset_if s.event s.when k else work_at s
 
 -- a point between the save of rax and its restore
 abbrev pub has_rax : Point → Bool
@@ -42,15 +48,16 @@ pub record AtSecond (r : Threading) (now projected : Thread) : Type 0 where
 
 -- A thread inside an event, or where the relocated code begins, whose projection stands at the site.
 -- The point says its registers and flags, by those of the projection. Where the site has no event it
--- is the last one, and where it covers the first or the last one.
+-- is the last one, and where it covers by one store the first or the last one.
 pub record AtEvent (r : Threading) (m : Bytes) (now projected : Thread) : Type 0 where
   pub site : ThreadSite
   pub listed : Contains r.sites site
   pub point : Point
-  pub inside : is_inside point ≡ true → has_point site.event point ≡ true
+  pub inside : is_inside point ≡ true → has_point site.event site.when point ≡ true
   pub here : now.rip ≡ point_at site point
   pub there : projected.rip ≡ site.entry.addr
-  pub core : Holds point projected.core now.core
+  pub core : Holds site.when point projected.core now.core
+  pub decided : IsDecided site.when point projected.core
   pub world : now.world ≡ projected.world
   -- between save and restore the eight saved bytes hold rax, and none of them is new
   pub saved : HasSaved point projected.core m

@@ -1,5 +1,7 @@
 -- The facts of single steps on which the theorem on guest threads rests. Theorems cite it.
-use Rattle.std.specs.Prelude.{◌≡◌, ℕ, ◌+◌, ◌<◌, Bool, true, false, if◌then◌else◌, length, Some, None, Ok}
+use Rattle.std.specs.Prelude.{◌≡◌, ℕ, ◌+◌, ◌<◌, Bool, true, false, if◌then◌else◌, List, length, Some, None, Ok}
+use Rattle.pun_base.specs.declared.action.Base.{Base}
+use Rattle.pun_base.specs.declared.action.Comparison.{Comparison}
 use Rattle.length_decode.specs.Spelling.{Fields, IsInstruction, spelling}
 use Rattle.cpu_state.specs.declared.state.Core.{Core}
 use Rattle.cpu_state.specs.Bytes.{lacking}
@@ -37,11 +39,11 @@ WorkLong = (f : Fields) (next place size len addr : ℕ) → IsInstruction f →
 
 -- no event changes rsp
 abbrev pub HoldsSlot : Type 0
-HoldsSlot = (k : Point) (c d : Core) → IsProcessorCore c → Holds k c d → slot d ≡ slot c
+HoldsSlot = (cs : List Comparison) (k : Point) (c d : Core) → IsProcessorCore c → Holds cs k c d → slot d ≡ slot c
 
 -- where a thread could save rax, the saved bytes can be written
 abbrev pub SavesHeld : Type 0
-SavesHeld = (p i place : ℕ) (c : Core) (v w : Machine) → InEvent p i place At0 c v → ThreadStep v w → lacking 2 v.mem (slot c) 8 ≡ None
+SavesHeld = (b : Base) (cs : List Comparison) (p i place : ℕ) (c : Core) (v w : Machine) → InEvent b cs p i place At0 c v → ThreadStep v w → lacking 2 v.mem (slot c) 8 ≡ None
 
 -- after the effect step the instructions of a trampoline write no byte
 abbrev pub TailTouches : Type 0

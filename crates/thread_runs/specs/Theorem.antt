@@ -1,8 +1,9 @@
 -- Guest threads: what holds of each run of the patched guest that meets the premises. Theorems cite it.
-use Rattle.std.specs.Prelude.{◌≡◌, ◌⊎◌, ℕ, ◌+◌, ◌%◌, ◌^◌, ◌≤◌, true, false, ◌||◌, if◌then◌else◌, List, [], ◌∷◌, ◌++◌, map, replicate, Some, None, Contains, slice_get, count_by, ◌==◌}
+use Rattle.std.specs.Prelude.{◌≡◌, ◌⊎◌, ℕ, ◌+◌, ◌*◌, ◌%◌, ◌^◌, ◌≤◌, Bool, true, false, ◌&&◌, ◌||◌, if◌then◌else◌, List, [], ◌∷◌, ◌++◌, length, map, replicate, Some, None, Contains, slice_get, count_by, ◌==◌}
 use Rattle.std.specs.List.{AllByRecursion, list_any}
 use Rattle.pun_base.specs.Memory.{Bytes, joined}
 use Rattle.pun_base.specs.declared.action.Base.TheVariants.{Cover, Count}
+use Rattle.pun_base.specs.declared.action.Comparison.{Comparison}
 use Rattle.length_decode.specs.Spelling.{Fields}
 use Rattle.cpu_state.specs.Bytes.{number_at, byte_of, lacking, avoids}
 use Rattle.insn_form.specs.Machine.{Machine}
@@ -13,8 +14,8 @@ use Rattle.start_entries.specs.Standing.{AreEntries}
 use Rattle.thread_runs.specs.ThreadSteps.{ThreadStepsBy}
 use Rattle.thread_runs.specs.Guest.{Guest, machine_of, thread_of, IsInterleaved, last_guest}
 use Rattle.thread_runs.specs.ThreadCode.{slot, counter_at, mark_at}
-use Rattle.thread_runs.specs.Threading.{Threading, ThreadSite, is_new, is_hidden, is_counted, saves_at, is_saved, IsThreadSound}
-use Rattle.thread_runs.specs.Watching.{Watched, Watch, watch_of, Watches}
+use Rattle.thread_runs.specs.Threading.{Threading, ThreadSite, is_new, is_hidden, is_met_by, is_counted, saves_at, is_saved, IsThreadSound}
+use Rattle.thread_runs.specs.Watching.{Watched, EffectStep, Watch, watch_of, Watches}
 use Rattle.thread_runs.specs.Premises.{IsProperRun, IsQuietAt, reads_nothing_of}
 use Rattle.thread_runs.specs.Relation.{IsBeside, KeepsCode, KeepsMarks}
 
@@ -50,17 +51,25 @@ pub record IsGuestFollowed (r : Threading) (a : Guest) (w : Watch) : Type 0 wher
   pub run : IsInterleaved (map (λ e. e.thread) w.log) a states
   pub beside : LiesBeside r (last_guest a states) w
 
--- The counter of each site that counts is the number of the site's effect steps and of the threads
--- between its LOCK INC and its effect step, modulo 2^64.
+-- an effect step of a site of whose registers the condition of the site's event holds
+abbrev pub is_recorded : ThreadSite → EffectStep → Bool
+is_recorded s e = is_met_by s e.core && e.at == s.entry.addr
+
+-- a thread that marked at a site, and hasn't made its effect step
+abbrev pub has_marked : ThreadSite → Watched → Bool
+has_marked s t = is_counted s t.now.rip t.projected.core
+
+-- The counter of each site that counts is the number of the site's effect steps at which its condition held,
+-- and of the threads that marked and are between LOCK INC and their effect step, modulo 2^64.
 abbrev pub AreCounted : Threading → Watch → Type 0
 AreCounted r w = (s : ThreadSite) → Contains r.sites s → s.event ≡ Some Count
-    → number_at w.mem (counter_at r.private s.number) 8 ≡ (count_by (λ e. e.at == s.entry.addr) w.log + count_by (λ t. is_counted s t.now.rip) w.threads) % 2 ^ 64
+    → number_at w.mem (counter_at r.private s.number) 8 ≡ (count_by (is_recorded s) w.log + count_by (has_marked s) w.threads) % 2 ^ 64
 
--- The byte of each site that covers is 1 if some effect step of the site was made or some thread stands
--- between its store and its effect step, and 0 otherwise.
+-- The byte of each site that covers is 1 if some effect step of the site was made at which its condition held,
+-- or some thread that marked stands between its store and its effect step, and 0 otherwise.
 abbrev pub AreCovered : Threading → Watch → Type 0
 AreCovered r w = (s : ThreadSite) → Contains r.sites s → s.event ≡ Some Cover
-    → byte_of (w.mem (mark_at Cover r.private s.number)) ≡ (if list_any (λ e. e.at == s.entry.addr) w.log || list_any (λ t. is_counted s t.now.rip) w.threads then 1 else 0)
+    → byte_of (w.mem (mark_at Cover r.private s.number)) ≡ (if list_any (is_recorded s) w.log || list_any (has_marked s) w.threads then 1 else 0)
 
 -- Each proper run from start guests is followed, counted and covered, at each moment.
 abbrev pub AreFollowed : Threading → Type 0
@@ -95,20 +104,25 @@ pub record CanGo (r : Threading) (w : Watch) (one : Watched) (g : Guest) : Type 
   pub unread : saves_at r one.now.rip ≡ true → reads_nothing_of (is_saved one.now.core) fields (machine_of g.mem one.now) ≡ true
   pub fresh : reads_nothing_of w.stale fields (machine_of g.mem one.now) ≡ true
 
--- Scheduled alone from w, thread k makes one effect step and no other within 12 steps of its own,
--- and then stands outside, where the original's step leads: it is the thread that this step leads
+-- the comparisons of the event at an address
+abbrev pub when_at : List ThreadSite → ℕ → List Comparison
+when_at [] x = []
+when_at (s ∷ ss) x = if s.entry.addr == x then s.when else when_at ss x
+
+-- Scheduled alone from w, thread k makes one effect step and no other within 12 steps of its own and two for
+-- each comparison, and then stands outside, where the original's step leads: it is the thread that this step leads
 -- to, with the same registers, flags, bases, instruction pointer and rest of the world, and counts
 -- as itself. Memory is the original's after that step but for listed instructions, new bytes and
 -- stale bytes.
 pub record GetsOut (r : Threading) (k : ℕ) (w : Watch) (one : Watched) (to : Machine) : Type 0 where
   pub few : ℕ
-  pub bound : few ≤ 12
+  pub bound : few ≤ 12 + 2 * length (when_at r.sites one.now.rip)
   pub states : List Watch
   pub run : IsWatched r (replicate few k) w states
   pub there : slice_get (last_watch w states).threads k ≡ Some (record { now = thread_of to; projected = thread_of to })
   pub outside : is_start r.listed to.rip ≡ true
   pub memory : (x : ℕ) → is_hidden r x ≡ false → (last_watch w states).stale x ≡ false → to.mem x ≡ (last_watch w states).mem x
-  pub effect : (last_watch w states).log ≡ w.log ++ record { thread = k; at = one.now.rip } ∷ []
+  pub effect : (last_watch w states).log ≡ w.log ++ record { thread = k; at = one.now.rip; core = one.now.core } ∷ []
 
 -- From each state that a proper run from start guests reaches, a thread that can go gets out, to
 -- where the original's step leads.

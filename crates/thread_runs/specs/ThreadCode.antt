@@ -1,9 +1,10 @@
--- The code of a trampoline where threads share their memory: the event, the relocated code, and a jump back. Theorems cite it. An event
--- that counts has 32 bytes, one that covers 8, and the jump back stands where the relocated code falls through (Intel SDM, volume 2, MOV,
--- LAHF, SETcc, INC, ADD, SAHF, PUSH, JMP).
-use Rattle.std.specs.Prelude.{ℕ, ◌+◌, ◌*◌, ◌-◌, ◌%◌, ◌^◌, nat_lt, if◌then◌else◌, List, [], ◌∷◌, ◌++◌, length, replicate, Option, Some, None}
+-- The code of a trampoline where threads share their memory: the event, the relocated code, and a jump back. Theorems cite it. Without a
+-- condition an event that counts has 32 bytes, one that covers 8, and the jump back stands where the relocated code falls through (Intel
+-- SDM, volume 2, MOV, LAHF, SETcc, CMP, Jcc, INC, ADD, SAHF, PUSH, JMP).
+use Rattle.std.specs.Prelude.{ℕ, zero, suc, ◌+◌, ◌*◌, ◌-◌, ◌%◌, ◌^◌, nat_lt, Bool, true, false, if◌then◌else◌, List, [], ◌∷◌, ◌++◌, length, replicate, Option, Some, None}
 use Rattle.pun_base.specs.declared.action.Base.{Base}
 use Rattle.pun_base.specs.declared.action.Base.TheVariants.{Cover, Count}
+use Rattle.pun_base.specs.declared.action.Comparison.{Comparison}
 use Rattle.cpu_state.specs.declared.state.Core.{Core}
 use Rattle.cpu_state.specs.Bytes.{advanced}
 use Rattle.length_decode.specs.Spelling.{Fields}
@@ -17,6 +18,7 @@ use Rattle.insn_form.specs.Instruction.{insn_of}
 use Rattle.insn_form.specs.Displacing.{falls}
 use Rattle.relocate_insn.specs.Pieces.{four, push_code}
 use Rattle.relocate_insn.specs.Relocating.{relocated_by}
+use Rattle.cond_action.specs.Codes.{compare_code, failing}
 use Rattle.trampoline.specs.Trampolines.{back_if}
 
 -- the counter of site i; p is the first address of the private range
@@ -49,21 +51,68 @@ restoring_code = 0x04 ∷ 0x7f ∷ 0x9e ∷ 0x48 ∷ 0x8b ∷ 0x84 ∷ 0x24 ∷ 
 abbrev pub covering_code : ℕ → List ℕ
 covering_code a = 0xc6 ∷ 0x04 ∷ 0x25 ∷ (four a ++ 1 ∷ [])
 
--- the event of site i: it covers, by one store, or counts
-abbrev pub thread_event : Base → ℕ → ℕ → List ℕ
-thread_event Cover p i = covering_code (mark_at Cover p i)
-thread_event Count p i = saving_code ++ (counting_code (counter_at p i) ++ restoring_code)
+-- the instruction that marks what an event of site i marks
+abbrev pub marking_code : Base → ℕ → ℕ → List ℕ
+marking_code Cover p i = covering_code (mark_at Cover p i)
+marking_code Count p i = counting_code (counter_at p i)
 
--- how many bytes the event of a trampoline has, where it has one
-abbrev pub event_len : Option Base → ℕ
-event_len (Some Cover) = 8
-event_len (Some Count) = 32
-event_len None = 0
+-- how many bytes it has
+abbrev pub marking_len : Base → ℕ
+marking_len Cover = 8
+marking_len Count = 9
+
+-- CMP with n: of a register, or, since rax holds the flags, of the eight bytes in which it is saved
+abbrev pub compare_with : ℕ → ℕ → List ℕ
+compare_with zero n = 0x48 ∷ 0x81 ∷ 0xbc ∷ 0x24 ∷ 0x78 ∷ 0xff ∷ 0xff ∷ 0xff ∷ four n
+compare_with (suc r) n = compare_code (suc r) n
+
+-- how many bytes it has
+abbrev pub compare_len : ℕ → ℕ
+compare_len zero = 12
+compare_len (suc r) = 7
+
+-- how many bytes comparisons have, each with a short jump
+abbrev pub checking_len : List Comparison → ℕ
+checking_len [] = 0
+checking_len (c ∷ cs) = compare_len c.reg + 2 + checking_len cs
+
+-- comparisons, each with a short jump over those behind it and m bytes more, which is taken where it fails
+abbrev pub checking_code : List Comparison → ℕ → List ℕ
+checking_code [] m = []
+checking_code (c ∷ cs) m = compare_with c.reg c.value ++ ((0x70 + failing c.op) ∷ (checking_len cs + m) ∷ checking_code cs m)
+
+-- an event that saves rax and the flags, and marks where all comparisons hold
+abbrev pub saving_event : Base → List Comparison → ℕ → ℕ → List ℕ
+saving_event b cs p i = saving_code ++ (checking_code cs (marking_len b) ++ (marking_code b p i ++ restoring_code))
+
+-- how many bytes it has
+abbrev pub saving_len : Base → List Comparison → ℕ
+saving_len b cs = 12 + checking_len cs + marking_len b + 11
+
+-- the event of site i under a condition, or under none, where it has no comparison: it covers by one store alone, or saves
+abbrev pub thread_event : Base → List Comparison → ℕ → ℕ → List ℕ
+thread_event Cover [] p i = covering_code (mark_at Cover p i)
+thread_event Cover (c ∷ cs) p i = saving_event Cover (c ∷ cs) p i
+thread_event Count cs p i = saving_event Count cs p i
+
+-- the event of a trampoline, where it has one, saves rax and the flags
+abbrev pub is_saving : Option Base → List Comparison → Bool
+is_saving (Some Cover) [] = false
+is_saving (Some Cover) (c ∷ cs) = true
+is_saving (Some Count) cs = true
+is_saving None cs = false
+
+-- how many bytes it has
+abbrev pub event_len : Option Base → List Comparison → ℕ
+event_len (Some Cover) [] = 8
+event_len (Some Cover) (c ∷ cs) = saving_len Cover (c ∷ cs)
+event_len (Some Count) cs = saving_len Count cs
+event_len None cs = 0
 
 -- the event of site i, where its trampoline has one
-abbrev pub event_if : Option Base → ℕ → ℕ → List ℕ
-event_if (Some b) p i = thread_event b p i
-event_if None p i = []
+abbrev pub event_if : Option Base → List Comparison → ℕ → ℕ → List ℕ
+event_if (Some b) cs p i = thread_event b cs p i
+event_if None cs p i = []
 
 -- JMP to a register
 abbrev pub jump_reg : ℕ → List ℕ
@@ -84,13 +133,13 @@ thread_work f next place = thread_relocated (insn_of f) f next place ++ back_if 
 
 -- the code of the trampoline of site i, which stands at a place, with an event or without: the event,
 -- and the code after it
-abbrev pub code_if : Option Base → ℕ → ℕ → Fields → ℕ → ℕ → List ℕ
-code_if event p i f next place = event_if event p i ++ thread_work f next (place + event_len event)
+abbrev pub code_if : Option Base → List Comparison → ℕ → ℕ → Fields → ℕ → ℕ → List ℕ
+code_if event cs p i f next place = event_if event cs p i ++ thread_work f next (place + event_len event cs)
 
--- the code of the trampoline of a site that counts
+-- the code of the trampoline of a site that counts under no condition
 abbrev pub thread_code : ℕ → ℕ → Fields → ℕ → ℕ → List ℕ
-thread_code p i f next place = thread_event Count p i ++ thread_work f next (place + 32)
+thread_code p i f next place = thread_event Count [] p i ++ thread_work f next (place + 32)
 
--- the first of the eight bytes in which an event that counts saves rax
+-- the first of the eight bytes in which an event saves rax
 abbrev pub slot : Core → ℕ
 slot c = advanced (reg c rsp) (2 ^ 64 - 136)

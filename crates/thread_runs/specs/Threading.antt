@@ -1,27 +1,31 @@
 -- What was rewritten for a guest of several threads, and where a thread stands in it. Theorems cite it.
-use Rattle.std.specs.Prelude.{◌≡◌, ◌⊎◌, ℕ, zero, suc, ◌+◌, ◌==◌, ◌<◌, ◌≤◌, nat_le, nat_lt, Bool, true, false, not, ◌&&◌, ◌||◌, List, [], ◌∷◌, length, Option, Some, None, is_some, Contains}
+use Rattle.std.specs.Prelude.{◌≡◌, ◌⊎◌, ℕ, zero, suc, ◌+◌, ◌==◌, ◌<◌, ◌≤◌, nat_le, nat_lt, Bool, true, false, not, ◌&&◌, ◌||◌, if◌then◌else◌, List, [], ◌∷◌, length, Option, Some, None, is_some, Contains}
 use Rattle.std.specs.List.{list_any}
 use Rattle.pun_base.specs.Memory.{Bytes}
 use Rattle.pun_base.specs.declared.action.Base.{Base}
 use Rattle.pun_base.specs.declared.action.Base.TheVariants.{Cover, Count}
+use Rattle.pun_base.specs.declared.action.Comparison.{Comparison}
 use Rattle.length_decode.specs.Spelling.{Fields, IsInstruction, spelling}
 use Rattle.cpu_state.specs.declared.state.Core.{Core}
 use Rattle.cpu_state.specs.Bytes.{advanced, Stands}
 use Rattle.cpu_state.specs.Fixed.{IsFixed}
 use Rattle.insn_form.specs.Instruction.{insn_of}
+use Rattle.cond_action.specs.Conditions.{all_hold}
 use Rattle.start_entries.specs.declared.entry.StartEntry.{StartEntry}
 use Rattle.start_entries.specs.Leading.{JumpsTo}
 use Rattle.image_step.specs.Listed.{is_start, is_listed_byte}
-use Rattle.thread_runs.specs.ThreadCode.{mark_at, mark_len, event_len, code_if, slot}
+use Rattle.thread_runs.specs.ThreadCode.{mark_at, mark_len, marking_len, checking_len, is_saving, event_len, code_if, slot}
+use Rattle.thread_runs.specs.Event.{AreFew}
 use Rattle.trampoline.specs.Atomic.{thread_len}
 
--- a patched site: its number, its instruction, the first address of its trampoline, and the event with
--- which the trampoline begins, where it has one
+-- a patched site: its number, its instruction, the first address of its trampoline, the event with which the
+-- trampoline begins, where it has one, and the comparisons under which it marks, or none, where it always does
 pub record ThreadSite : Type 0 where
   pub number : ℕ
   pub entry : StartEntry
   pub place : ℕ
   pub event : Option Base
+  pub when : List Comparison
 
 -- the address after the instruction of a site
 abbrev pub next_of : ThreadSite → ℕ
@@ -29,7 +33,7 @@ next_of s = s.entry.addr + s.entry.len
 
 -- where the relocated code of a site begins: after the event, or at the place, where there is none
 abbrev pub work_at : ThreadSite → ℕ
-work_at s = s.place + event_len s.event
+work_at s = s.place + event_len s.event s.when
 
 -- what was patched: both images, the entry point, the listed starts, the patched sites, and the
 -- private range
@@ -69,30 +73,26 @@ pub data Part : Type 0 where
   Marked : Part
 
 -- how many bytes of the event stand before a part
-abbrev pub part_from : Part → Option Base → ℕ
-part_from Whole e = 0
-part_from Save e = 0
-part_from Saved e = 1
-part_from Marked (Some Cover) = 8
-part_from Marked (Some Count) = 21
-part_from Marked None = 0
+abbrev pub part_from : Part → Option Base → List Comparison → ℕ
+part_from Whole e cs = 0
+part_from Save e cs = 0
+part_from Saved e cs = 1
+part_from Marked (Some Cover) [] = 8
+part_from Marked (Some Cover) (c ∷ cs) = 12 + checking_len (c ∷ cs) + marking_len Cover
+part_from Marked (Some Count) cs = 12 + checking_len cs + marking_len Count
+part_from Marked None cs = 0
 
 -- how many stand before its end; a part that the event doesn't have is empty
-abbrev pub part_to : Part → Option Base → ℕ
-part_to Whole e = event_len e
-part_to Save (Some Cover) = 0
-part_to Save (Some Count) = 1
-part_to Save None = 0
-part_to Saved (Some Cover) = 0
-part_to Saved (Some Count) = 32
-part_to Saved None = 0
-part_to Marked (Some Cover) = 9
-part_to Marked (Some Count) = 33
-part_to Marked None = 0
+abbrev pub part_to : Part → Option Base → List Comparison → ℕ
+part_to Whole e cs = event_len e cs
+part_to Save e cs = if is_saving e cs then 1 else 0
+part_to Saved e cs = if is_saving e cs then event_len e cs else 0
+part_to Marked (Some b) cs = event_len (Some b) cs + 1
+part_to Marked None cs = 0
 
 -- the address is one of a part of the site's event
 abbrev pub is_part : Part → ℕ → ThreadSite → Bool
-is_part p x s = nat_le (s.place + part_from p s.event) x && nat_lt x (s.place + part_to p s.event)
+is_part p x s = nat_le (s.place + part_from p s.event s.when) x && nat_lt x (s.place + part_to p s.event s.when)
 
 -- an address of a site's event
 abbrev pub in_event : Threading → ℕ → Bool
@@ -106,20 +106,18 @@ saves r x = list_any (is_part Save x) r.sites
 abbrev pub has_saved : Threading → ℕ → Bool
 has_saved r x = list_any (is_part Saved x) r.sites
 
--- an address after the site's LOCK INC or store, up to the first instruction of the relocated code,
--- which makes the effect step
-abbrev pub is_counted : ThreadSite → ℕ → Bool
-is_counted s x = is_part Marked x s
+-- the condition of the site's event holds of registers
+abbrev pub is_met_by : ThreadSite → Core → Bool
+is_met_by s c = all_hold s.when c.regs
 
--- an event saves rax where it counts
-abbrev pub is_saving : Option Base → Bool
-is_saving (Some Count) = true
-is_saving (Some Cover) = false
-is_saving None = false
+-- an address after the site's LOCK INC or store, up to the first instruction of the relocated code, which
+-- makes the effect step, of a thread that came there with registers of which the condition holds: it marked
+abbrev pub is_counted : ThreadSite → ℕ → Core → Bool
+is_counted s x c = is_met_by s c && is_part Marked x s
 
 -- the address of a patched site whose event saves rax
 abbrev pub saves_at : Threading → ℕ → Bool
-saves_at r x = list_any (λ s. s.entry.addr == x && is_saving s.event) r.sites
+saves_at r x = list_any (λ s. s.entry.addr == x && is_saving s.event s.when) r.sites
 
 -- the site where the test holds, else the other option
 abbrev pub site_if : Bool → ThreadSite → Option ThreadSite → Option ThreadSite
@@ -136,7 +134,7 @@ abbrev pub is_one_of : ℕ → ℕ → ℕ → Bool
 is_one_of a zero x = false
 is_one_of a (suc n) x = (x == a) || is_one_of (advanced a 1) n x
 
--- x is one of the eight bytes in which an event that counts saves rax
+-- x is one of the eight bytes in which an event saves rax
 abbrev pub is_saved : Core → ℕ → Bool
 is_saved c x = is_one_of (slot c) 8 x
 
@@ -163,13 +161,14 @@ pub record IsThreadSite (r : Threading) (s : ThreadSite) : Type 0 where
   pub size : ℕ
   pub displaced : thread_len (insn_of fields) s.entry.len s.entry.addr ≡ Some size
   pub jump : JumpsTo r.patched s.entry.addr s.place ⊎ ByTwoJumps r s.entry.addr s.place
-  pub code : IsFixed r.patched s.place (code_if s.event r.private s.number fields (next_of s) s.place)
-  pub new : (x : ℕ) → s.place ≤ x → x < s.place + length (code_if s.event r.private s.number fields (next_of s) s.place) → is_new r x ≡ true
-  pub low : s.place + length (code_if s.event r.private s.number fields (next_of s) s.place) ≤ 0x7FFF1000
+  pub few : AreFew s.when
+  pub code : IsFixed r.patched s.place (code_if s.event s.when r.private s.number fields (next_of s) s.place)
+  pub new : (x : ℕ) → s.place ≤ x → x < s.place + length (code_if s.event s.when r.private s.number fields (next_of s) s.place) → is_new r x ≡ true
+  pub low : s.place + length (code_if s.event s.when r.private s.number fields (next_of s) s.place) ≤ 0x7FFF1000
 
 -- x is an address of the site's code
 abbrev pub is_code_of : (r : Threading) (s : ThreadSite) → IsThreadSite r s → ℕ → Type 0
-is_code_of r s h x = (s.place ≤ x) × (x < s.place + length (code_if s.event r.private s.number h.fields (next_of s) s.place))
+is_code_of r s h x = (s.place ≤ x) × (x < s.place + length (code_if s.event s.when r.private s.number h.fields (next_of s) s.place))
 
 -- The patched image is sound for threads.
 pub record IsThreadSound (r : Threading) : Type 0 where

@@ -23,10 +23,12 @@ pub record Watched : Type 0 where
   pub now : Thread
   pub projected : Thread
 
--- an effect step: the number of the thread, and the address of the original's instruction
+-- an effect step: the number of the thread, the address of the original's instruction, and the registers, flags
+-- and bases of the original's thread before it
 pub record EffectStep : Type 0 where
   pub thread : ℕ
   pub at : ℕ
+  pub core : Core
 
 -- a watched guest: its threads, its memory, the stale bytes and the effect steps
 pub record Watch : Type 0 where
@@ -90,7 +92,7 @@ stale_after r stale one f s x =
 
 -- the effect steps so far, with this step where it is one
 abbrev pub logged : Threading → ℕ → Watched → List EffectStep → List EffectStep
-logged r k one log = if is_effect r one.now.rip then log ++ record { thread = k; at = one.projected.rip } ∷ [] else log
+logged r k one log = if is_effect r one.now.rip then log ++ record { thread = k; at = one.projected.rip; core = one.projected.core } ∷ [] else log
 
 -- the watched guest after a step of thread k
 abbrev pub watched_after : Threading → ℕ → Watch → Watched → Fields → Machine → Watch

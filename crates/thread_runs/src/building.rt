@@ -1,17 +1,19 @@
-//! Trampolines for guests of several threads (Intel SDM, volume 2, MOV, LAHF, SETcc, INC, ADD, SAHF, PUSH, JMP).
-ghost use Rattle.std.specs.Prelude.{◌≡◌, ◌+◌, ◌≤◌, ◌<◌, ◌^◌, ◌++◌, false, length, IfOk, MatchResult, Some, None};
+//! Trampolines for guests of several threads (Intel SDM, volume 2, MOV, LAHF, SETcc, CMP, Jcc, INC, ADD, SAHF, PUSH, JMP).
+ghost use Rattle.std.specs.Prelude.{◌≡◌, ◌+◌, ◌≤◌, ◌<◌, ◌^◌, ◌++◌, ◌∷◌, [], false, length, IfOk, MatchResult, Some, None};
 ghost use Rattle.pun_base.specs.declared.action.Base.TheVariants.{Count};
+ghost use Rattle.pun_base.specs.Actions.{AreComparisons, listed};
 ghost use Rattle.pun_base.specs.Limits.{most_sites};
 ghost use Rattle.length_decode.specs.Spelling.{Fields, IsInstruction, spelling};
 ghost use Rattle.relocate_insn.specs.Relocating.{Spells};
+ghost use Rattle.cond_action.specs.Codes.{compare_code, failing};
 ghost use Rattle.trampoline.specs.Trampolines.{back_if};
-ghost use Rattle.thread_runs.specs.ThreadCode.{thread_code, thread_event, event_len, event_if, code_if, call_reg_code};
+ghost use Rattle.thread_runs.specs.ThreadCode.{thread_code, marking_code, marking_len, compare_with, compare_len, checking_len, checking_code, saving_event, thread_event, event_len, event_if, code_if, call_reg_code};
 ghost use Rattle.trampoline.specs.Atomic.{thread_len};
-ghost use Rattle.thread_runs.specs.Building.{target_spot, op_spot, called_spot, spot_register, call_register, work_by, thread_size, size_if};
+ghost use Rattle.thread_runs.specs.Building.{target_spot, op_spot, called_spot, spot_register, call_register, work_by, when_of, CanBeAsked, thread_size, size_if};
 
 use code_bytes::code::Code;
 use insn_form::{Insn, Op, Spot, Target};
-use pun_base::action::Base;
+use pun_base::action::{Base, CompareOp, Comparison, Comparisons};
 use pun_base::limits::{COUNTER_LEN, DATA_AT};
 use relocate_insn::writer::CodeWriter;
 use relocate_insn::{NotRelocatable, relocate};
@@ -55,12 +57,12 @@ fn operand_register(spot: Spot) -> Option<u8>
     }
 }
 
-/// Writes the event of site `number`, which counts or covers.
-fn put_thread_event(code: &mut CodeWriter, base: Base, private: u32, number: u32)
-    requires room { length code.old ≤ 60 }
+/// Writes MOV of 1 to the byte of site `number`, or LOCK INC of its counter.
+fn put_marking(code: &mut CodeWriter, base: Base, private: u32, number: u32)
+    requires room { length code.old + 9 ≤ 128 }
     requires number { number < most_sites }
     requires private { private < 0x7FFF0000 }
-    ensures { code.new ≡ code.old ++ thread_event base private number }
+    ensures { code.new ≡ code.old ++ marking_code base private number }
 {
     match base {
         Base::Cover => {
@@ -69,45 +71,225 @@ fn put_thread_event(code: &mut CodeWriter, base: Base, private: u32, number: u32
             code.put(&[1]);
         }
         Base::Count => {
-            code.put(&[0x48, 0x89, 0x84, 0x24, 0x78, 0xFF, 0xFF, 0xFF]);
-            code.put(&[0x9F, 0x0F, 0x90, 0xC0]);
             code.put(&[0xF0, 0x48, 0xFF, 0x04, 0x25]);
             code.put_address(private + DATA_AT + COUNTER_LEN * number);
-            code.put(&[0x04, 0x7F, 0x9E]);
-            code.put(&[0x48, 0x8B, 0x84, 0x24, 0x78, 0xFF, 0xFF, 0xFF]);
         }
     }
 }
 
-/// Writes the event of site `number`, where there is one.
-fn put_event_if(code: &mut CodeWriter, event: Option<Base>, private: u32, number: u32)
-    requires room { length code.old ≤ 28 }
-    requires number { number < most_sites }
-    requires private { private < 0x7FFF0000 }
-    ensures code { code.new ≡ code.old ++ event_if event private number }
-    ensures room { length code.new ≤ 60 }
+/// How many bytes this has.
+fn marking_size(base: Base) -> u8
+    ensures value { result ≡ marking_len base }
+    ensures few { result ≤ 9 }
 {
-    if let Some(base) = event {
-        put_thread_event(code, base, private, number);
+    match base {
+        Base::Cover => 8,
+        Base::Count => 9,
     }
 }
 
-/// Where the relocated code begins: after the event, or at the place, where there is none.
-fn work_place(event: Option<Base>, place: u32) -> u32
-    requires place { place + 32 < 0x7FFF0080 }
-    ensures place { result ≡ place + event_len event }
-    ensures low { result ≤ place + 32 }
+/// Writes CMP of a register with a number.
+fn put_register_compare(code: &mut CodeWriter, reg: u8, value: u32)
+    requires room { length code.old + 12 ≤ 128 }
+    requires reg { reg < 16 }
+    requires value { value < 2 ^ 31 }
+    ensures { code.new ≡ code.old ++ compare_code reg value }
+{
+    code.put(&[if reg < 8 { 0x48 } else { 0x49 }, 0x81, 0xF8 + reg % 8]);
+    code.put_address(value);
+}
+
+/// Writes CMP with a number: of a register, or, for rax, of the eight bytes in which it is saved.
+fn put_compare(code: &mut CodeWriter, reg: u8, value: u32)
+    requires room { length code.old + 12 ≤ 128 }
+    requires reg { reg < 16 }
+    requires value { value < 2 ^ 31 }
+    ensures { code.new ≡ code.old ++ compare_with reg value }
+{
+    if reg == 0 {
+        code.put(&[0x48, 0x81, 0xBC, 0x24, 0x78, 0xFF, 0xFF, 0xFF]);
+        code.put_address(value);
+    } else {
+        put_register_compare(code, reg, value);
+    }
+}
+
+/// The opcode of the short jump that is taken where a comparison fails: `jne`, `je`, `jae`, `ja`, `jbe`, `jb`.
+fn failing_jump(op: CompareOp) -> u8
+    ensures { result ≡ 0x70 + failing op }
+{
+    match op {
+        CompareOp::Eq => 0x75,
+        CompareOp::Ne => 0x74,
+        CompareOp::Lt => 0x73,
+        CompareOp::Le => 0x77,
+        CompareOp::Gt => 0x76,
+        CompareOp::Ge => 0x72,
+    }
+}
+
+/// Writes a comparison, and a short jump over so many bytes where it fails.
+fn put_check(code: &mut CodeWriter, one: Comparison, over: u8)
+    requires room { length code.old + 14 ≤ 128 }
+    requires reg { one.reg < 16 }
+    requires value { one.value < 2 ^ 31 }
+    ensures { code.new ≡ code.old ++ (compare_with one.reg one.value ++ ((0x70 + failing one.op) ∷ over ∷ [])) }
+{
+    put_compare(code, one.reg, one.value);
+    code.put(&[failing_jump(one.op), over]);
+}
+
+/// How many bytes a comparison has with its jump.
+fn check_size(one: Comparison) -> u8
+    ensures value { result ≡ compare_len one.reg + 2 }
+    ensures few { result ≤ 14 }
+{
+    match one.reg {
+        0 => 14,
+        _ => 9,
+    }
+}
+
+/// Writes the comparisons, each with a jump over those behind it and so many bytes more.
+fn put_checks(code: &mut CodeWriter, list: Comparisons, more: u8)
+    requires room { length code.old + 42 ≤ 128 }
+    requires list { AreComparisons (listed list) }
+    requires more { more ≤ 9 }
+    ensures { code.new ≡ code.old ++ checking_code (listed list) more }
+{
+    match list {
+        Comparisons::One(a) => put_check(code, a, more),
+        Comparisons::Two(a, b) => {
+            put_check(code, a, check_size(b) + more);
+            put_check(code, b, more);
+        }
+        Comparisons::Three(a, b, c) => {
+            let last = check_size(c) + more;
+            put_check(code, a, check_size(b) + last);
+            put_check(code, b, last);
+            put_check(code, c, more);
+        }
+    }
+}
+
+/// Writes the comparisons of a condition, where there is one.
+fn put_condition(code: &mut CodeWriter, when: Option<Comparisons>, more: u8)
+    requires room { length code.old + 42 ≤ 128 }
+    requires when { CanBeAsked when }
+    requires more { more ≤ 9 }
+    ensures code { code.new ≡ code.old ++ checking_code (when_of when) more }
+    ensures room { length code.new ≤ length code.old + 42 }
+{
+    if let Some(list) = when {
+        put_checks(code, list, more);
+    }
+}
+
+/// Writes an event of site `number` that saves rax and the flags.
+fn put_saving_event(
+    code: &mut CodeWriter,
+    base: Base,
+    when: Option<Comparisons>,
+    private: u32,
+    number: u32,
+)
+    requires room { length code.old ≤ 6 }
+    requires when { CanBeAsked when }
+    requires number { number < most_sites }
+    requires private { private < 0x7FFF0000 }
+    ensures { code.new ≡ code.old ++ saving_event base (when_of when) private number }
+{
+    code.put(&[0x48, 0x89, 0x84, 0x24, 0x78, 0xFF, 0xFF, 0xFF]);
+    code.put(&[0x9F, 0x0F, 0x90, 0xC0]);
+    put_condition(code, when, marking_size(base));
+    put_marking(code, base, private, number);
+    code.put(&[0x04, 0x7F, 0x9E]);
+    code.put(&[0x48, 0x8B, 0x84, 0x24, 0x78, 0xFF, 0xFF, 0xFF]);
+}
+
+/// Writes the event of site `number`, which counts or covers, where its condition holds.
+fn put_thread_event(
+    code: &mut CodeWriter,
+    base: Base,
+    when: Option<Comparisons>,
+    private: u32,
+    number: u32,
+)
+    requires room { length code.old ≤ 6 }
+    requires when { CanBeAsked when }
+    requires number { number < most_sites }
+    requires private { private < 0x7FFF0000 }
+    ensures { code.new ≡ code.old ++ thread_event base (when_of when) private number }
+{
+    match when {
+        None => match base {
+            Base::Cover => put_marking(code, base, private, number),
+            Base::Count => put_saving_event(code, base, None, private, number),
+        },
+        Some(list) => put_saving_event(code, base, Some(list), private, number),
+    }
+}
+
+/// Writes the event of site `number`, where there is one.
+fn put_event_if(
+    code: &mut CodeWriter,
+    event: Option<Base>,
+    when: Option<Comparisons>,
+    private: u32,
+    number: u32,
+)
+    requires room { length code.old ≤ 2 }
+    requires when { CanBeAsked when }
+    requires number { number < most_sites }
+    requires private { private < 0x7FFF0000 }
+    ensures code { code.new ≡ code.old ++ event_if event (when_of when) private number }
+    ensures room { length code.new ≤ 76 }
+{
+    if let Some(base) = event {
+        put_thread_event(code, base, when, private, number);
+    }
+}
+
+/// How many bytes the comparisons have.
+fn checks_size(list: Comparisons) -> u32
+    ensures value { result ≡ checking_len (listed list) }
+    ensures few { result ≤ 42 }
+{
+    match list {
+        Comparisons::One(a) => u32::from(check_size(a)),
+        Comparisons::Two(a, b) => u32::from(check_size(a) + check_size(b)),
+        Comparisons::Three(a, b, c) => u32::from(check_size(a) + check_size(b) + check_size(c)),
+    }
+}
+
+/// How many bytes an event has that marks where its condition holds.
+fn marked_size(base: Base, when: Option<Comparisons>) -> u32
+    ensures value { result ≡ event_len (Some base) (when_of when) }
+    ensures few { result ≤ 74 }
+{
+    match when {
+        None => match base {
+            Base::Cover => 8,
+            Base::Count => 32,
+        },
+        Some(list) => 23 + u32::from(marking_size(base)) + checks_size(list),
+    }
+}
+
+/// How many bytes the event of a trampoline has.
+fn event_size(event: Option<Base>, when: Option<Comparisons>) -> u32
+    ensures value { result ≡ event_len event (when_of when) }
+    ensures few { result ≤ 74 }
 {
     match event {
-        Some(Base::Cover) => place + 8,
-        Some(Base::Count) => place + 32,
-        None => place,
+        None => 0,
+        Some(base) => marked_size(base, when),
     }
 }
 
 /// Writes a call through a register: PUSH, a jump, and NOPs up to 39 bytes.
 fn put_call_register(code: &mut CodeWriter, register: u8, next: u32)
-    requires room { length code.old ≤ 60 }
+    requires room { length code.old ≤ 80 }
     ensures { code.new ≡ code.old ++ call_reg_code register next }
 {
     code.put_push(next);
@@ -148,7 +330,7 @@ fn register_of(insn: &Insn) -> Result<Option<u8>, NotRelocatable>
 /// Writes the code after the event: the relocated code and the jump back, or the call through a
 /// register.
 fn put_work(code: &mut CodeWriter, register: Option<u8>, work: &Code, to: u32, next: u32)
-    requires room { length code.old ≤ 60 }
+    requires room { length code.old ≤ 76 }
     requires few { length work.now.bytes ≤ 46 }
     requires to { to + 46 < 2 ^ 31 }
     ensures { code.new ≡ code.old ++ work_by register work.now.bytes work.now.falls to next }
@@ -164,13 +346,14 @@ fn put_work(code: &mut CodeWriter, register: Option<u8>, work: &Code, to: u32, n
 }
 
 /// The trampoline at `place`, for a guest of several threads, of the instruction of these bytes at
-/// `from`: the event of site `number`, which counts or covers, or, for a victim, none, the relocated code,
-/// and a jump to the address after the instruction exactly where the relocated code falls through.
+/// `from`: the event of site `number`, which counts or covers where its condition holds, or, for a victim,
+/// none, the relocated code, and a jump to the address after the instruction exactly where the relocated code falls through.
 ///
 /// The private range begins at `private`. `NotRelocatable` comes exactly where `displaced_len` is
 /// `None` or the instruction is an indirect call through memory or through rsp.
 pub fn thread_trampoline(
     event: Option<Base>,
+    when: Option<Comparisons>,
     insn: &Insn,
     bytes: &[u8],
     from: u32,
@@ -180,25 +363,26 @@ pub fn thread_trampoline(
 ) -> Result<Code, NotRelocatable>
     requires spelled { Spells bytes.now insn.now }
     requires from { from + length bytes.now ≤ 0x7FFF0000 }
-    requires place { place + 32 < 0x7FFF0080 }
+    requires when { CanBeAsked when }
+    requires place { place + event_len event (when_of when) < 0x7FFF0080 }
     requires private { private < 0x7FFF0000 }
     requires number { number < most_sites }
     ensures code { (f : Fields) → IsInstruction f → bytes.now ≡ spelling f
-        → IfOk result (λ c. c.bytes ≡ code_if event private number f (from + length bytes.now) place) }
+        → IfOk result (λ c. c.bytes ≡ code_if event (when_of when) private number f (from + length bytes.now) place) }
     ensures falls { IfOk result (λ c. c.falls ≡ false) }
-    ensures size { MatchResult result (λ c. size_if event insn.now (length bytes.now) from
+    ensures size { MatchResult result (λ c. size_if event (when_of when) insn.now (length bytes.now) from
         ≡ Some (length c.bytes)) (λ _. thread_len insn.now (length bytes.now) from ≡ None) }
 {
-    let to = work_place(event, place);
+    let to = place + event_size(event, when);
     let work = relocate(insn, bytes, from, to, private)?;
     let register = register_of(insn)?;
     let mut code = CodeWriter::new();
-    put_event_if(&mut code, event, private, number);
+    put_event_if(&mut code, event, when, private, number);
     put_work(&mut code, register, &work, to, from + bytes.len() as u32);
     Ok(code.code(false))
 }
 
-/// The trampoline of a site that counts: `thread_trampoline` with the event of site `number`.
+/// The trampoline of a site that counts under no condition: `thread_trampoline` with this event of site `number`.
 pub fn thread_build(
     insn: &Insn,
     bytes: &[u8],
@@ -218,5 +402,14 @@ pub fn thread_build(
     ensures size { MatchResult result (λ c. thread_size insn.now (length bytes.now) from
         ≡ Some (length c.bytes)) (λ _. thread_len insn.now (length bytes.now) from ≡ None) }
 {
-    thread_trampoline(Some(Base::Count), insn, bytes, from, place, number, private)
+    thread_trampoline(
+        Some(Base::Count),
+        None,
+        insn,
+        bytes,
+        from,
+        place,
+        number,
+        private,
+    )
 }

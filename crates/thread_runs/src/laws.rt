@@ -1,6 +1,7 @@
 //! What holds of runs of several threads, and of single steps of theirs.
 ghost use Rattle.thread_runs.specs.Event.{IsEventStep, EventGoes, IsSavedBack, IsCoverStep, CoverGoes};
 ghost use Rattle.thread_runs.specs.Alone.{EventCountsAlone};
+ghost use Rattle.thread_runs.specs.WorkedConditions.{ConditionsAreWorked};
 ghost use Rattle.thread_runs.specs.ThreadSteps.{IsThreadStep};
 ghost use Rattle.thread_runs.specs.Work.{IsEffectStep, IsTailStep};
 ghost use Rattle.thread_runs.specs.Theorem.{ThreadsAreFollowed};
@@ -10,24 +11,29 @@ ghost use Rattle.thread_runs.specs.EachRun.{EachRunIsWatched};
 ghost use Rattle.thread_runs.specs.Running.{RunsOneWay};
 ghost use Rattle.thread_runs.specs.StepLaws.{WorkTouches, WorkLong, HoldsSlot, SavesHeld, TailTouches, TailInside, WorkedCore, LeadsTold, NotLocked, StepLaws};
 
-/// In an event that counts each step does what its instruction does, and where the saved bytes and the
-/// counter can be read and written there is such a step.
+/// In an event that saves rax, under a condition or under none, each step does what its instruction does, and
+/// where the saved bytes and what is marked can be read and written there is such a step.
 pub fn event_steps()
     ensures step { IsEventStep }
     ensures goes { EventGoes }
     ensures saved { IsSavedBack }
 {}
 
-/// The step of an event that covers makes the site's byte 1 and changes nothing else, and where that byte
+/// The step of an event that covers under no condition makes the site's byte 1 and changes nothing else, and where that byte
 /// can be written there is this step.
 pub fn cover_steps()
     ensures step { IsCoverStep }
     ensures goes { CoverGoes }
 {}
 
-/// The event that counts, of a thread that runs alone, adds one to its counter, and leaves all else as it was.
+/// The event that counts under no condition, of a thread that runs alone, adds one to its counter, and leaves all else as it was.
 pub fn event_counts_alone()
     ensures { EventCountsAlone }
+{}
+
+/// Events under a condition, worked out: their bytes, and where their jumps lead.
+pub fn worked_conditions()
+    ensures { ConditionsAreWorked }
 {}
 
 /// An instruction that isn't LOCK INC is a thread's step as it is a single processor's.
@@ -69,7 +75,7 @@ pub fn each_run()
 {}
 
 /// In each interleaved run that meets the premises the patched guest runs as the original does, and counts
-/// or covers.
+/// or covers the effect steps at which the condition of their site held.
 pub fn threads_step()
     ensures { ThreadsAreFollowed }
 {}

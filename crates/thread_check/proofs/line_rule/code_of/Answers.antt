@@ -1,12 +1,16 @@
-use Rattle.std.proofs.Common.{ap, refl, ◌∙◌}
+use Rattle.std.proofs.Common.{[], ap, refl, ◌∙◌, arith}
 use Rattle.site_turns.specs.Modes.{thread_base, thread_event_of}
 use Rattle.image_check.specs.Parts.{line_of}
 use Rattle.image_check.specs.Verdict.{case_of}
+use Rattle.thread_runs.proofs.ThreadTrampolines.{event_few}
 use Rattle.thread_check.proofs.BuiltCode.{built, not_built, not_known}
 use Rattle.thread_check.proofs.line_rule.code_of.Goals as goal
 
 pub returns-in_default : goal.returns-in_default
 returns-in_default c = λ p. not_known (case_of c.args.orig.now.bytes p c.args.starts.now c.args.report.now.body) (line_of c.args.line.now) c.in_default.ensures.at
+
+pub thread_trampoline-requires-clause-place : goal.thread_trampoline-requires-clause-place
+thread_trampoline-requires-clause-place c = let n = event_few c.thread_event_of.result [] (omega arith) in omega (arith, n)
 
 pub returns-in-Ok : goal.returns-in-Ok
 returns-in-Ok c = λ p.

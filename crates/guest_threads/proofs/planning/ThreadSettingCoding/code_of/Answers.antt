@@ -1,11 +1,16 @@
+use Rattle.std.proofs.Common.{[], arith}
 use Rattle.site_turns.specs.Turned.{line_at}
 use Rattle.site_turns.proofs.TrampolineCodes.{taken_len}
+use Rattle.thread_runs.proofs.ThreadTrampolines.{event_few}
 use Rattle.guest_threads.proofs.PlanCodes.{built_ok, form_known, has_code}
 use Rattle.guest_threads.proofs.planning.ThreadSettingCoding.code_of.Goals as goal
 
 pub unreachable-requires : goal.unreachable-requires
 unreachable-requires c =
     form_known c.args.self.now.starts.now c.args.tramp.now.start c.requires.listed c.requires.can c.in_default.ensures.at
+
+pub thread_trampoline-requires-clause-place : goal.thread_trampoline-requires-clause-place
+thread_trampoline-requires-clause-place c = let n = event_few c.thread_event_of.result [] (omega arith) in omega (arith, n)
 
 pub unwrap-requires : goal.unwrap-requires
 unwrap-requires c =

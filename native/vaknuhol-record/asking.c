@@ -39,8 +39,7 @@ static uint64_t value_of(ZydisRegister reg, struct user_regs_struct *regs) {
     return *slot(regs, ZydisRegisterGetId(ZydisRegisterGetLargestEnclosing(ZYDIS_MACHINE_MODE_LONG_64, reg)));
 }
 
-/* The address of a memory operand, with the bit offset of bt, bts, btr and btc. */
-static uint64_t address_of(const struct decoded *insn, const ZydisDecodedOperand *operand, struct user_regs_struct *regs) {
+uint64_t address_of(const struct decoded *insn, const ZydisDecodedOperand *operand, struct user_regs_struct *regs) {
     int rip = operand->mem.base == ZYDIS_REGISTER_RIP || operand->mem.base == ZYDIS_REGISTER_EIP;
     uint64_t addr = rip ? insn->rip + insn->insn.length : value_of(operand->mem.base, regs);
     addr += value_of(operand->mem.index, regs) * operand->mem.scale + operand->mem.disp.value;
@@ -90,4 +89,15 @@ int question_of(const struct decoded *decoded, uint8_t bytes[MOST_BYTES], uint64
     memset(bytes + insn->raw.disp.offset, 0, 4);
     *names = decoded->rip + insn->length + insn->raw.disp.value;
     return 1;
+}
+
+void hide_evex(const struct user_regs_struct *before, struct user_regs_struct *after) {
+    if ((uint32_t)before->rax != 7)
+        return;
+    if ((uint32_t)before->rcx == 0) {
+        after->rbx &= ~(uint64_t)0xdc230000;
+        after->rcx &= ~(uint64_t)0x5842;
+        after->rdx &= ~(uint64_t)0x80010c;
+    } else
+        after->rax &= ~(uint64_t)0x20, after->rdx &= ~(uint64_t)0x80000;
 }

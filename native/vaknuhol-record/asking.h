@@ -38,6 +38,12 @@ int repeats_string(const struct decoded *insn);
 /* A register by its number in instructions. */
 unsigned long long *slot(struct user_regs_struct *regs, int number);
 
+/* The address of a memory operand, with the bit offset of bt, bts, btr and btc. */
+uint64_t address_of(const struct decoded *insn, const ZydisDecodedOperand *operand, struct user_regs_struct *regs);
+
+/* Takes AVX-512 out of what CPUID answers. */
+void hide_evex(const struct user_regs_struct *before, struct user_regs_struct *after);
+
 /* Where an asked instruction may write, with a margin, if it is no system call; how many spans there are. */
 int spans_of(const struct decoded *insn, struct user_regs_struct *regs, struct span spans[MOST_SPANS]);
 

@@ -64,14 +64,9 @@ static void put_right(const struct decoded *insn, const struct user_regs_struct 
         }
     } else if (name == ZYDIS_MNEMONIC_SYSCALL)
         after->r11 = before->eflags;
-    else if (name == ZYDIS_MNEMONIC_CPUID && !keeps_evex && (uint32_t)before->rax == 7) {
-        if ((uint32_t)before->rcx == 0) {
-            after->rbx &= ~(uint64_t)0xdc230000;
-            after->rcx &= ~(uint64_t)0x5842;
-            after->rdx &= ~(uint64_t)0x80010c;
-        } else
-            after->rax &= ~(uint64_t)0x20, after->rdx &= ~(uint64_t)0x80000;
-    } else
+    else if (name == ZYDIS_MNEMONIC_CPUID && !keeps_evex)
+        hide_evex(before, after);
+    else
         return;
     set_regs(after);
 }

@@ -24,6 +24,8 @@ NEEDS = {
     "vaknuhol-list": Needs(("-lZydis",), "libzydis-dev"),
     "vaknuhol-step": Needs(("-lZydis",), "libzydis-dev"),
     "vaknuhol-record": Needs(("-lZydis",), "libzydis-dev", ("vaknuhol-list/classes", "vaknuhol-list/front")),
+    "vaknuhol-judge": Needs(("-lZydis",), "libzydis-dev", ("vaknuhol-list/classes", "vaknuhol-list/front",
+                                                          "vaknuhol-list/spelling", "vaknuhol-record/asking")),
     "vaknuhol-lines": Needs(("-ldw", "-lelf"), "libdw-dev"),
     "vaknuhol-run": Needs(("-static",), "libc6-dev"),
 }

@@ -5,6 +5,8 @@ It prints four lines: how long the run is; whether it met the premises of the th
 whether processor and model agree; whether original and patched file look alike at the outside state of the same number.
 The program runs once, as it is, with its own input and output; handlers of its signals are entered and left again.
 Sites are all direct jumps, if nothing else is chosen; they are covered, or recorded as --count, --ring and --when say.
+With --threads the program is patched for threads, and all its threads are stepped in turn. Then one line is printed:
+whether the run met the premises of their theorem, or which step broke one, of which thread, at which address.
 The exit status is 0 if all is well, otherwise 1.
 """
 import argparse
@@ -16,6 +18,7 @@ import tempfile
 from vaknuhol.arguments import Refusal, Words
 from vaknuhol.messages import progress
 from vaknuhol.outputs import write_whole
+from vaknuhol.program.listing import Listing
 from vaknuhol.recording.action_options import action_of_words, add_action
 from vaknuhol.recording.block_choice import add_choices, read_program
 from vaknuhol.recording.patch_report import Report
@@ -23,6 +26,8 @@ from vaknuhol.recording.patching import RESERVES, find_tool, list_text
 from vaknuhol.recording.replay import MOST_STEPS, Steps, agreement, likeness, likeness_at, premises
 from vaknuhol.recording.run_path import PatchedSteps
 from vaknuhol.recording.run_recorder import RecordedRun, record, reserves, write_with_dues
+from vaknuhol.recording.thread_run import judge
+from vaknuhol.recording.thread_use import NO_RING
 
 
 def parse() -> argparse.Namespace:
@@ -36,24 +41,28 @@ def parse() -> argparse.Namespace:
                         help="keep the processor's state after each N steps (1000)")
     parser.add_argument("--evex", action="store_true", help="let the program see AVX-512, if the processor has it")
     parser.add_argument("--full", action="store_true", help="compare all memory at each asked instruction (slow)")
+    parser.add_argument("--threads", action="store_true",
+                        help="step all threads of the program as patched for threads, and judge their run")
     parser.add_argument("--keep", metavar="FOLDER",
                         help="leave the files in this folder: world, states, path, starts, sites, patched, report, "
-                             "patched-world")
+                             "patched-world; with --threads facts and result")
     words = parser.parse_args()
     words.action = action_of_words(parser, words)
     words.jumps = words.jumps or not (words.functions or words.blocks or words.symbols)
     if not 1 <= words.steps <= MOST_STEPS or words.every < 1:
         parser.error(f"--steps is from 1 to {MOST_STEPS}, and --every from 1 on")
+    if words.threads and (words.action.is_ring or not words.action.of_all):
+        parser.error(f"--threads: {NO_RING}")
     words.program = os.path.realpath(shutil.which(words.program, mode=os.F_OK) or words.program)
     return words
 
 
-def list_starts(words: argparse.Namespace, folder: str) -> frozenset[int]:
-    """Writes the starts and the chosen sites; the starts."""
+def list_starts(words: argparse.Namespace, folder: str) -> Listing:
+    """Writes the starts and the chosen sites; the listing."""
     _, listing, blocks = read_program(words, words.action)
     write_whole({f"{folder}/sites": list_text(sorted(block.site for block in blocks)),
                  f"{folder}/starts": listing.starts_text()})
-    return listing.starts
+    return listing
 
 
 def patch(e9tool: str, words: argparse.Namespace, folder: str) -> tuple[int, int]:
@@ -92,7 +101,10 @@ def compare(words: argparse.Namespace, folder: str, original: Steps, starts: fro
 
 
 def replay(words: argparse.Namespace, folder: str) -> int:
-    e9tool, starts = find_tool(), list_starts(words, folder)
+    e9tool, listing = find_tool(), list_starts(words, folder)
+    if words.threads:
+        return judge(words, listing, folder)
+    starts = listing.starts
     recorded = record(words.program, words, folder)
     ended, whole = recorded.how_it_ended()
     sites = patch(e9tool, words, folder)

@@ -1,0 +1,190 @@
+#include "facts.h"
+
+#include <elf.h>
+#include <stdio.h>
+#include <stdlib.h>
+#include <string.h>
+
+#include "spelling.h"
+#include "threads.h"
+
+enum { PAGE = 4096, PAGES = 1 << 18, MOST_SEGMENTS = 64, SCRATCH = 64, SAVED_FROM = 1 };
+
+static struct {
+    uint64_t page;
+    uint16_t *marks;
+} pages[PAGES];
+static struct {
+    uint64_t lo, hi;
+    uint8_t *bytes;
+} code[MOST_SEGMENTS];
+static int code_count;
+static struct site *sites;
+static size_t count, room;
+static uint64_t private_at;
+static struct told told;
+
+/* The marks of a page's addresses; without `made` none where there are none yet. */
+static uint16_t *page_marks(uint64_t page, int made) {
+    size_t at = (page * 0x9e3779b97f4a7c15) >> 46, tries = 0;
+    for (; pages[at].marks; at = (at + 1) % PAGES, tries++)
+        if (pages[at].page == page)
+            return pages[at].marks;
+    if (!made)
+        return 0;
+    if (tries > PAGES / 2 || !(pages[at].marks = calloc(PAGE, sizeof(uint16_t))))
+        die("no memory");
+    pages[at].page = page;
+    return pages[at].marks;
+}
+
+unsigned marks_of(uint64_t addr) {
+    uint16_t *marks = page_marks(addr / PAGE, 0);
+    return marks ? marks[addr % PAGE] : 0;
+}
+
+void set_marks(uint64_t addr, unsigned bits) {
+    page_marks(addr / PAGE, 1)[addr % PAGE] |= bits;
+}
+
+/* The end of the page of an address, or an end before it. */
+static uint64_t page_end(uint64_t addr, uint64_t hi) {
+    uint64_t end = (addr / PAGE + 1) * PAGE;
+    return end && end < hi ? end : hi;
+}
+
+void clear_marks(uint64_t lo, uint64_t hi, unsigned bits) {
+    for (uint64_t end; lo < hi; lo = end) {
+        uint16_t *marks = page_marks(lo / PAGE, 0);
+        end = page_end(lo, hi);
+        for (; marks && lo < end; lo++)
+            marks[lo % PAGE] &= ~bits;
+    }
+}
+
+uint64_t first_marked(uint64_t lo, uint64_t hi, unsigned bits) {
+    for (uint64_t end; lo < hi; lo = end) {
+        uint16_t *marks = page_marks(lo / PAGE, 0);
+        end = page_end(lo, hi);
+        for (; marks && lo < end; lo++)
+            if (marks[lo % PAGE] & bits)
+                return lo;
+    }
+    return hi;
+}
+
+struct site *site_at(uint64_t addr) {
+    size_t low = 0, high = count;
+    while (high - low > 1) {
+        size_t middle = (low + high) / 2;
+        *(sites[middle].place <= addr ? &low : &high) = middle;
+    }
+    return count && sites[low].place <= addr && addr <= sites[low].place + sites[low].event ? &sites[low] : 0;
+}
+
+const struct told *told_to_original(void) {
+    return &told;
+}
+
+struct site *site_number(size_t number) {
+    return &sites[number];
+}
+
+size_t site_count(void) {
+    return count;
+}
+
+uint64_t mark_address(const struct site *site) {
+    return private_at + SCRATCH + site->number * (site->event == COUNTING ? 8 : 1);
+}
+
+int original_code(uint64_t addr, uint8_t bytes[LONGEST]) {
+    for (int at = 0; at < code_count; at++)
+        if (code[at].lo <= addr && addr < code[at].hi) {
+            uint64_t length = code[at].hi - addr < LONGEST ? code[at].hi - addr : LONGEST;
+            memcpy(bytes, code[at].bytes + (addr - code[at].lo), length);
+            return (int)length;
+        }
+    return 0;
+}
+
+/* The bytes that the file has of the segments that can be executed and not written. */
+static void read_original(const char *path) {
+    Elf64_Ehdr head;
+    Elf64_Phdr entry;
+    FILE *file = fopen(path, "r");
+    if (!file || fread(&head, sizeof head, 1, file) != 1)
+        die("the original can't be read");
+    for (int at = 0; at < head.e_phnum && code_count < MOST_SEGMENTS; at++) {
+        if (fseek(file, (long)(head.e_phoff + at * sizeof entry), SEEK_SET) || fread(&entry, sizeof entry, 1, file) != 1)
+            die("the original can't be read");
+        if (entry.p_type != PT_LOAD || !(entry.p_flags & PF_X) || entry.p_flags & PF_W || !entry.p_filesz)
+            continue;
+        uint8_t *bytes = malloc(entry.p_filesz);
+        if (!bytes || fseek(file, (long)entry.p_offset, SEEK_SET) || fread(bytes, entry.p_filesz, 1, file) != 1)
+            die("the original can't be read");
+        code[code_count].lo = entry.p_vaddr, code[code_count].hi = entry.p_vaddr + entry.p_filesz;
+        code[code_count++].bytes = bytes;
+    }
+    fclose(file);
+}
+
+static void add_site(struct site site) {
+    if (count == room && !(sites = realloc(sites, (room = 2 * room + 64) * sizeof *sites)))
+        die("no memory");
+    sites[count++] = site;
+    set_marks(site.addr, SITE);
+    set_marks(site.place + site.event, WORK);
+    for (uint64_t at = 0; at < site.event; at++)
+        set_marks(site.place + at, EVENT | (site.event == COUNTING ? at < SAVED_FROM ? SAVES : HAS_SAVED : 0));
+}
+
+/* Marks the bytes of the listed instructions, once all starts are known: one of unknown length reaches to the next start at most. */
+static void mark_listed(const uint64_t *starts, size_t starts_count) {
+    uint8_t bytes[LONGEST];
+    for (size_t at = 0; at < starts_count; at++) {
+        int have = original_code(starts[at], bytes), length = spelled_length(bytes, have);
+        if (length)
+            set_marks(starts[at], KNOWN);
+        else
+            length = at + 1 < starts_count && starts[at + 1] - starts[at] < (uint64_t)have ? (int)(starts[at + 1] - starts[at]) : have;
+        set_marks(starts[at], START);
+        for (int byte = 0; byte < length; byte++)
+            set_marks(starts[at] + byte, LISTED);
+    }
+}
+
+static int by_place(const void *a, const void *b) {
+    uint64_t one = ((const struct site *)a)->place, other = ((const struct site *)b)->place;
+    return (one > other) - (one < other);
+}
+
+void read_facts(const char *original, const char *facts) {
+    char line[128];
+    uint64_t *starts = 0, lo, hi;
+    size_t starts_count = 0, starts_room = 0;
+    FILE *file = fopen(facts, "r");
+    if (!file)
+        die("the facts can't be read");
+    read_original(original);
+    while (fgets(line, sizeof line, file)) {
+        struct site site = { 0 };
+        if (sscanf(line, "start %lx", &lo) == 1) {
+            if (starts_count == starts_room && !(starts = realloc(starts, (starts_room = 2 * starts_room + 4096) * sizeof *starts)))
+                die("no memory");
+            starts[starts_count++] = lo;
+        } else if (sscanf(line, "new %lx %lx", &lo, &hi) == 2)
+            for (; lo < hi; lo++)
+                set_marks(lo, NEW);
+        else if (sscanf(line, "site %lx %lx %lu %lu", &site.addr, &site.place, &site.number, &site.event) == 4)
+            add_site(site);
+        else if (sscanf(line, "private %lx", &private_at) != 1 &&
+                 sscanf(line, "told %lx %lu %lx", &told.headers_at, &told.header_count, &told.entry) != 3)
+            die("the facts can't be read");
+    }
+    fclose(file);
+    mark_listed(starts, starts_count);
+    free(starts);
+    if (count)
+        qsort(sites, count, sizeof *sites, by_place);
+}

@@ -1,0 +1,280 @@
+#define _GNU_SOURCE
+#include "judge.h"
+
+#include <stdarg.h>
+#include <stdio.h>
+#include <string.h>
+#include <ucontext.h>
+
+enum { BELOW_STACK = 136, SAVED = 8, RED_ZONE = 128, COUNTED_FROM = 21 };
+
+/* An instruction and what it touched. */
+struct touched {
+    enum work work;
+    int count;
+    struct access accesses[MOST_ACCESSES];
+};
+
+struct judged judged;
+static ZydisDecoder decoder;
+
+void prepare_decoder(void) {
+    ZydisDecoderInit(&decoder, ZYDIS_MACHINE_MODE_LONG_64, ZYDIS_STACK_WIDTH_64);
+}
+
+int decode_bytes(struct decoded *insn, uint64_t rip, const uint8_t *bytes, size_t size) {
+    memcpy(insn->bytes, bytes, size);
+    insn->rip = rip;
+    if (!size || ZYAN_FAILED(ZydisDecoderDecodeFull(&decoder, insn->bytes, size, &insn->insn, insn->operands)))
+        return 0;
+    insn->kind = class_of(insn->bytes, insn->insn.length, &insn->shifts);
+    return 1;
+}
+
+uint64_t saved_at(const struct user_regs_struct *regs) {
+    return regs->rsp - BELOW_STACK;
+}
+
+int breaks(const struct thread *thread, const char *form, ...) {
+    char what[160];
+    va_list values;
+    if (*judged.broken)
+        return 0;
+    va_start(values, form);
+    vsnprintf(what, sizeof what, form, values);
+    va_end(values);
+    snprintf(judged.broken, sizeof judged.broken, "step %lu, of thread %d, at %08lx, %s", judged.steps, thread->number,
+             thread->is_behind ? (uint64_t)thread->regs.rip : thread->projected, what);
+    return 0;
+}
+
+int is_outside(const struct thread *thread) {
+    return !thread->is_behind && thread->projected == thread->regs.rip && marks_of(thread->projected) & START;
+}
+
+static const char *kind_of(uint64_t addr) {
+    return marks_of(addr) & NEW ? "a new address, of the patch alone" : "a byte of a listed instruction";
+}
+
+static void note_unknown(int call) {
+    for (int at = 0; at < judged.unknown_count; at++)
+        if (judged.unknown[at] == call)
+            return;
+    if (judged.unknown_count < MOST_UNKNOWN)
+        judged.unknown[judged.unknown_count++] = call;
+}
+
+/* A step whose answer may depend on what it reads. */
+static void note_answer(const struct thread *thread) {
+    if (!judged.noted++)
+        judged.noted_first = thread->is_behind ? (uint64_t)thread->regs.rip : thread->projected;
+}
+
+static struct touched touched_by(const struct decoded *insn, struct thread *thread, const struct user_regs_struct *after) {
+    struct touched it = { .work = work_of(insn) };
+    ZydisInstructionCategory category = insn->insn.meta.category;
+    if (enters_kernel(insn)) {
+        it.count = is_syscall(insn) ? answer_accesses(&thread->call, (int64_t)after->rax, it.accesses) : -1;
+        if (it.count < 0)
+            note_unknown(is_syscall(insn) ? (int)thread->call.regs.rax : -1);
+    } else if (category != ZYDIS_CATEGORY_NOP && category != ZYDIS_CATEGORY_WIDENOP)
+        it.count = accesses_of(insn, &thread->regs, after, it.accesses);
+    return it;
+}
+
+/* The thread that stands between save and restore, other than this one, of whose saved bytes one lies in a range. */
+static const struct thread *other_saved(const struct thread *thread, uint64_t lo, uint64_t hi) {
+    for (int at = 0; at < thread_count(); at++) {
+        const struct thread *other = thread_number(at);
+        uint64_t saved = saved_at(&other->regs);
+        if (other != thread && other->state != GONE && marks_of(other->regs.rip) & HAS_SAVED && lo < saved + SAVED && saved < hi)
+            return other;
+    }
+    return 0;
+}
+
+/* The instruction of an effect step is of known length, and leaves listed instructions and new addresses alone. */
+static int is_quiet(struct thread *thread, const struct touched *it) {
+    if (!(marks_of(thread->projected) & KNOWN))
+        return breaks(thread, "is of no known length");
+    if (it->work == ENDS)
+        return breaks(thread, "is an instruction that ends a run");
+    for (int at = 0; at < it->count; at++) {
+        const struct access *access = &it->accesses[at];
+        uint64_t found = first_marked(access->lo, access->hi, LISTED | NEW);
+        if (found == access->hi)
+            continue;
+        if (access->writes || it->work == EXACT)
+            return breaks(thread, "%s %08lx, %s", access->writes ? "writes" : "reads", found, kind_of(found));
+        note_answer(thread);
+    }
+    return 1;
+}
+
+/* A step outside an event reads no stale byte. */
+static int is_fresh(struct thread *thread, const struct touched *it) {
+    for (int at = 0; at < it->count; at++) {
+        const struct access *access = &it->accesses[at];
+        uint64_t found = access->reads ? first_marked(access->lo, access->hi, STALE) : access->hi;
+        if (found == access->hi)
+            continue;
+        if (it->work == EXACT)
+            return breaks(thread, "reads %lx, a stale byte: an event saved rax there, and the program hasn't written it since", found);
+        note_answer(thread);
+    }
+    return 1;
+}
+
+/* A step leaves alone what other threads have saved. */
+static int is_apart(struct thread *thread, const struct touched *it) {
+    for (int at = 0; at < it->count; at++) {
+        const struct access *access = &it->accesses[at];
+        const struct thread *other = other_saved(thread, access->lo, access->hi);
+        if (other && (access->writes || it->work == EXACT))
+            return breaks(thread, "%s saved bytes of thread %d, at %lx, while that stands in its event", access->writes ? "writes" : "reads",
+                          other->number, saved_at(&other->regs));
+    }
+    return 1;
+}
+
+static void set_stale(const struct thread *thread, unsigned here, const struct touched *it) {
+    if (here & SAVES)
+        for (int byte = 0; byte < SAVED; byte++)
+            set_marks(saved_at(&thread->regs) + byte, STALE);
+    else if (!(here & EVENT))
+        for (int at = 0; at < it->count; at++)
+            if (it->accesses[at].writes && it->accesses[at].surely)
+                clear_marks(it->accesses[at].lo, it->accesses[at].hi, STALE);
+}
+
+/* The projection goes on; it stands at a listed start. */
+static int goes_on(struct thread *thread, int is_kept, int is_work, uint64_t to) {
+    if (is_kept)
+        thread->projected = to;
+    thread->is_behind |= is_work;
+    if (thread->is_behind && marks_of(to) & (EVENT | WORK))
+        return breaks(thread, "leads to %08lx, a new address, of the patch alone", to);
+    uint64_t from = thread->projected;
+    if (thread->is_behind && !(marks_of(to) & NEW))
+        thread->is_behind = 0, thread->projected = to;
+    if (thread->is_behind || marks_of(thread->projected) & START)
+        return 1;
+    uint64_t led = thread->projected;
+    thread->projected = is_kept ? thread->regs.rip : from;
+    return breaks(thread, "leads to %08lx, which is no listed start", led);
+}
+
+int judge_begin(struct thread *thread, int is_behind) {
+    thread->projected = thread->regs.rip;
+    thread->is_behind = is_behind && marks_of(thread->regs.rip) & NEW;
+    return thread->is_behind || marks_of(thread->projected) & START || breaks(thread, "begins, where no listed start is");
+}
+
+int judge_step(struct thread *thread, struct user_regs_struct *after) {
+    unsigned here = marks_of(thread->insn.rip);
+    int is_kept = here & START && !(here & SITE), is_work = (here & WORK) != 0, is_well = 1;
+    struct touched made = touched_by(&thread->insn, thread, after);
+    judged.steps++;
+    if (is_work) {
+        struct decoded original;
+        uint8_t bytes[LONGEST];
+        struct site *site = site_at(thread->insn.rip);
+        int is_read = decode_bytes(&original, thread->projected, bytes, original_code(thread->projected, bytes));
+        if (!is_read)
+            return breaks(thread, "is no instruction");
+        const struct touched asked = touched_by(&original, thread, after);
+        is_well = is_quiet(thread, &asked);
+        site->effects++;
+        judged.events += site->event != 0;
+    } else if (is_kept)
+        is_well = is_quiet(thread, &made);
+    if (is_well && !(here & EVENT))
+        is_well = is_fresh(thread, &made);
+    uint64_t saved = saved_at(&thread->regs);
+    if (is_well && here & SAVES && first_marked(saved, saved + SAVED, NEW) < saved + SAVED)
+        is_well = breaks(thread, "comes to its event, whose saved bytes at %lx are new addresses, of the patch alone", saved);
+    if (!is_well || !is_apart(thread, &made))
+        return 0;
+    set_stale(thread, here, &made);
+    return goes_on(thread, is_kept, is_work, after->rip);
+}
+
+/* What a delivery or a thread's end writes leaves listed instructions, new addresses and other threads' saved bytes alone. */
+static int leaves(struct thread *thread, uint64_t lo, uint64_t hi, const char *what) {
+    uint64_t found = first_marked(lo, hi, LISTED | NEW);
+    const struct thread *other = other_saved(thread, lo, hi);
+    if (found < hi)
+        return breaks(thread, "%s writes %08lx, %s", what, found, kind_of(found));
+    return !other || breaks(thread, "%s writes saved bytes of thread %d while that stands in its event", what, other->number);
+}
+
+/* The end of the frame of a handler: it lies on the alternate stack, or below the red zone. */
+static uint64_t frame_end(pid_t tid, uint64_t stack_pointer, uint64_t frame) {
+    stack_t stack;
+    if (!read_memory(tid, frame + sizeof(void *) + offsetof(ucontext_t, uc_stack), &stack, sizeof stack))
+        return stack_pointer - RED_ZONE;
+    uint64_t lo = (uint64_t)stack.ss_sp, hi = lo + stack.ss_size;
+    return lo <= frame && frame < hi && !(lo < stack_pointer && stack_pointer <= hi) ? hi : stack_pointer - RED_ZONE;
+}
+
+int judge_entry(struct thread *thread, int number, uint64_t stack_pointer, const struct user_regs_struct *after) {
+    char what[40];
+    uint64_t frame = after->rsp;
+    snprintf(what, sizeof what, "the handler of signal %d", number);
+    judged.deliveries++;
+    if (!(marks_of(after->rip) & START))
+        return breaks(thread, "%s begins at %08lx, which is no listed start", what, (uint64_t)after->rip);
+    if (!leaves(thread, frame, frame_end(thread->tid, stack_pointer, frame), what))
+        return 0;
+    /* The frame's words that the kernel writes each time: up to the flags of the stack, from its size to the state's place, mask, info. */
+    const uint64_t parts[][2] = { { 0, 36 }, { 40, 240 }, { 304, 440 } };
+    for (size_t at = 0; at < sizeof parts / sizeof *parts; at++)
+        clear_marks(frame + parts[at][0], frame + parts[at][1], STALE);
+    thread->projected = after->rip;
+    return 1;
+}
+
+int judge_return(struct thread *thread, const struct user_regs_struct *after) {
+    judged.deliveries++;
+    if (thread->is_behind)
+        return breaks(thread, "comes back from a handler inside a trampoline");
+    if (!(marks_of(after->rip) & START))
+        return breaks(thread, "comes back from a handler to %08lx, which is no listed start", (uint64_t)after->rip);
+    thread->projected = after->rip;
+    return 1;
+}
+
+int judge_end(struct thread *thread) {
+    if (marks_of(thread->insn.rip) & WORK)
+        site_at(thread->insn.rip)->pending++;
+    if (!thread->clears || !leaves(thread, thread->clears, thread->clears + 4, "the end of it"))
+        return !*judged.broken;
+    clear_marks(thread->clears, thread->clears + 4, STALE);
+    return 1;
+}
+
+/* How many threads stand at a site between what its event does and the effect step. */
+static uint64_t standing_at(const struct site *site) {
+    uint64_t found = 0, from = site->place + (site->event == COUNTING ? COUNTED_FROM : COVERING);
+    for (int at = 0; at < thread_count(); at++) {
+        const struct thread *thread = thread_number(at);
+        found += thread->state != GONE && from <= thread->regs.rip && thread->regs.rip <= site->place + site->event;
+    }
+    return found;
+}
+
+int judge_counters(void) {
+    for (size_t at = 0; at < site_count(); at++) {
+        const struct site *site = site_number(at);
+        uint64_t told = 0, made = site->effects + site->pending + standing_at(site);
+        if (!site->event)
+            continue;
+        if (!read_memory(living(), mark_address(site), &told, site->event == COUNTING ? 8 : 1) ||
+            told != (site->event == COUNTING ? made : made > 0)) {
+            snprintf(judged.broken, sizeof judged.broken, "the record of the site at %08lx is %lu, but %lu came by it", site->addr, told,
+                     made);
+            return 0;
+        }
+    }
+    return 1;
+}

@@ -1,0 +1,355 @@
+/* Steps all threads of a patched program, one instruction at a time and in turn, and judges each step by the premises of the theorem of
+   guests of several threads.
+
+   usage: vaknuhol-judge RESULT ORIGINAL FACTS LIMIT [--evex] PROGRAM [ARGUMENTS..]
+
+   RESULT gets lines: `steps`, `threads`, `events`, `deliveries`, `noted` (and where first), `unknown` (numbers of system calls), `end`
+   (exit N, signal N, exec, process, limit), `broken` (what broke a premise first) or `counters` (yes, gone, or which is wrong). FACTS is
+   as facts.h says. After LIMIT steps the program is ended. */
+#define _GNU_SOURCE
+#include <errno.h>
+#include <sched.h>
+#include <stdio.h>
+#include <stdlib.h>
+#include <string.h>
+#include <sys/ptrace.h>
+#include <sys/syscall.h>
+#include <sys/wait.h>
+#include <ucontext.h>
+
+#include "judge.h"
+
+enum { KNOWN_SIZE = 1 << 16, TRIES = 40, NO_CALL = 0xffff, LONGEST_TAIL = 12, IS_SHARED = 0x100, IS_THREAD = 0x10000, WAITS = 0x4000 };
+
+static struct decoded *known;
+static char ending[40];
+static int keeps_evex;
+
+static int ends_by(const char *form, int number) {
+    if (!*ending)
+        snprintf(ending, sizeof ending, form, number);
+    return 0;
+}
+
+static int is_over(void) {
+    return *ending || *judged.broken;
+}
+
+/* The instruction at which a thread stands, decoded once where it is one of the file's. */
+static int decode(struct thread *it) {
+    uint64_t rip = it->regs.rip;
+    struct decoded *insn = &known[(rip * 0x9e3779b97f4a7c15) >> 48];
+    uint8_t bytes[MOST_BYTES];
+    size_t size = MOST_BYTES;
+    if (insn->rip != rip || !insn->insn.length || !(marks_of(rip) & (LISTED | NEW))) {
+        while (size > 0 && !read_memory(it->tid, rip, bytes, size))
+            size--;
+        if (!decode_bytes(insn, rip, bytes, size)) {
+            insn->insn.length = 0;
+            return 0;
+        }
+    }
+    it->insn = *insn;
+    return 1;
+}
+
+/* What the trap flag and AVX-512 would show is put right, as a plain run has it. */
+static void put_right(const struct thread *it, struct user_regs_struct *after) {
+    ZydisMnemonic name = it->insn.insn.mnemonic;
+    if (name == ZYDIS_MNEMONIC_PUSHF || name == ZYDIS_MNEMONIC_PUSHFQ) {
+        uint16_t low;
+        if (read_memory(it->tid, after->rsp, &low, 2)) {
+            low &= ~TRAP_FLAG;
+            write_memory(it->tid, after->rsp, &low, 2);
+        }
+    } else if (name == ZYDIS_MNEMONIC_SYSCALL)
+        after->r11 = it->regs.eflags;
+    else if (name == ZYDIS_MNEMONIC_CPUID && !keeps_evex)
+        hide_evex(&it->regs, after);
+    else
+        return;
+    set_regs(it, after);
+}
+
+/* A thread that a call started stands where its parent does after the call. */
+static void begin_thread(struct thread *it, const struct thread *parent) {
+    get_regs(it, &it->regs);
+    it->regs.r11 &= ~(uint64_t)TRAP_FLAG;
+    set_regs(it, &it->regs);
+    it->clears = parent->call.args[0] & 0x200000 ? parent->call.args[2] : 0;
+    it->state = READY;
+    judge_begin(it, (marks_of(parent->insn.rip) & WORK) != 0);
+}
+
+/* Waits for the first stop of a thread that this one has started. */
+static void take_new(const struct thread *parent) {
+    unsigned long tid;
+    int status;
+    if (ptrace(PTRACE_GETEVENTMSG, parent->tid, 0, &tid))
+        die("a new thread can't be stepped");
+    struct thread *it = thread_of((pid_t)tid);
+    if (!it) {
+        it = add_thread((pid_t)tid);
+        if (waitpid(it->tid, &status, __WALL) != it->tid)
+            die("a new thread can't be stepped");
+    }
+    begin_thread(it, parent);
+}
+
+static void finish_step(struct thread *it, struct user_regs_struct *after) {
+    if (judge_step(it, after)) {
+        it->regs = *after;
+        it->state = READY;
+    }
+}
+
+/* A thread has made its instruction, or a turn of it. */
+static void made(struct thread *it) {
+    struct user_regs_struct after;
+    get_regs(it, &after);
+    int may_stay = enters_kernel(&it->insn) || repeats_string(&it->insn);
+    if (may_stay && after.rip == it->insn.rip) {
+        step(it, 0);
+        return;
+    }
+    if (is_syscall(&it->insn) && it->call.regs.rax == SYS_rt_sigreturn) {
+        struct user_regs_struct called = it->regs;
+        called.rip = it->insn.rip + it->insn.insn.length;
+        finish_step(it, &called);
+        if (!is_over() && judge_return(it, &after))
+            it->regs = after;
+        return;
+    }
+    put_right(it, &after);
+    if (is_syscall(&it->insn) && it->call.regs.rax == SYS_set_tid_address)
+        it->clears = it->call.regs.rdi;
+    finish_step(it, &after);
+}
+
+static uint64_t in_frame(const struct thread *it, const struct user_regs_struct *after, int number) {
+    uint64_t value = 0, registers = after->rsp + sizeof(void *) + offsetof(ucontext_t, uc_mcontext.gregs);
+    read_memory(it->tid, registers + number * sizeof(greg_t), &value, sizeof value);
+    return value;
+}
+
+/* A signal enters its handler now. Where it ended a system call, that is a step before. */
+static void deliver(struct thread *it, const siginfo_t *info, int ends_call) {
+    struct user_regs_struct after;
+    int status;
+    if (ptrace(PTRACE_SETSIGINFO, it->tid, 0, info))
+        die("a signal can't be sent");
+    step(it, info->si_signo);
+    if (waitpid(it->tid, &status, __WALL) != it->tid || !WIFSTOPPED(status) || WSTOPSIG(status) != SIGTRAP) {
+        ends_by("signal %d", info->si_signo);
+        return;
+    }
+    get_regs(it, &after);
+    if (ends_call && in_frame(it, &after, REG_RIP) != it->insn.rip) {
+        struct user_regs_struct called = it->regs;
+        called.rip = called.rcx = it->insn.rip + it->insn.insn.length;
+        called.rax = in_frame(it, &after, REG_RAX), called.r11 = it->regs.eflags;
+        if (!judge_step(it, &called))
+            return;
+    }
+    if (it->is_behind || marks_of(it->projected) & NEW || (ends_call && marks_of(it->insn.rip) & NEW))
+        breaks(it, "is where signal %d comes, inside a trampoline", info->si_signo);
+    else if (judge_entry(it, info->si_signo, it->regs.rsp, &after)) {
+        it->regs = after;
+        it->state = READY;
+    }
+}
+
+static int is_fault(const siginfo_t *info) {
+    int number = info->si_signo;
+    return (number == SIGSEGV || number == SIGBUS || number == SIGILL || number == SIGFPE) && info->si_code > 0;
+}
+
+/* A fault inside a trampoline is one of an event; or of relocated code, as in the original, which a handler must not see there. */
+static int fails_inside(const struct thread *it, int number, int is_caught) {
+    unsigned here = marks_of(it->regs.rip);
+    if (here & (SAVES | HAS_SAVED))
+        return !breaks(it, "comes to its event, whose saved bytes at %lx can't be read and written", saved_at(&it->regs));
+    return is_caught && here & NEW && !breaks(it, "is where signal %d comes, inside a trampoline", number);
+}
+
+/* A signal comes to a thread before it made its instruction, or in a system call. Where the thread stands inside a trampoline it waits. */
+static void take_signal(struct thread *it, int number) {
+    siginfo_t info;
+    struct user_regs_struct now;
+    int is_default = number == SIGCHLD || number == SIGURG || number == SIGWINCH || number == SIGCONT;
+    int is_caught = is_signal_in("SigCgt", number);
+    if (!is_caught && (is_default || is_signal_in("SigIgn", number))) {
+        step(it, 0);
+        return;
+    }
+    if (ptrace(PTRACE_GETSIGINFO, it->tid, 0, &info))
+        memset(&info, 0, sizeof info), info.si_signo = number;
+    if (is_fault(&info) && fails_inside(it, number, is_caught))
+        return;
+    if (!is_caught) {
+        ends_by("signal %d", number);
+        return;
+    }
+    get_regs(it, &now);
+    int ends_call = is_syscall(&it->insn) && now.rip != it->insn.rip;
+    if (is_outside(it) || ends_call || is_fault(&info))
+        deliver(it, &info, ends_call);
+    else if (it->held_count == MOST_HELD)
+        ends_by("signal %d", number);
+    else {
+        it->held[it->held_count++] = info;
+        step(it, 0);
+    }
+}
+
+/* What a stop of a thread is. */
+static void stopped(pid_t tid, int status) {
+    struct thread *it = thread_of(tid);
+    if (!it) {
+        if (WIFSTOPPED(status))
+            add_thread(tid);
+        return;
+    }
+    if (!WIFSTOPPED(status)) {
+        judge_end(it);
+        it->state = GONE;
+        if (WIFSIGNALED(status))
+            ends_by("signal %d", WTERMSIG(status));
+        else if (!living_count())
+            ends_by("exit %d", WEXITSTATUS(status));
+    } else if (status >> 16 == PTRACE_EVENT_CLONE) {
+        take_new(it);
+        step(it, 0);
+    } else if (status >> 16 == PTRACE_EVENT_EXEC)
+        ends_by("exec", 0);
+    else if (WSTOPSIG(status) == SIGTRAP)
+        made(it);
+    else
+        take_signal(it, WSTOPSIG(status));
+}
+
+/* Whether a stop came; with `waits` one is waited for. A thread of number 0 stands for any. */
+static int take_stop(pid_t tid, int waits) {
+    int status;
+    pid_t found = waitpid(tid ? tid : -1, &status, __WALL | (waits ? 0 : WNOHANG));
+    if (found > 0)
+        stopped(found, status);
+    else if (found < 0 && errno != ECHILD && errno != EINTR)
+        die("the program can't be waited for");
+    return found > 0;
+}
+
+/* Whether a system call may be made by a step: one that ends the run may not. */
+static int may_call(struct thread *it) {
+    const struct user_regs_struct *r = &it->regs;
+    it->call = begin_call(it->tid, r);
+    if (r->rax == SYS_exit_group || (r->rax == SYS_exit && living_count() == 1))
+        return ends_by("exit %d", (int)(r->rdi & 255));
+    uint64_t flags = it->call.args[0];
+    if (flags & IS_SHARED && !(flags & (IS_THREAD | WAITS)))
+        return ends_by("process", 0);
+    if (r->rax == SYS_rseq) { /* its memory would be the kernel's to change at any time */
+        struct user_regs_struct other = *r;
+        other.rax = NO_CALL;
+        set_regs(it, &other);
+    }
+    return 1;
+}
+
+/* Lets a thread make its instruction. A system call that doesn't answer soon is left to itself. */
+static void make(struct thread *it) {
+    if (it->held_count && is_outside(it)) {
+        siginfo_t info = it->held[0];
+        memmove(it->held, it->held + 1, --it->held_count * sizeof *it->held);
+        deliver(it, &info, 0);
+        return;
+    }
+    if (!decode(it)) {
+        breaks(it, "is no instruction");
+        return;
+    }
+    int is_call = enters_kernel(&it->insn);
+    if (is_syscall(&it->insn) && !may_call(it))
+        return;
+    it->state = CALLS;
+    step(it, 0);
+    for (int tries = 0; it->state == CALLS && !is_over() && (!is_call || tries < TRIES); tries++)
+        if (!take_stop(it->tid, !is_call))
+            sched_yield();
+}
+
+/* Each thread in relocated code behind its effect step goes on until it is outside. */
+static void bring_out(void) {
+    char kept[sizeof ending];
+    memcpy(kept, ending, sizeof ending);
+    *ending = 0;
+    for (int at = 0; at < thread_count(); at++) {
+        struct thread *it = thread_number(at);
+        for (int tries = 0; tries < LONGEST_TAIL && !is_over() && it->state == READY && it->is_behind; tries++)
+            make(it);
+    }
+    if (!*ending)
+        memcpy(ending, kept, sizeof ending);
+}
+
+static void run(uint64_t limit) {
+    int last = 0, calling = 0;
+    while (!is_over() && living_count()) {
+        if (judged.steps >= limit) {
+            ends_by("limit", 0);
+            break;
+        }
+        int at = 0, count = thread_count();
+        while (at < count && thread_number((last + 1 + at) % count)->state != READY)
+            at++;
+        if (at == count) {
+            take_stop(0, 1);
+            continue;
+        }
+        last = (last + 1 + at) % count;
+        make(thread_number(last));
+        calling = 0;
+        for (at = 0; at < thread_count(); at++)
+            calling |= thread_number(at)->state == CALLS || thread_number(at)->state == BORN;
+        if (calling && !is_over())
+            take_stop(0, 0);
+    }
+    if (!*judged.broken && living_count())
+        bring_out();
+}
+
+static void write_result(FILE *result) {
+    fprintf(result, "steps %lu\nthreads %d\nevents %lu\ndeliveries %lu\nnoted %lu %08lx\n", judged.steps, thread_count(),
+            judged.events, judged.deliveries, judged.noted, judged.noted_first);
+    for (int at = 0; at < judged.unknown_count; at++)
+        fprintf(result, "unknown %d\n", judged.unknown[at]);
+    fprintf(result, "end %s\n", *ending ? ending : "broken");
+    if (*judged.broken)
+        fprintf(result, "broken %s\n", judged.broken);
+    else
+        fprintf(result, "counters %s\n", !living_count() ? "gone" : judge_counters() ? "yes" : judged.broken);
+    if (fclose(result))
+        die("the result can't be written");
+}
+
+int main(int count, char **words) {
+    int program = 5;
+    for (; program < count && !strncmp(words[program], "--", 2); program++)
+        keeps_evex |= !strcmp(words[program], "--evex");
+    if (program >= count) {
+        fprintf(stderr, "usage: vaknuhol-judge RESULT ORIGINAL FACTS LIMIT [--evex] PROGRAM [ARGUMENTS..]\n");
+        return 2;
+    }
+    FILE *result = fopen(words[1], "w");
+    known = calloc(KNOWN_SIZE, sizeof *known);
+    if (!result || !known)
+        die("the result can't be written");
+    read_facts(words[2], words[3]);
+    prepare_decoder();
+    start(words + program);
+    judge_begin(thread_number(0), 0);
+    run(strtoull(words[4], 0, 10));
+    write_result(result);
+    end_all();
+    return 0;
+}

@@ -1,0 +1,110 @@
+"""Runs of programs with threads, stepped and judged by the premises of their theorem: some that keep them, and small
+programs each of which breaks one of them."""
+import os
+import subprocess
+
+import pytest
+
+from tests.calls import match, run
+from tests.programs import Programs
+from tests.replaying import NUMBER, build, replay
+from vaknuhol.native import program as native_program
+from vaknuhol.program.program_file import read_text
+
+SOURCE = "thread_run.c"
+LENGTH = f"{NUMBER} steps of {NUMBER} threads, {NUMBER} events, {NUMBER} deliveries"
+HOLD = f"premises of threads: they hold at each step: {LENGTH}; "
+ENDED = r"the record is right; there the program ends \(exit 7\)"
+BROKEN = rf"premises of threads: BROKEN: step {NUMBER}, of thread {NUMBER}, at {{here}}, {{what}} \({LENGTH}\)"
+STALE = "reads [0-9a-f]+, a stale byte: an event saved rax there, and the program hasn't written it since"
+LISTED, NEW = "a byte of a listed instruction", "a new address, of the patch alone"
+BREAKING = {
+    "ENTERS": "leads to [0-9a-f]{8}, which is no listed start",
+    "BELOW": STALE,
+    "DISPLACED": STALE,
+    "SHARES": "writes saved bytes of thread 2, at [0-9a-f]+, while that stands in its event",
+    "WRITES": f"writes [0-9a-f]{{8}}, {LISTED}",
+    "ANSWERS": f"writes [0-9a-f]{{8}}, {LISTED}",
+    "READS": f"reads [0-9a-f]{{8}}, {LISTED}",
+    "PRIVATE": f"reads 00020040, {NEW}",
+    "NO_STACK": "comes to its event, whose saved bytes at [0-9a-f]+ can't be read and written",
+    "NEW_STACK": "comes to its event, whose saved bytes at 20078 are new addresses, of the patch alone",
+    "ENDING": "is an instruction that ends a run",
+}
+
+
+def judged(*words: str, status: int = 0) -> str:
+    """The one line that is printed of a run."""
+    found, lines, told = replay("--threads", *words)
+    assert found == status and len(lines) == 1, f"{words}: {found} {lines} {told}"
+    return lines[0]
+
+
+def check_kept(threads: int, deliveries: int, *words: str) -> None:
+    """The run meets the premises, with so many threads, and counts in their events."""
+    _, started, events, delivered = map(int, match(f"^{HOLD}{ENDED}$", judged(*words)).groups())
+    assert (started, delivered) == (threads, deliveries) and events > 20 * (threads - 1), words
+
+
+KEEPING = [("NONE", 3, 0), ("FOUR", 5, 0), ("WRITTEN_BELOW", 3, 0), ("SIGNALS", 3, 18)]
+
+
+@pytest.mark.parametrize("name, threads, deliveries", KEEPING)
+@pytest.mark.parametrize("action", [["--count"], []], ids=["count", "cover"])
+def test_threads_that_keep_the_premises(name, threads, deliveries, action):
+    """A byte that was stale and is written may be read; handlers are entered and left outside of trampolines."""
+    check_kept(threads, deliveries, *action, build(name, SOURCE)[0])
+
+
+@pytest.mark.parametrize("threads", [2, 4])
+def test_threads_of_a_c_library_keep_the_premises(programs: Programs, threads):
+    """Under a mutex, with a barrier, joined at the end."""
+    name = f"locks_{threads}"
+    programs.bring(name, "locks.c", "-pthread", f"-DTHREADS={threads}")
+    low = int(match("(?m)^([0-9a-f]+) t count$", run("nm", name))[1], 16)
+    check_kept(threads + 1, 0, "--count", "--blocks", "--within", f"{low:x}-{low + 0x100:x}", f"./{name}")
+
+
+@pytest.mark.parametrize("name, what", BREAKING.items(), ids=BREAKING)
+def test_what_breaks_a_premise_first_is_told(name, what):
+    """By the last of three threads, at its label."""
+    program, here = build(name, SOURCE)
+    assert here is not None
+    line = judged("--count", program, status=1)
+    found = match(f"^{BROKEN.format(here=here[-8:], what=what)}$", line)
+    assert found[2] == "3" and int(found[1]) > 500, line
+
+
+def test_events_that_cover_save_nothing():
+    """So bytes below the red zone may be read."""
+    check_kept(3, 0, build("BELOW", SOURCE)[0])
+
+
+def test_a_signal_without_a_handler_ends_the_run():
+    line = judged("--count", build("DIES", SOURCE)[0], status=1)
+    assert "they hold at each step" in line and line.endswith("it gets signal 11, for which it has no handler"), line
+
+
+def test_a_long_run_is_judged_up_to_the_last_step():
+    line = judged("--count", "--steps", "900", build("NONE", SOURCE)[0])
+    assert match(f"^{HOLD}", line)[1] == "900" and line.endswith("is right; the record ends there: --steps"), line
+
+
+def test_a_record_that_differs_from_the_steps_is_told():
+    """As of a site that the judge takes for another one."""
+    program, _ = build("NONE", SOURCE)
+    judged("--count", "--keep", "kept", program)
+    facts = read_text("kept/facts")
+    site = match(r"\nsite ([0-9a-f]+) [0-9a-f]+ 0 32", facts)
+    with open("facts", "w", encoding="ascii") as file:
+        file.write(facts[: site.end() - 4] + "1" + facts[site.end() - 3 :])
+    words = ["result", program, "facts", "100000", "kept/patched"]
+    subprocess.run([native_program("vaknuhol-judge"), *words], check=True)
+    form = "\ncounters the record of the site at ([0-9a-f]+) is ([0-9]+), but ([0-9]+) came by it\n"
+    told = match(form, read_text("result"))
+    assert int(told[1], 16) == int(site[1], 16) and told[2] != told[3], told
+
+
+def test_a_ring_of_threads_is_refused():
+    _, lines, told = replay("--threads", "--ring", "9", build("NONE", SOURCE)[0])
+    assert not lines and "no ring and no condition" in told and not os.path.exists("result"), told

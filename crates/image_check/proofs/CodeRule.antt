@@ -75,7 +75,7 @@ two_places p [] h = absurd (omega (arith, h))
 two_places p (x ∷ xs) h = two_step p x xs (two_places p xs) (cases_Bool (p x)) h
 
 -- a byte that is held, R-X
-held : (d : Option Cell) (b : ℕ) → holds_code d b ≡ true → d ≡ Some (record { byte = b; perms = 5 })
+pub held : (d : Option Cell) (b : ℕ) → holds_code d b ≡ true → d ≡ Some (record { byte = b; perms = 5 })
 held None b h = absurd cc
 held (Some d) b h =
     let p = and_parts (d.byte == b) (d.perms == 5) h in
@@ -94,7 +94,7 @@ pub record PlacedAt (c : Case) (ps : List PlacedCode) (i x : ℕ) (at : LiesIn c
   pub bytes : at.code ≡ code.bytes
 
 -- what a trampoline of placed code maps to comes from a piece of placed code
-mapped : (o : Option PlacedCode) (l : Line) → option_map (λ (p : PlacedCode). line_of p.line) o ≡ Some l
+pub mapped : (o : Option PlacedCode) (l : Line) → option_map (λ (p : PlacedCode). line_of p.line) o ≡ Some l
     → (p : PlacedCode) × (o ≡ Some p) × (line_of p.line ≡ l)
 mapped None l e = absurd cc
 mapped (Some p) l e = (p, refl, some_is (line_of p.line) l e)

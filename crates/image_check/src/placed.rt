@@ -80,7 +80,7 @@ pub(crate) fn codes_of(
 }
 
 /// Code sorted by place.
-pub(crate) fn by_place(codes: Vec<PlacedCode>) -> Result<Vec<PlacedCode>, AllocError>
+pub fn by_place(codes: Vec<PlacedCode>) -> Result<Vec<PlacedCode>, AllocError>
     ensures moved { IfOk result (λ v. IsPermutation codes.items v.items) }
     ensures rises { IfOk result (λ v. IsNonDecreasingBy (λ p. p.line.tramp.place) v.items) }
 {

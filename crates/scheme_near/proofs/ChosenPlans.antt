@@ -17,17 +17,17 @@ use Rattle.scheme_search.specs.declared.meeting.Meeting.{Meeting}
 use Rattle.scheme_search.specs.declared.shared.Pick.{Pick}
 use Rattle.scheme_search.specs.declared.site_turn.SiteTurn.{SiteTurn}
 use Rattle.scheme_search.specs.Order.{IsFirstBy}
-use Rattle.scheme_search.specs.Shared.{pick_order}
+use Rattle.scheme_search.specs.Shared.{pick_order, by_pick}
 use Rattle.scheme_search.specs.Meetings.{Meets, MeetsBack, IsChosen, IsMeeting, shared_count}
 use Rattle.scheme_search.proofs.SiteJumpTargets.{OnSite}
 use Rattle.scheme_search.proofs.OneJumpBytes.{jump_length}
 use Rattle.scheme_search.proofs.WrittenBytes.{taken_fixed, bytes_from-append}
 use Rattle.scheme_search.proofs.ListedEntries.{one_entry}
 use Rattle.scheme_search.proofs.SiteSegments.{on_site}
-use Rattle.scheme_search.proofs.NeighbourEntries.{IsEntry, is_entry, placed_site, are_placed, entry_low, are_chosen}
+use Rattle.scheme_search.proofs.NeighbourEntries.{IsEntry, is_entry, placed_site, is_admissible, entry_low, are_chosen}
 use Rattle.scheme_search.proofs.MeetingBytes.{meeting_ends}
 use Rattle.scheme_near.specs.declared.choice.Choice.{Choice}
-use Rattle.scheme_near.specs.Choices.{IsOpen, IsMeetingOf, IsBeside, IsGood, IsGoodOf, IsGoodAt, candidate, jumps, last_order, whole_order}
+use Rattle.scheme_near.specs.Choices.{IsOpen, IsMeetingOf, IsBeside, IsGood, IsGoodOf, IsGoodAt, candidate, jumps, whole_order}
 use Rattle.scheme_near.specs.Written.{IsReady}
 use Rattle.scheme_near.proofs.AllowedPlans.{allowed, meet, is_open, inner_low, one_run, front_run, back_run, three_runs, punned_run}
 
@@ -131,12 +131,9 @@ module _ (v : TurnView) (site e : StartEntry) (s : Segment) (g : OnSite v site s
 
   -- What is chosen is admissible.
   pub chosen_admissible : (x t u : ℕ) → Chosen (record { x = x; first = t; second = u }) → IsAdmissible v site (T3 e i x t u)
-  chosen_admissible x t u h = record {
-    site_may = may;
-    allowed = meets_allowed x t u h.allowed;
-    placed = are_placed v site e work other is_work is_other t u h.first h.second h.away;
-    least = λ some. no_better x t u h;
-  }
+  chosen_admissible x t u h =
+      is_admissible v site e work other is_work is_other (T3 e i x t u) x t u refl may (MeetsBack m) h
+      (meets_allowed x t u h.allowed) (no_better x t u h)
 
   -- A good choice with these numbers is chosen.
   good_chosen : (c : Choice) → IsGoodAt v site e i c → Chosen c.pick
@@ -151,7 +148,7 @@ module _ (v : TurnView) (site e : StartEntry) (s : Segment) (g : OnSite v site s
   none_chosen none c h = none c.pick (good_chosen c h)
 
   -- What is chosen first is the first good choice.
-  pub first_chosen : (k : Pick) → IsFirstBy pick_order Chosen k → IsFirstBy last_order (IsGoodAt v site e i) (record {
+  pub first_chosen : (k : Pick) → IsFirstBy pick_order Chosen k → IsFirstBy (by_pick (λ (d : Choice). d.pick)) (IsGoodAt v site e i) (record {
     victim =
         e;
     offset = i;
@@ -191,7 +188,7 @@ module _ (here : SiteTurn) (e : StartEntry) (b : IsBeside here e) (room : 2 ≤ 
       → IsOpen view here.site e j
       → (m : Meeting) → IsMeetingOf view e j m → (other : ℕ) → work_length e ≡ Some other
       → (k : Pick) → IsFirstBy pick_order (IsChosen here.turn.space.now.taken (MeetsBack m) (here.turn.event_size + here.work) other) k
-      → IsFirstBy last_order (IsGoodAt view here.site e j) (record { victim = e; offset = j; pick = k })
+      → IsFirstBy (by_pick (λ (d : Choice). d.pick)) (IsGoodAt view here.site e j) (record { victim = e; offset = j; pick = k })
   first_with j inside near unlisted o m is other is_other k h =
       let w = is_entry here e b.victim.listed in
       first_chosen view here.site e here.segment (on_site here) w room b.above b.victim only_one j inside near unlisted o m is here.work other here.stands.work is_other here.stands.may k h

@@ -10,7 +10,7 @@ use Rattle.start_list.specs.Admissible.{IsAdmissible}
 use Rattle.scheme_search.specs.declared.meeting.Meeting.{Meeting}
 use Rattle.scheme_search.specs.declared.site_turn.SiteTurn.{SiteTurn}
 use Rattle.scheme_search.specs.Order.{then_by}
-use Rattle.scheme_search.specs.Shared.{pick_order}
+use Rattle.scheme_search.specs.Shared.{by_pick}
 use Rattle.scheme_search.specs.Meetings.{EndsBehind}
 use Rattle.scheme_near.specs.declared.choice.Choice.{Choice}
 
@@ -31,13 +31,9 @@ victim_of c = c.victim.addr
 abbrev pub offset_of : Choice → ℕ
 offset_of c = c.offset
 
--- The order by the last parts: by the shared value, then by the places.
-abbrev pub last_order : Choice → Choice → Type 0
-last_order c d = pick_order c.pick d.pick
-
 -- The order by the place in the victim, then by the shared value, then by the places.
 abbrev pub offset_order : Choice → Choice → Type 0
-offset_order = then_by offset_of last_order
+offset_order = then_by offset_of (by_pick (λ c. c.pick))
 
 -- The order of choices: by the victim's address, by the place in the victim, by the shared value,
 -- by the places.

@@ -5,7 +5,8 @@ ghost use Rattle.start_list.specs.Forms.{work_length};
 ghost use Rattle.start_list.specs.Turning.{view_of};
 ghost use Rattle.scheme_search.specs.Meetings.{IsSized};
 ghost use Rattle.scheme_search.specs.Order.{FirstBy};
-ghost use Rattle.scheme_near.specs.Choices.{IsGood, IsGoodOf, IsGoodAt, IsBeside, AreFree, IsOpen, IsMeetingOf, whole_order, offset_order, last_order};
+ghost use Rattle.scheme_search.specs.Shared.{by_pick};
+ghost use Rattle.scheme_near.specs.Choices.{IsGood, IsGoodOf, IsGoodAt, IsBeside, AreFree, IsOpen, IsMeetingOf, whole_order, offset_order};
 
 use pun_base::limits::JUMP_LEN;
 use scheme_search::meeting::{Meeting, back_first};
@@ -13,8 +14,7 @@ use scheme_search::pieces::fixed_behind;
 use scheme_search::plan::PAD;
 use scheme_search::shared::Pick;
 use scheme_search::site_turn::SiteTurn;
-use scheme_search::victim::{are_free, is_code_behind, may_be_victim, site_end};
-use scheme_search::work::work_size;
+use scheme_search::victim::{are_free, is_code_behind, may_be_victim, site_end, victim_work};
 use start_entries::entry::StartEntry;
 use start_list::turn::Turn;
 use std::cmp::min;
@@ -112,7 +112,7 @@ fn at_place(here: &SiteTurn<'_>, victim: &StartEntry, work: u32, offset: u8) -> 
     requires open { IsOpen (view_of here.now.turn) here.now.site victim.now offset }
     requires work { work_length victim.now ≡ Some work }
     requires sized { IsSized work }
-    ensures { FirstBy last_order (IsGoodAt (view_of here.now.turn) here.now.site victim.now offset) result }
+    ensures { FirstBy (by_pick (λ c. c.pick)) (IsGoodAt (view_of here.now.turn) here.now.site victim.now offset) result }
 {
     let meeting = meeting_of(here, victim, offset);
     match back_first(here.turn.space, &meeting, here.tramp_size(), work) {
@@ -133,7 +133,7 @@ fn with_offset(here: &SiteTurn<'_>, victim: &StartEntry, work: u32, offset: u8) 
     requires inside { (2 ≤ offset) × (offset < victim.now.len) }
     requires work { work_length victim.now ≡ Some work }
     requires sized { IsSized work }
-    ensures { FirstBy last_order (IsGoodAt (view_of here.now.turn) here.now.site victim.now offset) result }
+    ensures { FirstBy (by_pick (λ c. c.pick)) (IsGoodAt (view_of here.now.turn) here.now.site victim.now offset) result }
 {
     let place = victim.addr + u32::from(offset);
     if place > here.site.addr + FARTHEST {
@@ -157,7 +157,7 @@ fn in_victim(here: &SiteTurn<'_>, victim: &StartEntry) -> Option<Choice>
     requires beside { IsBeside here.now victim.now }
     ensures { FirstBy offset_order (IsGoodOf (view_of here.now.turn) here.now.site victim.now) result }
 {
-    let work = work_size(victim).unwrap();
+    let work = victim_work(here, victim);
     for offset in 2..victim.len {
         if let Some(choice) = with_offset(here, victim, work, offset) {
             return Some(choice);

@@ -1,5 +1,5 @@
 -- Listed entries beside a site, and where the trampolines of a site and a victim are free.
-use Rattle.std.proofs.Common.{◌≡◌, ◌⊎◌, inl, inr, ℕ, ◌+◌, ◌-◌, ◌<◌, ◌≤◌, [], ◌∷◌, length, Option, Some, option_map, sym, ap, ◌∙◌, subst, arith}
+use Rattle.std.proofs.Common.{◌≡◌, ◌⊎◌, inl, inr, ℕ, ◌+◌, ◌-◌, ◌<◌, ◌≤◌, List, [], ◌∷◌, Option, Some, option_map, sym, ap, ◌∙◌, subst, arith}
 use Rattle.std.specs.Prelude.{Contains}
 use Rattle.std.proofs.lemmas.Bool.{cases_lt}
 use Rattle.std.proofs.lemmas.Option.{same_Some}
@@ -9,8 +9,8 @@ use Rattle.insn_form.specs.declared.form.Insn.{Insn}
 use Rattle.insn_form.specs.Displacing.{IsSpelledBy}
 use Rattle.address_space.specs.Free.{IsFree}
 use Rattle.start_entries.specs.declared.entry.StartEntry.{StartEntry}
-use Rattle.start_list.specs.Forms.{work_length, for_site, for_victim}
-use Rattle.start_list.specs.Admissible.{IsPlaced, ArePlaced}
+use Rattle.start_list.specs.Forms.{Candidate, Trampoline, MayBeSite, work_length, trampolines_of, for_site, for_victim}
+use Rattle.start_list.specs.Admissible.{IsPlaced, ArePlaced, IsAllowed, IsBetter, HasRoom, IsAdmissible}
 use Rattle.start_list.specs.TurnViews.{TurnView}
 use Rattle.start_list.specs.Turning.{view_of}
 use Rattle.start_entries.proofs.BuiltEntries.{all_listed}
@@ -47,11 +47,6 @@ is_entry here e c =
 -- A listed instruction ends below 0x7fff0000.
 pub entry_low : (here : SiteTurn) (e : StartEntry) → Contains here.turn.starts.now e → e.addr + e.len ≤ 0x7fff0000
 entry_low here e c = (is_entry here e c).low
-
--- The length of a listed instruction is that of its form.
-pub entry_spelled : (here : SiteTurn) (e : StartEntry) → Contains here.turn.starts.now e → (x : Insn) → e.form ≡ Some x
-    → IsSpelledBy x e.len
-entry_spelled here e c = (is_entry here e c).spelled
 
 -- What is written on a byte of code stands there as code.
 pub fixed_written : (b : ℕ) (c : Option Cell) → IsCodeCell c → IsFixedByte (with_byte b c) b
@@ -90,6 +85,18 @@ module _ (v : TurnView) (site e : StartEntry) (work other : ℕ) (is_work : work
     ),
     ((other, victim_size, g), tt, tt),
   )
+
+  -- A plan of two trampolines is admissible where it is allowed, both are free and don't meet, and none is better.
+  pub is_admissible : (c : Candidate) (x t u : ℕ) → trampolines_of site c ≡ for_site site t ∷ for_victim e u ∷ [] → MayBeSite site
+      → (Allows : ℕ → ℕ → ℕ → Type 0) → IsChosen v.taken Allows (v.event_size + work) other (record { x = x; first = t; second = u })
+      → IsAllowed v site c → ((d : Candidate) → IsBetter c d → IsAllowed v site d → HasRoom v (trampolines_of site d) → ⊥)
+      → IsAdmissible v site c
+  is_admissible c x t u is may Allows h allowed none = record {
+    site_may = may;
+    allowed = allowed;
+    placed = subst (λ (ts : List Trampoline). ArePlaced v ts) (sym is) (are_placed t u h.first h.second h.away);
+    least = λ some. none;
+  }
 
   -- What two placed trampolines are.
   pub record AreTwo (t u : ℕ) : Type 0 where

@@ -4,6 +4,7 @@ use Rattle.std.proofs.Math.Nat.{mul-le-mul_right, add-mul}
 use Rattle.std.proofs.lemmas.Bool.{cases_lt}
 use Rattle.std.proofs.lemmas.Grind.{div_ceil_times}
 use Rattle.std.proofs.lemmas.Int.{ints}
+use Rattle.std.proofs.lemmas.Nat.{div-add-mod'}
 use Rattle.address_space.specs.declared.extent.Extent.{Extent}
 use Rattle.pun_base.specs.Least.{IsLeast}
 use Rattle.address_space.specs.Fit.{FitsNear}
@@ -47,6 +48,10 @@ next_multiple : (k j step : ℕ) → k < j → k * step + step ≤ j * step
 next_multiple k j step l =
     let up : k + 1 ≤ j = omega (arith, l) in
     omega (arith, mul-le-mul_right step up, add-mul k 1 step)
+
+-- The band in which a distance lies begins at or below it, and ends above it.
+pub band_around : (d x step : ℕ) → x ≤ d → 1 ≤ step → ((d - x) / step * step + x ≤ d) × (d < (d - x) / step * step + x + step)
+band_around d x step above some = let e = div-add-mod' (d - x) step in (omega (arith, e), omega (arith, e))
 
 -- The steps between two multiples.
 steps_between : (i k step : ℕ) → 0 < step → i * step ≤ k * step → (k - i) * step + i * step ≡ k * step

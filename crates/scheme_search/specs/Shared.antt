@@ -23,6 +23,12 @@ pub record IsNextValue (taken : List Extent) (w : Way) (from to x : ℕ) : Type 
   pub none : (y t : ℕ) → from ≤ y → y < x → FitsWay taken w y t → ⊥
   pub found : x < to → (t : ℕ) × FitsWay taken w x t
 
+-- From the value x up to and without `next`, which is at most `to`, no value leaves both jumps a free target.
+pub record PassesBoth (taken : List Extent) (a b : Way) (x to next : ℕ) : Type 0 where
+  pub least : x ≤ next
+  pub most : next ≤ to
+  pub none : (y t u : ℕ) → x ≤ y → y < next → FitsWay taken a y t → FitsWay taken b y u → ⊥
+
 -- The first place is the least free one for the shared value, and the second is a free one for it
 -- at which the codes don't meet.
 pub record IsPick (taken : List Extent) (a b : Way) (p : Pick) : Type 0 where
@@ -52,6 +58,10 @@ second_of p = p.second
 -- The order of picks: by the shared value, then by the first place, then by the second.
 abbrev pub pick_order : Pick → Pick → Type 0
 pick_order = then_by x_of (then_by first_of (by second_of))
+
+-- The order of choices by what they pick.
+abbrev pub by_pick : {P : Type 0} → (P → Pick) → P → P → Type 0
+by_pick pick p q = pick_order (pick p) (pick q)
 
 -- A way whose numbers stay small up to a shared value.
 pub record IsWay (w : Way) (to : ℕ) : Type 0 where

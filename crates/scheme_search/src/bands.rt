@@ -2,7 +2,7 @@
 ghost use Rattle.std.specs.Prelude.{◌≡◌, ℕ, pos, ◌+ℤ◌, ◌+◌, ◌*◌, ◌<◌, ◌≤◌, ◌^◌};
 ghost use Rattle.pun_base.specs.Least.{Least};
 ghost use Rattle.address_space.specs.Fit.{FitsNear};
-ghost use Rattle.scheme_search.specs.Bands.{IsOpenNear};
+ghost use Rattle.scheme_search.specs.Bands.{IsOpenNear, IsStepped};
 ghost use Rattle.scheme_search.specs.Shared.{IsNextValue, IsWay};
 
 use crate::shared::{Way, gap};
@@ -76,10 +76,8 @@ fn bands_end(width: u64, step: u64) -> u64
 fn first_of_bands(space: &Space, way: Way, x: u64, to: u64) -> u64
     requires ordered { x < to }
     requires few { to ≤ 2 ^ 32 }
-    requires near { to ≤ x + way.step }
     requires way { IsWay way 0 }
-    requires each { way.scale ≡ 1 }
-    requires narrow { way.step ≤ 0x20000 }
+    requires stepped { IsStepped way x to }
     ensures { IsNextValue space.now.taken way x to result }
 {
     let step = u64::from(way.step);
@@ -108,10 +106,8 @@ fn first_of_bands(space: &Space, way: Way, x: u64, to: u64) -> u64
 pub(crate) fn next_stepped(space: &Space, way: Way, x: u64, to: u64) -> u64
     requires ordered { x ≤ to }
     requires few { to ≤ 2 ^ 32 }
-    requires near { to ≤ x + way.step }
     requires way { IsWay way 0 }
-    requires each { way.scale ≡ 1 }
-    requires narrow { way.step ≤ 0x20000 }
+    requires stepped { IsStepped way x to }
     ensures { IsNextValue space.now.taken way x to result }
 {
     if x == to {

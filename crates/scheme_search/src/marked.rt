@@ -2,15 +2,22 @@
 //! marked.
 ghost use Rattle.std.specs.Prelude.{◌≡◌, true, ℕ, ◌*◌, ◌<◌, ◌≤◌, ◌^◌, length};
 ghost use Rattle.address_space.specs.Marks.{IsMarked};
-ghost use Rattle.scheme_search.specs.Order.{FirstBy};
-ghost use Rattle.scheme_search.specs.Shared.{FitsWay, IsPickIn, IsWay, pick_order};
+ghost use Rattle.scheme_search.specs.Marked.{PassesMarked};
+ghost use Rattle.scheme_search.specs.Shared.{FitsWay, IsWay};
 
-use crate::shared::{Pick, Way, end_of, next_value, pick_at};
+use crate::shared::{Way, end_of, next_value};
 use address_space::marks::next_marked;
 use address_space::space::Space;
 
 /// The most values that are marked.
 pub(crate) const MARKS: u64 = 0x1_0000;
+
+/// Marks of the shared values that leave one of two jumps a free target, and the other jump.
+#[derive(Clone, Copy)]
+pub(crate) struct Marks<'a> {
+    pub(crate) way: Way,
+    pub(crate) words: &'a [u64],
+}
 
 /// Whether the values before `to` that leave the jump a free target can be marked: its lowest
 /// targets lie one address apart.
@@ -38,9 +45,7 @@ fn next_open(space: &Space, way: Way, words: &[u64], x: u64, to: u64) -> u64
     requires ordered { x ≤ to }
     requires way { IsWay way to }
     requires few { (to ≤ 64 * length words.now) × (to ≤ 2 ^ 32) }
-    ensures least { x ≤ result }
-    ensures most { result ≤ to }
-    ensures none { (y t : ℕ) → x ≤ y → y < result → FitsWay space.now.taken way y t → IsMarked words.now y → ⊥ }
+    ensures { PassesMarked space.now.taken way words.now x to result }
 {
     let low = next_value(space, way, x, to);
     next_marked(words, low as usize, to as usize) as u64
@@ -48,13 +53,11 @@ fn next_open(space: &Space, way: Way, words: &[u64], x: u64, to: u64) -> u64
 
 /// A value from `x` on before which no marked one leaves the jump a free target, sought until it is
 /// marked and may have a free target.
-fn next_agreed(space: &Space, way: Way, words: &[u64], x: u64, to: u64) -> u64
+pub(crate) fn next_agreed(space: &Space, way: Way, words: &[u64], x: u64, to: u64) -> u64
     requires ordered { x ≤ to }
     requires way { IsWay way to }
     requires few { (to ≤ 64 * length words.now) × (to ≤ 2 ^ 32) }
-    ensures least { x ≤ result }
-    ensures most { result ≤ to }
-    ensures none { (y t : ℕ) → x ≤ y → y < result → FitsWay space.now.taken way y t → IsMarked words.now y → ⊥ }
+    ensures { PassesMarked space.now.taken way words.now x to result }
 {
     let mut low = x;
     let mut next = next_open(space, way, words, x, to);
@@ -63,58 +66,4 @@ fn next_agreed(space: &Space, way: Way, words: &[u64], x: u64, to: u64) -> u64
         next = next_open(space, way, words, low, to);
     }
     next
-}
-
-/// A value from `x` on before which no value leaves both jumps a free target, where `words` marks
-/// those that leave the jump other than `way` one.
-fn next_marked_both(
-    space: &Space,
-    first: Way,
-    second: Way,
-    way: Way,
-    words: &[u64],
-    x: u64,
-    to: u64,
-) -> u64
-    requires ordered { x ≤ to }
-    requires way { IsWay way to }
-    requires few { (to ≤ 64 * length words.now) × (to ≤ 2 ^ 32) }
-    requires both { (y t u : ℕ) → y < to → FitsWay space.now.taken first y t → FitsWay space.now.taken second y u
-        → ((v : ℕ) × FitsWay space.now.taken way y v) × IsMarked words.now y }
-    ensures least { x ≤ result }
-    ensures most { result ≤ to }
-    ensures none { (y t u : ℕ) → x ≤ y → y < result → FitsWay space.now.taken first y t
-        → FitsWay space.now.taken second y u → ⊥ }
-{
-    next_agreed(space, way, words, x, to)
-}
-
-/// The first two places by a shared value from `from` up to and without `to`, where `words` marks
-/// the values that leave the jump other than `way` a free target.
-pub(crate) fn search_marked(
-    space: &Space,
-    first: Way,
-    second: Way,
-    way: Way,
-    words: &[u64],
-    from: u64,
-    to: u64,
-) -> Option<Pick>
-    requires ordered { from ≤ to }
-    requires first { IsWay first to }
-    requires second { IsWay second to }
-    requires way { IsWay way to }
-    requires few { (to ≤ 64 * length words.now) × (to ≤ 2 ^ 32) }
-    requires both { (y t u : ℕ) → y < to → FitsWay space.now.taken first y t → FitsWay space.now.taken second y u
-        → ((v : ℕ) × FitsWay space.now.taken way y v) × IsMarked words.now y }
-    ensures { FirstBy pick_order (IsPickIn space.now.taken first second from to) result }
-{
-    let mut x = next_marked_both(space, first, second, way, words, from, to);
-    while x < to {
-        match pick_at(space, first, second, x) {
-            Some(pick) => return Some(pick),
-            None => x = next_marked_both(space, first, second, way, words, x + 1, to),
-        }
-    }
-    None
 }

@@ -2,14 +2,15 @@
 //!
 //! Where two jumps share displacement bytes, the number that these spell leaves each of them some targets: to the one that has them
 //! high in its displacement a band, to the other one the targets a step apart.
-ghost use Rattle.std.specs.Prelude.{◌≡◌, ℕ, pos, ◌+ℤ◌, ◌≤ℤ◌, ◌+◌, ◌*◌, ◌<◌, ◌≤◌, true, false, length};
+ghost use Rattle.std.specs.Prelude.{◌≡◌, ℕ, pos, ◌+ℤ◌, ◌≤ℤ◌, ◌+◌, ◌*◌, ◌<◌, ◌≤◌, true, false, length, IfSome};
 ghost use Rattle.pun_base.specs.Least.{Least};
 ghost use Rattle.address_space.specs.Fit.{FitsNear, FitsStep};
 ghost use Rattle.scheme_search.specs.Order.{FirstBy, by, then_by};
-ghost use Rattle.scheme_search.specs.Shared.{FitsWay, IsNextValue, IsPick, IsPickIn, IsWay, x_of, first_of, second_of, pick_order};
+ghost use Rattle.scheme_search.specs.Shared.{FitsWay, IsNextValue, IsPick, IsPickIn, IsWay, PassesBoth, x_of, first_of, second_of, pick_order};
+ghost use Rattle.scheme_search.specs.Marked.{AreMarks};
 
 use crate::bands::next_stepped;
-use crate::marked::{MARKS, can_mark, mark_values, search_marked};
+use crate::marked::{MARKS, Marks, can_mark, mark_values, next_agreed};
 use address_space::space::Space;
 use pun_base::range::Range;
 
@@ -161,7 +162,7 @@ pub(crate) fn next_value(space: &Space, way: Way, x: u64, to: u64) -> u64
 }
 
 /// The first two places for the shared value `x`.
-pub(crate) fn pick_at(space: &Space, first: Way, second: Way, x: u64) -> Option<Pick>
+fn pick_at(space: &Space, first: Way, second: Way, x: u64) -> Option<Pick>
     requires first { IsWay first x }
     requires second { IsWay second x }
     ensures { FirstBy (then_by first_of (by second_of))
@@ -192,10 +193,7 @@ fn next_in_turn(space: &Space, first: Way, second: Way, x: u64, to: u64) -> u64
     requires ordered { x ≤ to }
     requires first { IsWay first to }
     requires second { IsWay second to }
-    ensures least { x ≤ result }
-    ensures most { result ≤ to }
-    ensures none { (y t u : ℕ) → x ≤ y → y < result → FitsWay space.now.taken first y t
-        → FitsWay space.now.taken second y u → ⊥ }
+    ensures { PassesBoth space.now.taken first second x to result }
 {
     next_value(space, second, next_value(space, first, x, to), to)
 }
@@ -207,15 +205,33 @@ fn next_both(space: &Space, first: Way, second: Way, x: u64, to: u64) -> u64
     requires ordered { x ≤ to }
     requires first { IsWay first to }
     requires second { IsWay second to }
-    ensures least { x ≤ result }
-    ensures most { result ≤ to }
-    ensures none { (y t u : ℕ) → x ≤ y → y < result → FitsWay space.now.taken first y t
-        → FitsWay space.now.taken second y u → ⊥ }
+    ensures { PassesBoth space.now.taken first second x to result }
 {
     if first.scale < first.width {
         next_in_turn(space, second, first, x, to)
     } else {
         next_in_turn(space, first, second, x, to)
+    }
+}
+
+/// A value from `x` on before which no value leaves both jumps a free target, by the marks where there are some.
+fn next_by_marks(
+    space: &Space,
+    first: Way,
+    second: Way,
+    marks: Option<Marks<'_>>,
+    x: u64,
+    to: u64,
+) -> u64
+    requires ordered { x ≤ to }
+    requires first { IsWay first to }
+    requires second { IsWay second to }
+    requires marks { IfSome marks (AreMarks space.now.taken first second to) }
+    ensures { PassesBoth space.now.taken first second x to result }
+{
+    match marks {
+        None => next_both(space, first, second, x, to),
+        Some(marks) => next_agreed(space, marks.way, marks.words, x, to),
     }
 }
 
@@ -232,18 +248,26 @@ fn has_room(space: &Space, way: Way, from: u64, to: u64) -> bool
 }
 
 /// The first two places by a shared value from `from` up to and without `to`, sought value by
-/// value.
-fn search(space: &Space, first: Way, second: Way, from: u64, to: u64) -> Option<Pick>
+/// value, or among the marked values.
+fn search(
+    space: &Space,
+    first: Way,
+    second: Way,
+    marks: Option<Marks<'_>>,
+    from: u64,
+    to: u64,
+) -> Option<Pick>
     requires ordered { from ≤ to }
     requires first { IsWay first to }
     requires second { IsWay second to }
+    requires marks { IfSome marks (AreMarks space.now.taken first second to) }
     ensures { FirstBy pick_order (IsPickIn space.now.taken first second from to) result }
 {
-    let mut x = next_both(space, first, second, from, to);
+    let mut x = next_by_marks(space, first, second, marks, from, to);
     while x < to {
         match pick_at(space, first, second, x) {
             Some(pick) => return Some(pick),
-            None => x = next_both(space, first, second, x + 1, to),
+            None => x = next_by_marks(space, first, second, marks, x + 1, to),
         }
     }
     None
@@ -267,13 +291,15 @@ fn search_with(
 {
     if can_mark(first, to) {
         mark_values(space, first, to, words);
-        return search_marked(space, first, second, second, words, from, to);
+        let marks = Marks { way: second, words };
+        return search(space, first, second, Some(marks), from, to);
     }
     if can_mark(second, to) {
         mark_values(space, second, to, words);
-        return search_marked(space, first, second, first, words, from, to);
+        let marks = Marks { way: first, words };
+        return search(space, first, second, Some(marks), from, to);
     }
-    search(space, first, second, from, to)
+    search(space, first, second, None, from, to)
 }
 
 /// The first two places by a shared value from `from` up to and without `to`, with room for marks

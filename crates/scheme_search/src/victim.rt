@@ -1,11 +1,13 @@
 //! Instructions beside a site that a plan may patch.
-ghost use Rattle.std.specs.Prelude.{◌≡◌, ℕ, ◌+◌, ◌<◌, ◌≤◌, ◌^◌, ◌↔◌, IsTrue, true, Contains};
-ghost use Rattle.start_list.specs.Forms.{MayBeVictim};
+ghost use Rattle.std.specs.Prelude.{◌≡◌, ℕ, ◌+◌, ◌<◌, ◌≤◌, ◌^◌, ◌↔◌, IsTrue, true, Some, Contains};
+ghost use Rattle.start_list.specs.Forms.{MayBeVictim, work_length};
 ghost use Rattle.start_list.specs.TurnViews.{share_segment};
 ghost use Rattle.start_list.specs.Turning.{view_of};
+ghost use Rattle.scheme_search.specs.Meetings.{IsSized};
 
 use crate::site_turn::SiteTurn;
 use crate::standing::are_code;
+use crate::work::work_size;
 use byte_locks::lock::Lock;
 use start_entries::entry::StartEntry;
 use start_list::turn::{Turn, is_code_at};
@@ -45,6 +47,15 @@ pub fn may_be_victim(here: &SiteTurn<'_>, entry: &StartEntry) -> bool
     is_code_at(&here.segment, entry.addr)
         && here.turn.is_movable(entry)
         && here.turn.untouched(entry)
+}
+
+/// How many bytes the code has that does a victim's work elsewhere.
+pub fn victim_work(here: &SiteTurn<'_>, victim: &StartEntry) -> u32
+    requires { MayBeVictim (view_of here.now.turn) here.now.site victim.now }
+    ensures value { work_length victim.now ≡ Some result }
+    ensures sized { IsSized result }
+{
+    work_size(victim).unwrap()
 }
 
 /// Whether `count` bytes from an address on may be written.

@@ -17,7 +17,7 @@ use Rattle.scheme_search.specs.declared.meeting.Meeting.{Meeting}
 use Rattle.scheme_search.specs.declared.shared.Pick.{Pick}
 use Rattle.scheme_search.specs.declared.site_turn.SiteTurn.{SiteTurn}
 use Rattle.scheme_search.specs.Order.{IsFirstBy}
-use Rattle.scheme_search.specs.Shared.{pick_order}
+use Rattle.scheme_search.specs.Shared.{pick_order, by_pick}
 use Rattle.scheme_search.specs.Meetings.{Meets, MeetsFront, IsChosen, IsMeeting, shared_count}
 use Rattle.scheme_search.proofs.SiteJumpTargets.{OnSite}
 use Rattle.scheme_search.proofs.OneJumpBytes.{jump_length}
@@ -25,10 +25,10 @@ use Rattle.scheme_search.proofs.WrittenBytes.{taken_fixed, bytes_from-append}
 use Rattle.scheme_search.proofs.MeetingJumps.{code_of}
 use Rattle.scheme_search.proofs.ListedEntries.{one_entry}
 use Rattle.scheme_search.proofs.SiteSegments.{on_site}
-use Rattle.scheme_search.proofs.NeighbourEntries.{IsEntry, is_entry, placed_site, are_placed, entry_low, are_chosen}
+use Rattle.scheme_search.proofs.NeighbourEntries.{IsEntry, is_entry, placed_site, is_admissible, entry_low, are_chosen}
 use Rattle.scheme_search.proofs.MeetingBytes.{meeting_ends}
 use Rattle.scheme_succ.specs.declared.choice.Choice.{Choice}
-use Rattle.scheme_succ.specs.Choices.{IsOpen, IsMeetingOf, IsBeside, IsGood, IsGoodBehind, IsGoodWith, candidate, jumps, written_count, last_order, whole_order}
+use Rattle.scheme_succ.specs.Choices.{IsOpen, IsMeetingOf, IsBeside, IsGood, IsGoodBehind, IsGoodWith, candidate, jumps, written_count, whole_order}
 use Rattle.scheme_succ.proofs.AllowedPlans.{allowed, meet, is_open, back_low, front_end, written_run, punned_run}
 
 module _ (v : TurnView) (site e : StartEntry) (s : Segment) (g : OnSite v site s) (w : IsEntry v e)
@@ -118,12 +118,9 @@ module _ (v : TurnView) (site e : StartEntry) (s : Segment) (g : OnSite v site s
 
   -- What is chosen is admissible.
   pub chosen_admissible : (x t u : ℕ) → Chosen (record { x = x; first = t; second = u }) → IsAdmissible v site (T2 e p q pad x t u)
-  chosen_admissible x t u h = record {
-    site_may = may;
-    allowed = meets_allowed x t u h.allowed;
-    placed = are_placed v site e work other is_work is_other t u h.first h.second h.away;
-    least = λ some. no_better x t u h;
-  }
+  chosen_admissible x t u h =
+      is_admissible v site e work other is_work is_other (T2 e p q pad x t u) x t u refl may (MeetsFront m) h
+      (meets_allowed x t u h.allowed) (no_better x t u h)
 
   -- A good choice with these numbers is chosen.
   good_chosen : (c : Choice) → IsGoodWith v site e p q pad c → Chosen c.pick
@@ -138,7 +135,7 @@ module _ (v : TurnView) (site e : StartEntry) (s : Segment) (g : OnSite v site s
   none_chosen none c h = none c.pick (good_chosen c h)
 
   -- What is chosen first is the first good choice.
-  pub first_chosen : (k : Pick) → IsFirstBy pick_order Chosen k → IsFirstBy last_order (IsGoodWith v site e p q pad) (record {
+  pub first_chosen : (k : Pick) → IsFirstBy pick_order Chosen k → IsFirstBy (by_pick (λ (d : Choice). d.pick)) (IsGoodWith v site e p q pad) (record {
     pads =
         p;
     victim_pads = q;
@@ -182,7 +179,7 @@ module _ (here : SiteTurn) (e : StartEntry) (b : IsBeside here e) where
       → shared_behind here.site e p q ≤ 2 → IsOpen view here.site e q
       → (m : Meeting) → IsMeetingOf view here.site e p q pad m → (other : ℕ) → work_length e ≡ Some other
       → (k : Pick) → IsFirstBy pick_order (IsChosen here.turn.space.now.taken (MeetsFront m) (here.turn.event_size + here.work) other) k
-      → IsFirstBy last_order (IsGoodWith view here.site e p q pad) (record { pads = p; victim_pads = q; pad = pad; pick = k })
+      → IsFirstBy (by_pick (λ (d : Choice). d.pick)) (IsGoodWith view here.site e p q pad) (record { pads = p; victim_pads = q; pad = pad; pick = k })
   first_with p q pad inside few rex one_pad two o m is other is_other k h =
       let w = is_entry here e b.victim.listed in
       first_chosen view here.site e here.segment (on_site here) w b.behind b.short b.victim only_one p q pad

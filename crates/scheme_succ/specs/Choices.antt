@@ -10,7 +10,7 @@ use Rattle.start_list.specs.Admissible.{IsAdmissible}
 use Rattle.scheme_search.specs.declared.meeting.Meeting.{Meeting}
 use Rattle.scheme_search.specs.declared.site_turn.SiteTurn.{SiteTurn}
 use Rattle.scheme_search.specs.Order.{then_by}
-use Rattle.scheme_search.specs.Shared.{pick_order}
+use Rattle.scheme_search.specs.Shared.{by_pick}
 use Rattle.scheme_search.specs.Meetings.{EndsBehind}
 use Rattle.scheme_succ.specs.declared.choice.Choice.{Choice}
 
@@ -38,13 +38,9 @@ victim_pads_of c = c.victim_pads
 abbrev pub pad_of : Choice → ℕ
 pad_of c = c.pad
 
--- The order by the last parts: by the shared value, then by the places.
-abbrev pub last_order : Choice → Choice → Type 0
-last_order c d = pick_order c.pick d.pick
-
 -- The order by the byte of the victim's pads, then by the shared value, then by the places.
 abbrev pub pad_order : Choice → Choice → Type 0
-pad_order = then_by pad_of last_order
+pad_order = then_by pad_of (by_pick (λ c. c.pick))
 
 -- The order by the victim's pads, then by their byte, then by the shared value, then by the places.
 abbrev pub behind_order : Choice → Choice → Type 0

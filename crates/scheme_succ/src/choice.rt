@@ -3,16 +3,16 @@ ghost use Rattle.std.specs.Prelude.{◌≡◌, ◌+◌, ◌-◌, ◌<◌, ◌≤
 ghost use Rattle.start_list.specs.Forms.{shared_behind, work_length};
 ghost use Rattle.start_list.specs.Turning.{view_of};
 ghost use Rattle.scheme_search.specs.Order.{FirstBy};
+ghost use Rattle.scheme_search.specs.Shared.{by_pick};
 ghost use Rattle.scheme_search.specs.Meetings.{IsSized};
-ghost use Rattle.scheme_succ.specs.Choices.{IsGood, IsGoodAt, IsGoodBehind, IsGoodWith, IsBeside, IsOpen, IsMeetingOf, whole_order, behind_order, pad_order, last_order};
+ghost use Rattle.scheme_succ.specs.Choices.{IsGood, IsGoodAt, IsGoodBehind, IsGoodWith, IsBeside, IsOpen, IsMeetingOf, whole_order, behind_order, pad_order};
 
 use pun_base::limits::JUMP_LEN;
 use scheme_search::meeting::{Meeting, front_first};
 use scheme_search::pieces::fixed_behind;
 use scheme_search::shared::Pick;
 use scheme_search::site_turn::SiteTurn;
-use scheme_search::victim::{are_free, is_code_behind};
-use scheme_search::work::work_size;
+use scheme_search::victim::{are_free, is_code_behind, victim_work};
 use start_entries::entry::StartEntry;
 use std::cmp::min;
 
@@ -121,7 +121,7 @@ fn with_pad(
     requires sized { IsSized work }
     requires meeting { IsMeetingOf (view_of here.now.turn) here.now.site victim.now pads
         meeting.now.pads meeting.now.pad meeting.now }
-    ensures { FirstBy last_order (IsGoodWith (view_of here.now.turn) here.now.site victim.now pads
+    ensures { FirstBy (by_pick (λ c. c.pick)) (IsGoodWith (view_of here.now.turn) here.now.site victim.now pads
         meeting.now.pads meeting.now.pad) result }
 {
     match front_first(here.turn.space, meeting, here.tramp_size(), work) {
@@ -159,7 +159,7 @@ fn with_victim_pads(
     } else {
         LAST_REX
     };
-    let work = work_size(victim).unwrap();
+    let work = victim_work(here, victim);
     let mut meeting = meeting_of(here, victim, pads, victim_pads, FIRST_REX);
     for pad in FIRST_REX..last + 1 {
         meeting.pad = pad;

@@ -1,15 +1,15 @@
-use Rattle.std.proofs.Common.{is_some, ap, ◌∙◌, arith}
+use Rattle.std.proofs.Common.{arith}
 use Rattle.start_list.specs.Turning.{view_of}
-use Rattle.start_list.proofs.DisplacedWork.{displaced_has_work}
-use Rattle.scheme_search.proofs.NeighbourEntries.{is_entry, entry_spelled}
+use Rattle.scheme_search.specs.Shared.{by_pick}
 use Rattle.scheme_search.proofs.FirstChoice.{first_at, none_next}
-use Rattle.scheme_near.specs.Choices.{IsGoodOf, offset_of, last_order}
+use Rattle.scheme_near.specs.declared.choice.Choice.{Choice}
+use Rattle.scheme_near.specs.Choices.{IsGoodOf, offset_of}
 use Rattle.scheme_near.proofs.ChosenPlans.{good_inside}
 use Rattle.scheme_near.proofs.choice.in_victim.Goals as goal
 
 pub returns-in-Some : goal.returns-in-Some
 returns-in-Some c =
-    first_at offset_of last_order
+    first_at offset_of (by_pick (λ (d : Choice). d.pick))
     (IsGoodOf (view_of c.args.here.now.turn) c.args.here.now.site c.args.victim.now) c.loop-offset.offset c.in-Some.choice
     (λ d h. c.loop-offset.invariant d h) c.in-Some.ensures
 
@@ -19,7 +19,7 @@ loop-offset-init c =
 
 pub loop-offset-preserved : goal.loop-offset-preserved
 loop-offset-preserved c =
-    none_next offset_of last_order (IsGoodOf (view_of c.args.here.now.turn) c.args.here.now.site c.args.victim.now) c.loop-offset.offset
+    none_next offset_of (by_pick (λ (d : Choice). d.pick)) (IsGoodOf (view_of c.args.here.now.turn) c.args.here.now.site c.args.victim.now) c.loop-offset.offset
     (λ d h. c.loop-offset.invariant d h) (λ d h. c.in_default.ensures d h)
 
 pub returns : goal.returns
@@ -27,14 +27,3 @@ returns c = λ d h.
     let k = good_inside c.args.here.now c.args.victim.now c.requires.beside c.requires.room d h in
     let l = c.loop-offset.invariant d h in
     omega (arith, k.1, l)
-
-pub work_size-requires-clause-spelled : goal.work_size-requires-clause-spelled
-work_size-requires-clause-spelled c = entry_spelled c.args.here.now c.args.victim.now c.requires.beside.victim.listed
-
-pub work_size-requires-clause-some : goal.work_size-requires-clause-some
-work_size-requires-clause-some c = (is_entry c.args.here.now c.args.victim.now c.requires.beside.victim.listed).some
-
-pub unwrap-work-requires : goal.unwrap-work-requires
-unwrap-work-requires c =
-    ap is_some c.work_size.ensures.value
-    ∙ displaced_has_work c.args.here.now.turn.threads c.args.victim.now c.requires.beside.victim.movable

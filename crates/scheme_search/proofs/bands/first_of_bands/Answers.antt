@@ -9,7 +9,7 @@ pub loop-band-init : goal.loop-band-init
 loop-band-init c = record {
   some = c.requires.ordered;
   top = omega arith;
-  near = c.requires.near;
+  near = c.requires.stepped.near;
   found = λ l. absurd (omega (arith, l));
   whole = (0, omega arith);
   none = λ k y l a b o. absurd (omega (arith, l));
@@ -40,7 +40,7 @@ loop-band-preserved c =
             let same : d - next ≡ c.min-best.result = omega (arith, m, less) in (
               fit.there.place,
               subst (λ (y : ℕ). FitsWay taken w y fit.there.place) same
-                  (target_at taken w (d - next) p.multiple.0 d c.requires.each inside (omega (arith, p.low, multiple)) fit.there),
+                  (target_at taken w (d - next) p.multiple.0 d c.requires.stepped.each inside (omega (arith, p.low, multiple)) fit.there),
             )
         | inr more ↦
             let same : c.loop-band.best ≡ c.min-best.result = omega (arith, m, more) in
@@ -74,7 +74,7 @@ returns-then-d-least c =
       none = λ y t low high f. absurd (omega (arith, low, high));
       found = λ below. (
         fit.there.place,
-        target_at c.args.space.now.taken w c.args.x p.multiple.0 c.in-Some.d c.requires.each inside
+        target_at c.args.space.now.taken w c.args.x p.multiple.0 c.in-Some.d c.requires.stepped.each inside
             (omega (arith, c.if-d-least.true, multiple)) fit.there,
       );
     }
@@ -90,7 +90,7 @@ returns-in-None c =
       least = omega (arith, h.some);
       most = h.top;
       none = λ y t l m f.
-          let b = in_band c.args.space.now.taken w y t c.requires.each f in
+          let b = in_band c.args.space.now.taken w y t c.requires.stepped.each f in
           let under = band_ends b.index ends.multiple.0 w.step w.width b.inside (omega (arith, ends.low, multiple)) in
           elim (cases_lt (b.index * w.step) c.loop-band.band) [
             | inl q ↦ h.none b.index y q l m b.there
@@ -109,7 +109,7 @@ returns c =
       least = omega (arith, h.some);
       most = h.top;
       none = λ y t l m f.
-          let b = in_band c.args.space.now.taken c.args.way y t c.requires.each f in
+          let b = in_band c.args.space.now.taken c.args.way y t c.requires.stepped.each f in
           let n = c.loop-band-test.false in
           h.none b.index y (omega (arith, b.inside, n, c.bands_end-end.ensures.low)) l m b.there;
       found = h.found;

@@ -24,7 +24,7 @@ returns-in-Some c =
       least = omega arith;
       most = c.requires.ordered;
       none = λ y t low high f. absurd (omega (arith, low, high));
-      found = λ below. served_within c.args.space.now.taken w c.args.x _ d.0 ends.multiple.0 c.requires.each c.requires.way.step d.1 d.2
+      found = λ below. served_within c.args.space.now.taken w c.args.x _ d.0 ends.multiple.0 c.requires.stepped.each c.requires.way.step d.1 d.2
           (omega (arith, ints, before, c.above-high.ensures, c.saturating_sub.ensures, whole, d.1, d.2, ends.low, c.from-step.ensures, c.requires.way.width))
           (omega (arith, whole, ends.high, c.from-step.ensures)) fit.free;
     }

@@ -1,9 +1,12 @@
 -- The rules by which turns go: those of events, and those of events where threads share memory, with the scene of a file by each. Theorems cite it.
-use Rattle.std.specs.Prelude.{◌≡◌, ℕ, Bool, true, false, List, Option, Some, None}
+use Rattle.std.specs.Prelude.{◌≡◌, ℕ, zero, suc, ◌+◌, Bool, true, false, List, [], ◌∷◌, Option, Some, None}
 use Rattle.pun_base.specs.declared.action.Action.{Action}
-use Rattle.pun_base.specs.declared.action.Action.TheVariants.{Cover, Count}
+use Rattle.pun_base.specs.declared.action.Action.TheVariants.{Cover, Count, Ring, When}
 use Rattle.pun_base.specs.declared.action.Base.{Base}
 use Rattle.pun_base.specs.declared.action.Base.TheVariants as base
+use Rattle.pun_base.specs.declared.action.Comparison.{Comparison}
+use Rattle.pun_base.specs.declared.action.Comparisons.{Comparisons}
+use Rattle.pun_base.specs.Actions.{listed}
 use Rattle.pun_base.specs.declared.scheme.Scheme.{Scheme}
 use Rattle.trampoline.specs.Events.{event_length}
 use Rattle.elf_read.specs.Entries.{segments}
@@ -28,24 +31,51 @@ pub record TurnRules : Type 0 where
 abbrev pub event_rules : Action → TurnRules
 event_rules action = record { event_size = event_length action; can = work_length; schemes = five }
 
--- The action of the events of threads, which cover or count.
-abbrev pub thread_action : Base → Action
-thread_action base.Cover = Cover
-thread_action base.Count = Count
-
--- The events that threads get by an action: they cover, or count.
+-- What the events of threads do by an action: they cover, or count.
 abbrev pub thread_base : Action → Base
 thread_base Cover = base.Cover
-thread_base action = base.Count
+thread_base Count = base.Count
+thread_base (Ring len) = base.Count
+thread_base (When b list) = b
 
--- Threads can get the events of this action: it covers or counts.
+-- The comparisons under which they do it, where the action has a condition.
+abbrev pub thread_when : Action → Option Comparisons
+thread_when Cover = None
+thread_when Count = None
+thread_when (Ring len) = None
+thread_when (When b list) = Some list
+
+-- Threads can get the events of this action: of each but a ring.
+abbrev pub is_shared : Action → Bool
+is_shared Cover = true
+is_shared Count = true
+is_shared (Ring len) = false
+is_shared (When b list) = true
+
 abbrev pub IsShared : Action → Type 0
-IsShared action = thread_action (thread_base action) ≡ action
+IsShared action = is_shared action ≡ true
 
--- How long the code of such an event is.
-abbrev pub thread_event_size : Base → ℕ
-thread_event_size base.Cover = 8
-thread_event_size base.Count = 32
+-- How long the code of an event is that saves rax and the flags, but for its comparisons.
+abbrev pub saving_size : Base → ℕ
+saving_size base.Cover = 31
+saving_size base.Count = 32
+
+-- How long a comparison is with the jump that is taken where it fails: of rax, which is compared where it is saved, or of another register.
+abbrev pub check_size : ℕ → ℕ
+check_size zero = 14
+check_size (suc r) = 9
+
+-- How long comparisons are.
+abbrev pub checks_size : List Comparison → ℕ
+checks_size [] = 0
+checks_size (c ∷ cs) = check_size c.reg + checks_size cs
+
+-- How long the code of an event for threads is.
+abbrev pub thread_event_size : Action → ℕ
+thread_event_size Cover = 8
+thread_event_size Count = 32
+thread_event_size (Ring len) = 32
+thread_event_size (When b list) = saving_size b + checks_size (listed list)
 
 -- The event of a trampoline for threads, where it has one.
 abbrev pub thread_event_of : Base → Bool → Option Base
@@ -54,8 +84,8 @@ thread_event_of b false = None
 
 -- The rules where the sites get events for threads: sites and victims alike are those that may be
 -- displaced where threads share memory, and all five schemes are tried.
-abbrev pub thread_rules : Base → TurnRules
-thread_rules b = record { event_size = thread_event_size b; can = can_in_threads; schemes = five }
+abbrev pub thread_rules : Action → TurnRules
+thread_rules action = record { event_size = thread_event_size action; can = can_in_threads; schemes = five }
 
 -- The scene of a file whose turns go by these rules.
 abbrev pub rules_scene : TurnRules → List ℕ → List StartEntry → Action → Extent → List Extent → Scene
@@ -73,12 +103,12 @@ rules_scene r file entries action private shut = record {
 -- The rules of a mode.
 abbrev pub rules_of : Mode → TurnRules
 rules_of (Events action) = event_rules action
-rules_of (Threads b) = thread_rules b
+rules_of (Threads action) = thread_rules action
 
 -- What the private range is laid out for: for threads as for the same action of one thread.
 abbrev pub action_of : Mode → Action
 action_of (Events action) = action
-action_of (Threads b) = thread_action b
+action_of (Threads action) = action
 
 -- How long the code of an event is, by a mode.
 abbrev pub event_size_of : Mode → ℕ

@@ -11,10 +11,10 @@ use Rattle.guest_threads.proofs.LinesAfterTurns.{turns_for_threads}
 
 -- what the turns of all five schemes have done, loaded with the code of threads, is followed and counted, and its threads get out
 pub turns_are_threaded : TurnsAreThreaded
-turns_are_threaded g sites choices patched entry A T s h W =
+turns_are_threaded g sites choices patched entry A asked T s h W =
     let t = state_after g (first_state g) sites choices in
     let q = turns_for_threads g sites choices A T s h in
-    let sound = folded_is_thread_sound g t patched entry A (turns_keep g five sites choices five_lead A s h) T q.0 q.1 W in
+    let sound = folded_is_thread_sound g t patched entry A asked (turns_keep g five sites choices five_lead A s h) T q.0 q.1 W in
     let r = threads_followed (threading_of g t patched entry) A sound in
     let d = threads_followed_with (threading_of g t patched entry) A sound in
     (r.0, r.1, d.0, d.1)

@@ -1,3 +1,4 @@
+pub mod ThreadConditions
 pub mod LineSize
 pub mod ThreadSoundness
 pub mod LinesAfterTurns

@@ -1,10 +1,11 @@
 -- After the turns of all five schemes one jump or two lead to each trampoline, and the numbers of events differ.
 use Rattle.std.proofs.Common.{◌≡◌, ℕ, ◌+◌, ◌<◌, ◌≤◌, true, false, List, length, Option, sym, ap, ◌∙◌, subst, arith}
 use Rattle.std.specs.Option.{is_some}
+use Rattle.std.proofs.lemmas.Bool.{false≢true}
 use Rattle.std.specs.List.{flat_map, AllByRecursion}
 use Rattle.pun_base.specs.declared.action.Action.{Action}
-use Rattle.pun_base.specs.declared.action.Base.{Base}
-use Rattle.pun_base.specs.declared.action.Base.TheVariants.{Cover, Count}
+use Rattle.pun_base.specs.declared.action.Action.TheVariants.{Cover, Count, Ring, When}
+use Rattle.pun_base.specs.declared.action.Base.TheVariants as base
 use Rattle.pun_base.specs.Actions.{private_len}
 use Rattle.elf_emit.proofs.StayingSegments.{all_map}
 use Rattle.patch_report.proofs.ListPlaces.{In, all_in, all_from, some_is}
@@ -24,7 +25,7 @@ use Rattle.site_turns.proofs.PlannedEvents.{numbers_below}
 use Rattle.site_turns.proofs.PrivateRoom.{private_has_room}
 use Rattle.site_turns.proofs.TurnFold.{turns_keep, turns_tell}
 use Rattle.guest_threads.specs.FromTurns.{IsForThreads, IsThreadLine, TurnsForThreads, MarksHaveRoom}
-use Rattle.site_turns.specs.Modes.{can_in_threads, thread_action, thread_base}
+use Rattle.site_turns.specs.Modes.{can_in_threads, thread_base, IsShared}
 use Rattle.thread_runs.specs.ThreadCode.{mark_at, mark_len}
 
 module _ (g : Scene) (sites : List StartEntry) (choices : List Choice) (A : AreEntries g.image g.entries) (T : IsForThreads g) (s : AreSites g sites)
@@ -63,17 +64,18 @@ pub turns_for_threads : TurnsForThreads
 turns_for_threads g sites choices A T s h = turned g sites choices A T s h
 
 -- the private range of an action that threads share has room for each mark
-pub room_for : (b : Base) (lo hi n i : ℕ) → lo + private_len (thread_action b) n ≤ hi → i < n → mark_at b lo i + mark_len b ≤ hi
-room_for Cover lo hi n i r k = omega (arith, r, k)
-room_for Count lo hi n i r k = omega (arith, r, k)
+pub room_for : (a : Action) (lo hi n i : ℕ) → IsShared a → lo + private_len a n ≤ hi → i < n → mark_at (thread_base a) lo i + mark_len (thread_base a) ≤ hi
+room_for Cover lo hi n i S r k = omega (arith, r, k)
+room_for Count lo hi n i S r k = omega (arith, r, k)
+room_for (Ring len) lo hi n i S r k = absurd (false≢true S)
+room_for (When base.Cover list) lo hi n i S r k = omega (arith, r, k)
+room_for (When base.Count list) lo hi n i S r k = omega (arith, r, k)
 
 -- the private range has room for what the event of each line marks
 pub marks_have_room : MarksHaveRoom
 marks_have_room g taken sites choices S P h =
-    let b = thread_base g.action in
-    let r : g.private.lo + private_len (thread_action b) (length sites) ≤ g.private.hi =
-    subst (λ (a : Action). g.private.lo + private_len a (length sites) ≤ g.private.hi) (sym S) (private_has_room taken g.action (length sites) g.private P).room in
+    let r = (private_has_room taken g.action (length sites) g.private P).room in
     let e = ap (flat_map row_lines) (turns_tell g five sites choices h).0 in
     subst (AllByRecursion (λ (l : Line). mark_at (thread_base g.action) g.private.lo l.number + mark_len (thread_base g.action) ≤ g.private.hi)) (sym e)
     (all_map (λ (l : Line). l.number < length sites) (λ (l : Line). mark_at (thread_base g.action) g.private.lo l.number + mark_len (thread_base g.action) ≤ g.private.hi) (flat_map row_lines (rows_of sites choices))
-    (λ l k. room_for (thread_base g.action) g.private.lo g.private.hi (length sites) l.number r k) (numbers_below sites choices))
+    (λ l k. room_for g.action g.private.lo g.private.hi (length sites) l.number S r k) (numbers_below sites choices))

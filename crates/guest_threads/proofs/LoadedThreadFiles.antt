@@ -6,9 +6,7 @@ use Rattle.std.specs.List.{AllByRecursion, list_any}
 use Rattle.std.proofs.lemmas.Bool.{and_from, or_left, or_right, le-leb, lt-ltb, cond-true, false≢true, eqb-true}
 use Rattle.pun_base.specs.Memory.{Cell, Bytes, or_else}
 use Rattle.pun_base.specs.Ranges.{is_within}
-use Rattle.pun_base.specs.declared.action.Base.{Base}
-use Rattle.pun_base.specs.declared.action.Base.TheVariants.{Cover, Count}
-use Rattle.pun_base.specs.declared.range.Range.{Range}
+use Rattle.pun_base.specs.Actions.{IsAction}
 use Rattle.length_decode.specs.Spelling.{spelling}
 use Rattle.cpu_state.specs.Bytes.{Stands}
 use Rattle.address_space.specs.declared.extent.Extent.{Extent}
@@ -26,7 +24,7 @@ use Rattle.start_entries.proofs.ImageEntries.{built_are_entries}
 use Rattle.image_check.specs.Reports.{Line}
 use Rattle.image_check.specs.Rules.{displaced_from}
 use Rattle.scheme_search.proofs.OneJumpBytes.{within_parts}
-use Rattle.site_turns.specs.Modes.{thread_action, IsShared}
+use Rattle.site_turns.specs.Modes.{IsShared}
 use Rattle.site_turns.specs.PrivateRange.{taken_first}
 use Rattle.site_turns.specs.States.{Scene, State, memory_at, first_state}
 use Rattle.site_turns.specs.Choices.{Choice, state_after}
@@ -130,25 +128,20 @@ thread_job_loads g t m j A f T J c is shown o = loaded g t m j A f T J c is show
 
 -- what shows the job of turns for threads is sound for threads
 pub shown_is_threaded : (g : Scene) (taken : List Extent) (sites : List StartEntry) (choices : List Choice) (m : Bytes) (j : Job) → AreEntries g.image g.entries
-    → IsForThreads g → IsShared g.action → AreTurnsOf g taken five sites choices → IsJob j → Shows j m
+    → IsAction g.action → IsForThreads g → IsShared g.action → AreTurnsOf g taken five sites choices → IsJob j → Shows j m
     → IsThreadJobOf g (state_after g (first_state g) sites choices) j → IsThreaded g (state_after g (first_state g) sites choices) m j
-shown_is_threaded g taken sites choices m j A T S h is shown o =
+shown_is_threaded g taken sites choices m j A asked T S h is shown o =
     let t = state_after g (first_state g) sites choices in
     let q = turns_for_threads g sites choices A T h.sites h.turns in
     let f = turns_keep g five sites choices five_lead A h.sites h.turns in
     let c = marks_have_room g taken sites choices S h.private h.turns in
-    let sound = folded_is_thread_sound g t m (entry_of j.orig) A f T q.0 q.1 (loaded g t m j A f T q.0 c is shown o) in
+    let sound = folded_is_thread_sound g t m (entry_of j.orig) A asked f T q.0 q.1 (loaded g t m j A f T q.0 c is shown o) in
     let r = threads_followed (threading_of g t m (entry_of j.orig)) A sound in
     let d = threads_followed_with (threading_of g t m (entry_of j.orig)) A sound in
     record { sound = sound; followed = r.0; out = r.1; followed_with = d.0; out_with = d.1; entry = λ few. (layout_loads j is few).entry }
 
--- the scene of a file with events that cover or count is one for threads
-scene_for_threads : (b : Base) (file starts : List ℕ) (reserves : List Range) (private : Extent) → IsForThreads (thread_scene b file starts reserves private) × IsShared (thread_action b)
-scene_for_threads Cover file starts reserves private = (record { event = refl; can = refl }, refl)
-scene_for_threads Count file starts reserves private = (record { event = refl; can = refl }, refl)
-
 -- the file written for the turns of a file's sites is sound for threads, followed, and starts where the original does
 pub written_is_threaded : WrittenIsThreaded
-written_is_threaded b low file starts reserves private sites choices m j S h is shown o =
-    shown_is_threaded (thread_scene b file starts reserves private) (taken_first (segments file) reserves) sites choices m j (built_are_entries low file starts S)
-    (scene_for_threads b file starts reserves private).0 (scene_for_threads b file starts reserves private).1 h is shown o
+written_is_threaded action low file starts reserves private sites choices m j asked shared S h is shown o =
+    shown_is_threaded (thread_scene action file starts reserves private) (taken_first (segments file) reserves) sites choices m j (built_are_entries low file starts S)
+    asked (record { event = refl; can = refl }) shared h is shown o

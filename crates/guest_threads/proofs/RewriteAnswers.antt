@@ -19,7 +19,7 @@ use Rattle.start_entries.specs.declared.entry.StartEntry.{StartEntry}
 use Rattle.start_entries.specs.Entries.{entries_of}
 use Rattle.start_entries.specs.Refusals.{first_refusal}
 use Rattle.start_entries.specs.Laws.{IsBuilt}
-use Rattle.site_turns.specs.Modes.{thread_rules, thread_base, IsShared}
+use Rattle.site_turns.specs.Modes.{thread_rules, IsShared}
 use Rattle.site_turns.specs.PlannedState.{PlannedState}
 use Rattle.site_turns.specs.Planning.{Turns, scene_under, end_under}
 use Rattle.site_turns.specs.PlanLaws.{AreGroups, CanBeWritten, report_under}
@@ -41,14 +41,14 @@ use Rattle.guest_threads.specs.ThreadCalls.{IsSharedPlanned, IsWritten, WritesTh
 use Rattle.guest_threads.specs.ThreadPlanning.{IsThreadPlanned}
 use Rattle.guest_threads.specs.ThreadRewriting.{ThreadJob, job_of, IsThreadJobFor, writing_of, Judges, IsFollowedInThreads, IsRewritten, IsReported, RewritesThreads, ReportsThreads}
 use Rattle.guest_threads.proofs.ThreadPlans as plans
-use Rattle.guest_threads.proofs.ThreadPlans.{shared_action, fitting, threaded}
+use Rattle.guest_threads.proofs.ThreadPlans.{fitting, threaded}
 
--- what is planned for threads of an accepted file with its entries, where events cover or count, is planned of the input
-pub planned_threads : (a : Asked) (es : List StartEntry) (p : PlannedState) → IsShared a.action → IsInOrder a → length a.file < 2 ^ 63
+-- what is planned for threads of an accepted file with its entries is planned of the input
+pub planned_threads : (a : Asked) (es : List StartEntry) (p : PlannedState) → IsAction a.action → IsShared a.action → IsInOrder a → length a.file < 2 ^ 63
     → refusal 0x20000 a.file ≡ None → es ≡ entries_of a.file a.starts → first_refusal a.file a.starts ≡ None → IsBuilt a.file es
     → (t : Turns) × IsThreadPlanned (request_with a a.file es) t p → (t : Turns) × IsCallBy IsSharedPlanned a t p
-planned_threads a es p shared o l r e n i x =
-    planned_for IsSharedPlanned a es p (subst IsAction shared (shared_action (thread_base a.action))) o.few o.bytes l r e n i (x.0, record { shared = shared; planned = x.1 })
+planned_threads a es p asked shared o l r e n i x =
+    planned_for IsSharedPlanned a es p asked o.few o.bytes l r e n i (x.0, record { shared = shared; planned = x.1 })
 
 -- where nothing is planned, that is the call's answer
 pub refused : (a : Asked) (name : List ℕ) (s : DeskState) (error : RewriteError) → PlansBy IsSharedPlanned a (Err error)
@@ -99,7 +99,7 @@ module _ (a : Asked) (t : Turns) (p : PlannedState) (call : IsCallBy IsSharedPla
     writes_job = writing_is_job (request_of a) p groups call.asked can_write g call.size
 
     -- what is told of the plan is the body of the job's report
-    pub told_plan : body_of a.action p.private p.rows groups.homes ≡ report_under (thread_rules (thread_base a.action)) (request_of a) t groups
+    pub told_plan : body_of a.action p.private p.rows groups.homes ≡ report_under (thread_rules a.action) (request_of a) t groups
     told_plan i = record {
       action = a.action;
       private = ((call.planned.planned.turned.private i).lo, (call.planned.planned.turned.private i).hi);
@@ -112,13 +112,13 @@ module _ (a : Asked) (t : Turns) (p : PlannedState) (call : IsCallBy IsSharedPla
     plan_report =
         let pages = job_pages (request_of a) p groups writes_job in
         subst (IsBody Two) (sym told_plan)
-        (turned_is_report (thread_rules (thread_base a.action)) five_lead (request_of a) t groups.homes call.asked call.action
+        (turned_is_report (thread_rules a.action) five_lead (request_of a) t groups.homes call.asked call.action
         call.planned.planned.turned.turns call.planned.planned.turned.few pages.0 pages.1)
 
     -- memory that shows the job is sound for threads, and followed
     pub shown_threaded : (m : Bytes) → Shows (job groups).emit m
-        → IsThreaded (scene_under (thread_rules (thread_base a.action)) (request_of a) t) (end_under (thread_rules (thread_base a.action)) (request_of a) t) m (job groups).emit
-    shown_threaded m shown = threaded (request_of a) t p call.asked call.planned.planned groups call.planned.shared writes_job m shown
+        → IsThreaded (scene_under (thread_rules a.action) (request_of a) t) (end_under (thread_rules a.action) (request_of a) t) m (job groups).emit
+    shown_threaded m shown = threaded (request_of a) t p call.asked call.planned.planned groups call.action call.planned.shared writes_job m shown
 
 -- What is known of a patch that was written.
 module _ (a : Asked) (name : List ℕ) (s u : DeskState) (patch : Patch) (w : IsWritten a name s u patch) where
@@ -139,7 +139,7 @@ module _ (a : Asked) (name : List ℕ) (s u : DeskState) (patch : Patch) (w : Is
   same_told i = body_of a.action (w.patch_for.private i) (w.patch_for.rows i) patch.groups.homes
 
   -- which is the body of the job's report
-  told : told_of a.action patch ≡ report_under (thread_rules (thread_base a.action)) (request_of a) w.turns patch.groups
+  told : told_of a.action patch ≡ report_under (thread_rules a.action) (request_of a) w.turns patch.groups
   told = same_told ∙ told_plan a w.turns w.planned w.call patch.groups w.patch_for.groups
 
   -- a report can tell it
@@ -151,7 +151,7 @@ module _ (a : Asked) (name : List ℕ) (s u : DeskState) (patch : Patch) (w : Is
   accepted = (w.call.starts, record { is_job = is_job a w.turns w.planned w.call patch.groups w.patch_for.groups; few = w.emitted.0 })
 
   -- its file follows the original
-  followed : IsFollowedInThreads (thread_base a.action) a.file a.starts (layout written_job.emit) written_job.private written_job.rows
+  followed : IsFollowedInThreads a.action a.file a.starts (layout written_job.emit) written_job.private written_job.rows
   followed =
       let th = shown_threaded a w.turns w.planned w.call patch.groups w.patch_for.groups (image_of (layout written_job.emit))
       (file_shows written_job.emit (writes_job a w.turns w.planned w.call patch.groups w.patch_for.groups) w.emitted.0) in

@@ -6,8 +6,6 @@ use Rattle.std.specs.List.{AllByRecursion, flat_map}
 use Rattle.std.proofs.lemmas.Bool.{false≢true}
 use Rattle.pun_base.specs.Memory.{Bytes}
 use Rattle.pun_base.specs.Actions.{IsAction}
-use Rattle.pun_base.specs.declared.action.Base.{Base}
-use Rattle.pun_base.specs.declared.action.Base.TheVariants.{Cover, Count}
 use Rattle.pun_base.specs.declared.range.Range.{Range}
 use Rattle.pun_base.specs.Limits.{most_sites}
 use Rattle.cpu_state.specs.Bytes.{Stands}
@@ -30,7 +28,7 @@ use Rattle.image_check.specs.Rules.{displaced_from}
 use Rattle.image_check.proofs.CodeAtStarts.{found_address}
 use Rattle.site_turns.specs.Folded.{code_size, done_by}
 use Rattle.site_turns.specs.Jobs.{patch_of}
-use Rattle.site_turns.specs.Modes.{thread_rules, thread_action, thread_base, IsShared, thread_event_of}
+use Rattle.site_turns.specs.Modes.{thread_rules, thread_base, thread_when, IsShared, thread_event_of}
 use Rattle.site_turns.specs.PlannedState.{PlannedState}
 use Rattle.site_turns.specs.Planning.{Request, Turns, lines_of, AreCodesBy, IsTurned, scene_under, end_under, taken_at_first}
 use Rattle.site_turns.specs.PlanLaws.{IsAsked, CanBeWritten, job_for, writes_of}
@@ -47,26 +45,12 @@ use Rattle.site_turns.proofs.LoadedJobs.{five_lead}
 use Rattle.site_turns.proofs.CodeSizes.{one_standing}
 use Rattle.guest_threads.specs.declared.planning.ThreadSetting.{ThreadSetting}
 use Rattle.guest_threads.specs.FromTurns.{IsForThreads, IsThreadLine, OfCode, IsThreadJobOf, IsThreaded}
+use Rattle.thread_runs.specs.Building.{when_of}
 use Rattle.thread_runs.specs.ThreadCode.{code_if}
 use Rattle.guest_threads.specs.ThreadPlanning.{HasThreadCode, IsThreadPlanned, IsThreadSetting, CanBuildThread}
 use Rattle.guest_threads.proofs.LineSize.{Known, instruction, size_is}
 use Rattle.guest_threads.proofs.LoadedThreadFiles.{shown_is_threaded}
 use Rattle.guest_threads.proofs.LinesAfterTurns.{turns_for_threads}
-
--- threads share each action of theirs
-pub base_shared : (b : Base) → IsShared (thread_action b)
-base_shared Cover = refl
-base_shared Count = refl
-
--- an action that threads share is one
-pub shared_action : (b : Base) → IsAction (thread_action b)
-shared_action Cover = tt
-shared_action Count = tt
-
--- the base of its action is that of a base
-pub base_back : (b : Base) → thread_base (thread_action b) ≡ b
-base_back Cover = refl
-base_back Count = refl
 
 -- pieces have the sizes of their lines
 sizes_of : (g : Scene) (C : Line → List ℕ → Type 0) (ls : List Line) (bs : List Built)
@@ -82,24 +66,24 @@ entry_there None h = absurd (false≢true h)
 entry_there (Some e) h = (e, refl)
 
 module _ (q : Request) (t : Turns) (range : Range) (told : List ReportRow) (A : AreEntries (image_of q.file) q.listed) (few : length q.sites ≤ most_sites)
-    (h : IsTurned (thread_rules (thread_base q.action)) q t range told) where
+    (h : IsTurned (thread_rules q.action) q t range told) where
   abbrev g : Scene
-  g = scene_under (thread_rules (thread_base q.action)) q t
+  g = scene_under (thread_rules q.action) q t
 
   abbrev ls : List Line
-  ls = (done_by (end_under (thread_rules (thread_base q.action)) q t)).lines
+  ls = (done_by (end_under (thread_rules q.action) q t)).lines
 
   -- the scene is one for threads
   for_threads : IsForThreads g
   for_threads = record { event = refl; can = refl }
 
   -- one jump or two lead to each line's place
-  jumps : AllByRecursion (IsThreadLine g (end_under (thread_rules (thread_base q.action)) q t)) ls
+  jumps : AllByRecursion (IsThreadLine g (end_under (thread_rules q.action) q t)) ls
   jumps = (turns_for_threads g t.entries t.choices A for_threads h.turns.turns.sites h.turns.turns.turns).0
 
   -- each line has a code that can be made
   ready : AllByRecursion (IsReady g) ls
-  ready = all_ready (thread_rules (thread_base q.action)) five_lead q t A few h.turns
+  ready = all_ready (thread_rules q.action) five_lead q t A few h.turns
 
   -- the code of each line can be made
   pub can_build : (s : ThreadSetting) → s.starts.now ≡ q.listed → IsThreadSetting s → AllByRecursion (CanBuildThread s) (lines_of told)
@@ -108,7 +92,7 @@ module _ (q : Request) (t : Turns) (range : Range) (told : List ReportRow) (A : 
       (all_from (CanBuildThread s) ls (λ l i.
       let r : IsReady g l = all_in (IsReady g) ls l ready i in
       let e = entry_there (entry_at q.listed l.tramp.start) r.displaced in
-      let one : IsThreadLine g (end_under (thread_rules (thread_base q.action)) q t) l = all_in (IsThreadLine g (end_under (thread_rules (thread_base q.action)) q t)) ls l jumps i in
+      let one : IsThreadLine g (end_under (thread_rules q.action) q t) l = all_in (IsThreadLine g (end_under (thread_rules q.action) q t)) ls l jumps i in
       record {
         set = set;
         number = r.number;
@@ -118,7 +102,7 @@ module _ (q : Request) (t : Turns) (range : Range) (told : List ReportRow) (A : 
       }))
 
   -- the code of a line is that of the instruction that is known there, and has the size that the turn took
-  module _ (l : Line) (i : In ls l) (code : List ℕ) (k : HasThreadCode (thread_base q.action) (image_of q.file) range.lo l code) where
+  module _ (l : Line) (i : In ls l) (code : List ℕ) (k : HasThreadCode q.action (image_of q.file) range.lo l code) where
     record There : Type 0 where
       entry : StartEntry
       at : entry_at q.listed l.tramp.start ≡ Some entry
@@ -128,9 +112,9 @@ module _ (q : Request) (t : Turns) (range : Range) (told : List ReportRow) (A : 
     there = let e = entry_there (entry_at q.listed l.tramp.start) (all_in (IsReady g) ls l ready i).displaced in record { entry = e.0; at = e.1 }
 
     -- the instruction at the line's start is known
-    known : Known g (end_under (thread_rules (thread_base q.action)) q t) A for_threads jumps l i there.entry there.at (entry_listed q.listed l.tramp.start there.entry there.at)
+    known : Known g (end_under (thread_rules q.action) q t) A for_threads jumps l i there.entry there.at (entry_listed q.listed l.tramp.start there.entry there.at)
         (found_address q.listed l.tramp.start there.entry there.at)
-    known = instruction g (end_under (thread_rules (thread_base q.action)) q t) A for_threads jumps l i there.entry there.at (entry_listed q.listed l.tramp.start there.entry there.at)
+    known = instruction g (end_under (thread_rules q.action) q t) A for_threads jumps l i there.entry there.at (entry_listed q.listed l.tramp.start there.entry there.at)
         (found_address q.listed l.tramp.start there.entry there.at)
 
     -- the code's fields are those of the instruction at the line's start
@@ -139,33 +123,33 @@ module _ (q : Request) (t : Turns) (range : Range) (told : List ReportRow) (A : 
         (subst (λ (z : ℕ). Stands (image_of q.file) z (spelling known.fields)) (found_address q.listed l.tramp.start there.entry there.at) known.stands)
 
     -- the code is that of the trampoline
-    is_known : code ≡ code_if (thread_event_of (thread_base q.action) l.tramp.event) [] t.private.lo l.number known.fields (there.entry.addr + there.entry.len) l.tramp.place
+    is_known : code ≡ code_if (thread_event_of (thread_base q.action) l.tramp.event) (when_of (thread_when q.action)) t.private.lo l.number known.fields (there.entry.addr + there.entry.len) l.tramp.place
     is_known =
         let lo : range.lo ≡ t.private.lo = ap (λ (e : Extent). e.lo) h.private in
         let next : l.tramp.start + length (spelling k.fields) ≡ there.entry.addr + there.entry.len =
         ap₂ (λ x y. x + y) (sym (found_address q.listed l.tramp.start there.entry there.at)) (ap (λ (f : Fields). length (spelling f)) same ∙ known.len) in
-        k.is ∙ (λ j. code_if (thread_event_of (thread_base q.action) l.tramp.event) [] (lo j) l.number (same j) (next j) l.tramp.place)
+        k.is ∙ (λ j. code_if (thread_event_of (thread_base q.action) l.tramp.event) (when_of (thread_when q.action)) (lo j) l.number (same j) (next j) l.tramp.place)
 
     -- the code of a line has as many bytes as its turn took
     pub line_sized : code_size g l ≡ Some (length code)
     line_sized =
-        size_is g (end_under (thread_rules (thread_base q.action)) q t) A for_threads jumps l i there.entry there.at (entry_listed q.listed l.tramp.start there.entry there.at)
+        size_is g (end_under (thread_rules q.action) q t) A for_threads jumps l i there.entry there.at (entry_listed q.listed l.tramp.start there.entry there.at)
         (found_address q.listed l.tramp.start there.entry there.at) known
         ∙ ap (λ (z : List ℕ). Some (length z)) (sym is_known)
 
   -- codes that are built for the lines have the sizes that their turns took
-  pub sized : (bs : List Built) → AreCodesBy (HasThreadCode (thread_base q.action) (image_of q.file) range.lo) (lines_of told) bs → AreSized g ls bs
+  pub sized : (bs : List Built) → AreCodesBy (HasThreadCode q.action (image_of q.file) range.lo) (lines_of told) bs → AreSized g ls bs
   sized bs c =
-      sizes_of g (HasThreadCode (thread_base q.action) (image_of q.file) range.lo) ls bs
-      (all_from (λ l. (code : List ℕ) → HasThreadCode (thread_base q.action) (image_of q.file) range.lo l code → code_size g l ≡ Some (length code)) ls line_sized)
-      (subst (λ (rows : List RowValue). AreCodesBy (HasThreadCode (thread_base q.action) (image_of q.file) range.lo) (flat_map row_lines rows) bs) h.rows c)
+      sizes_of g (HasThreadCode q.action (image_of q.file) range.lo) ls bs
+      (all_from (λ l. (code : List ℕ) → HasThreadCode q.action (image_of q.file) range.lo l code → code_size g l ≡ Some (length code)) ls line_sized)
+      (subst (λ (rows : List RowValue). AreCodesBy (HasThreadCode q.action (image_of q.file) range.lo) (flat_map row_lines rows) bs) h.rows c)
 
 module _ (q : Request) (t : Turns) (p : PlannedState) (a : IsAsked q) (h : IsThreadPlanned q t p) where
   abbrev gp : Scene
-  gp = scene_under (thread_rules (thread_base q.action)) q t
+  gp = scene_under (thread_rules q.action) q t
 
   abbrev lines : List Line
-  lines = (done_by (end_under (thread_rules (thread_base q.action)) q t)).lines
+  lines = (done_by (end_under (thread_rules q.action) q t)).lines
 
   -- each code has as many bytes as its turn took for it
   sizes : AreSized gp lines p.built
@@ -173,11 +157,11 @@ module _ (q : Request) (t : Turns) (p : PlannedState) (a : IsAsked q) (h : IsThr
 
   -- what was planned can be written
   pub writable : CanBeWritten q p
-  writable = can_be_written (thread_rules (thread_base q.action)) five_lead q t p a h.turned sizes
+  writable = can_be_written (thread_rules q.action) five_lead q t p a h.turned sizes
 
   -- each code that was built has bytes, and ends among a program's addresses
   pub fitting : AllByRecursion IsFitting p.built
-  fitting = fits_under (thread_rules (thread_base q.action)) five_lead q t a h.turned.turns p.built sizes
+  fitting = fits_under (thread_rules q.action) five_lead q t a h.turned.turns p.built sizes
 
   module _ (groups : GroupsState) where
     abbrev j : Job
@@ -186,7 +170,7 @@ module _ (q : Request) (t : Turns) (p : PlannedState) (a : IsAsked q) (h : IsThr
     -- a line's code is one of the pieces
     piece_in : (l : Line) → In lines l → OfCode gp (λ place code. Contains j.pieces (record { addr = place; now = code })) l
     piece_in l i f next is stands n =
-        let C = HasThreadCode (thread_base q.action) (image_of q.file) p.private.lo in
+        let C = HasThreadCode q.action (image_of q.file) p.private.lo in
         let x = piece_at C lines p.built
         (subst (λ (rows : List RowValue). AreCodesBy C (flat_map row_lines rows) p.built) h.turned.rows h.built) l i in
         let w = in_map views.piece_of p.built x.built x.in_list in
@@ -194,15 +178,15 @@ module _ (q : Request) (t : Turns) (p : PlannedState) (a : IsAsked q) (h : IsThr
         let same : c.fields ≡ f = one_standing (image_of q.file) l.tramp.start c.fields f c.spelled is c.stands stands in
         let lo : p.private.lo ≡ t.private.lo = ap (λ (e : Extent). e.lo) h.turned.private in
         let ends : l.tramp.start + length (spelling c.fields) ≡ next = ap (λ (z : Fields). l.tramp.start + length (spelling z)) same ∙ sym n in
-        let code : x.built.code.bytes ≡ code_if (thread_event_of (thread_base q.action) l.tramp.event) [] t.private.lo l.number f next l.tramp.place =
-        c.is ∙ (λ k. code_if (thread_event_of (thread_base q.action) l.tramp.event) [] (lo k) l.number (same k) (ends k) l.tramp.place) in
+        let code : x.built.code.bytes ≡ code_if (thread_event_of (thread_base q.action) l.tramp.event) (when_of (thread_when q.action)) t.private.lo l.number f next l.tramp.place =
+        c.is ∙ (λ k. code_if (thread_event_of (thread_base q.action) l.tramp.event) (when_of (thread_when q.action)) (lo k) l.number (same k) (ends k) l.tramp.place) in
         let place = x.place in
-        let e : views.piece_of x.built ≡ record { addr = l.tramp.place; now = code_if (thread_event_of (thread_base q.action) l.tramp.event) [] t.private.lo l.number f next l.tramp.place } =
+        let e : views.piece_of x.built ≡ record { addr = l.tramp.place; now = code_if (thread_event_of (thread_base q.action) l.tramp.event) (when_of (thread_when q.action)) t.private.lo l.number f next l.tramp.place } =
         λ k. record { addr = place k; now = code k } in
         subst (Contains j.pieces) e (contains_at j.pieces w.0 (views.piece_of x.built) w.1)
 
     -- the job writes what the turns have done
-    is_job_of : IsThreadJobOf gp (end_under (thread_rules (thread_base q.action)) q t) j
+    is_job_of : IsThreadJobOf gp (end_under (thread_rules q.action) q t) j
     is_job_of = record {
       orig = λ x. refl;
       writes = patches_are (writes_of p.rows)
@@ -213,6 +197,6 @@ module _ (q : Request) (t : Turns) (p : PlannedState) (a : IsAsked q) (h : IsThr
     }
 
     -- a memory that shows the job of what was planned is sound for threads, and followed
-    pub threaded : IsShared q.action → IsJob j → (m : Bytes) → Shows j m → IsThreaded gp (end_under (thread_rules (thread_base q.action)) q t) m j
-    threaded S is m shown =
-        shown_is_threaded gp (taken_at_first q) t.entries t.choices m j (entries_are q a) (record { event = refl; can = refl }) S h.turned.turns.turns is shown is_job_of
+    pub threaded : IsAction q.action → IsShared q.action → IsJob j → (m : Bytes) → Shows j m → IsThreaded gp (end_under (thread_rules q.action) q t) m j
+    threaded asked S is m shown =
+        shown_is_threaded gp (taken_at_first q) t.entries t.choices m j (entries_are q a) asked (record { event = refl; can = refl }) S h.turned.turns.turns is shown is_job_of

@@ -7,6 +7,7 @@ use Rattle.std.proofs.lemmas.Bool.{and_from, cases_eq, cases_order, eqb-true, eq
 use Rattle.pun_base.specs.Memory.{Cell, Bytes}
 use Rattle.pun_base.specs.declared.action.Base.{Base}
 use Rattle.pun_base.specs.declared.action.Base.TheVariants.{Cover, Count}
+use Rattle.pun_base.specs.Actions.{IsAction}
 use Rattle.length_decode.specs.Spelling.{spelling}
 use Rattle.cpu_state.specs.Bytes.{Stands}
 use Rattle.cpu_state.specs.Fixed.{IsFixed}
@@ -29,9 +30,10 @@ use Rattle.site_turns.proofs.PlanForms.{entry_here}
 use Rattle.site_turns.specs.Modes.{thread_base, thread_event_of}
 use Rattle.thread_runs.specs.ThreadCode.{mark_at, mark_len, code_if}
 use Rattle.thread_runs.specs.Threading.{ThreadSite, Threading, next_of, is_new, ByTwoJumps, IsThreadSite, is_code_of, IsThreadSound}
-use Rattle.guest_threads.specs.FromTurns.{IsForThreads, site_of, threading_of, IsThreadLine, IsThreadLoaded, FoldedIsThreadSound}
+use Rattle.guest_threads.specs.FromTurns.{IsForThreads, site_with, site_of, threading_of, IsThreadLine, IsThreadLoaded, FoldedIsThreadSound}
 use Rattle.site_turns.proofs.CodeEnds.{line_fits}
 use Rattle.site_turns.proofs.CodeSizes.{one_standing}
+use Rattle.guest_threads.proofs.ThreadConditions.{action_few}
 use Rattle.guest_threads.proofs.LineSize.{Known as KnownLine, instruction as line_instruction, code_with as line_code, size_is as line_size, in_line as line_in, one as line_one}
 
 -- the only element of a list made of an option
@@ -56,7 +58,7 @@ pub mark_in : (b : Base) (p i : ℕ) → p ≤ mark_at b p i
 mark_in Cover p i = omega arith
 mark_in Count p i = omega arith
 
-module _ (g : Scene) (t : State) (patched : Bytes) (start : ℕ) (A : AreEntries g.image g.entries) (F : IsFolded g t) (T : IsForThreads g)
+module _ (g : Scene) (t : State) (patched : Bytes) (start : ℕ) (A : AreEntries g.image g.entries) (asked : IsAction g.action) (F : IsFolded g t) (T : IsForThreads g)
     (J : AllByRecursion (IsThreadLine g t) (done_by t).lines) (N : EventsAreNumbered (done_by t).lines) (W : IsThreadLoaded g t patched) where
   abbrev R : Threading
   R = threading_of g t patched start
@@ -73,15 +75,15 @@ module _ (g : Scene) (t : State) (patched : Bytes) (start : ℕ) (A : AreEntries
     in_lines : In d.lines line
     entry : StartEntry
     at : entry_at g.entries line.tramp.start ≡ Some entry
-    is : record { number = line.number; entry = entry; place = line.tramp.place; event = thread_event_of (thread_base g.action) line.tramp.event; when = [] } ≡ s
+    is : site_with g.action line entry ≡ s
     listed : Contains g.entries entry
     addr : entry.addr ≡ line.tramp.start
 
   -- each site is that of a line
   of_site : (s : ThreadSite) → Contains R.sites s → Of s
   of_site s c =
-      let q = from_flat (site_of (thread_base g.action) g.entries) d.lines s (place_of R.sites s c) in
-      let o = one_of (λ (e : StartEntry). record { number = q.0.number; entry = e; place = q.0.tramp.place; event = thread_event_of (thread_base g.action) q.0.tramp.event; when = [] }) (entry_at g.entries q.0.tramp.start) s q.2 in
+      let q = from_flat (site_of g.action g.entries) d.lines s (place_of R.sites s c) in
+      let o = one_of (site_with g.action q.0) (entry_at g.entries q.0.tramp.start) s q.2 in
       let f = finds (λ (e : StartEntry). eqb e.addr q.0.tramp.start) g.entries o.0 o.1 in
       record { line = q.0; in_lines = q.1; entry = o.0; at = o.1; is = o.2; listed = contains_at g.entries f.place o.0 f.at; addr = eqb-true o.0.addr q.0.tramp.start f.passes }
 
@@ -150,7 +152,7 @@ module _ (g : Scene) (t : State) (patched : Bytes) (start : ℕ) (A : AreEntries
     })
 
     -- the line's site is a patched one
-    site_sound : IsThreadSite R (record { number = l.number; entry = e; place = l.tramp.place; event = thread_event_of (thread_base g.action) l.tramp.event; when = [] })
+    site_sound : IsThreadSite R (site_with g.action l e)
     site_sound =
         let k = instruction in record {
           listed = listed;
@@ -163,7 +165,7 @@ module _ (g : Scene) (t : State) (patched : Bytes) (start : ℕ) (A : AreEntries
           size = k.size;
           displaced = k.displaced;
           jump = jumps (subst (λ (z : ℕ). Leads (memory_at g t) g.entries z l.tramp.place) (sym addr) one.leads);
-          few = record { asked = tt; few = omega arith };
+          few = action_few g.action asked;
           code = loaded_fixed patched l.tramp.place (code_with k) (let h = low k in omega (arith, h)) (shown k);
           new = λ x a b. new_if (patched x) (g.image x) (byte_shown k x a b) (all_in _ d.lines l W.fresh i x (in_line k x a b));
           low = low k;
@@ -181,7 +183,7 @@ module _ (g : Scene) (t : State) (patched : Bytes) (start : ℕ) (A : AreEntries
   one_line s t o p e =
       let l : o.line ≡ p.line = some_is o.line p.line (sym o.in_lines.1 ∙ ap (slice_get d.lines) e ∙ p.in_lines.1) in
       let n : o.entry ≡ p.entry = some_is o.entry p.entry (sym o.at ∙ ap (λ (z : Line). entry_at g.entries z.tramp.start) l ∙ p.at) in
-      sym o.is ∙ (λ i. record { number = (l i).number; entry = n i; place = (l i).tramp.place; event = thread_event_of (thread_base g.action) (l i).tramp.event; when = [] }) ∙ p.is
+      sym o.is ∙ (λ i. site_with g.action (l i) (n i)) ∙ p.is
 
   -- where one line at most passes a test, two that pass have one index
   twice : (f : Line → Bool) (o p : ℕ) (l m : Line) → count_by f d.lines ≤ 1 → slice_get d.lines o ≡ Some l → slice_get d.lines p ≡ Some m → f l ≡ true → f m ≡ true → o ≡ p
@@ -257,9 +259,9 @@ module _ (g : Scene) (t : State) (patched : Bytes) (start : ℕ) (A : AreEntries
           let f = found (starts_at o.entry.addr) d.lines o.starts in
           let e : f.is.tramp.start ≡ o.entry.addr = eqb-true f.is.tramp.start o.entry.addr f.passes in
           let at : entry_at g.entries f.is.tramp.start ≡ Some o.entry = ap (entry_at g.entries) e ∙ entry_here g.image g.entries o.entry A o.listed in
-          let s : ThreadSite = record { number = f.is.number; entry = o.entry; place = f.is.tramp.place; event = thread_event_of (thread_base g.action) f.is.tramp.event; when = [] } in
-          let c : In (site_of (thread_base g.action) g.entries f.is) s = (0, ap (λ (q : Option StartEntry). slice_get (option_to_list (option_map (λ (e : StartEntry). record { number = f.is.number; entry = e; place = f.is.tramp.place; event = thread_event_of (thread_base g.action) f.is.tramp.event; when = [] }) q)) 0) at) in
-          let i = in_flat (site_of (thread_base g.action) g.entries) d.lines f.is s (f.place, f.at) c in
+          let s : ThreadSite = site_with g.action f.is o.entry in
+          let c : In (site_of g.action g.entries f.is) s = (0, ap (λ (q : Option StartEntry). slice_get (option_to_list (option_map (site_with g.action f.is) q)) 0) at) in
+          let i = in_flat (site_of g.action g.entries) d.lines f.is s (f.place, f.at) c in
           any_at (λ (s : ThreadSite). leb s.entry.addr x && ltb x (s.entry.addr + s.entry.len)) R.sites i.0 s i.1
           (and_from (leb o.entry.addr x) (ltb x (o.entry.addr + o.entry.len)) (le-leb o.entry.addr x o.low) (lt-ltb x (o.entry.addr + o.entry.len) o.high))
 
@@ -286,4 +288,4 @@ module _ (g : Scene) (t : State) (patched : Bytes) (start : ℕ) (A : AreEntries
 
 -- what the turns have done, loaded with the code of threads, is sound for threads
 pub folded_is_thread_sound : FoldedIsThreadSound
-folded_is_thread_sound g t patched entry A F T J N W = sound g t patched entry A F T J N W
+folded_is_thread_sound g t patched entry A asked F T J N W = sound g t patched entry A asked F T J N W

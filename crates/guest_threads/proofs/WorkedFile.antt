@@ -10,7 +10,6 @@ use Rattle.hex.specs.Hex.{IsBytes}
 use Rattle.pun_base.specs.Memory.{Bytes}
 use Rattle.pun_base.specs.Ranges.{is_within}
 use Rattle.pun_base.specs.declared.action.Action.TheVariants.{Count}
-use Rattle.pun_base.specs.declared.action.Base.TheVariants as base
 use Rattle.pun_base.specs.declared.outcome.Plan.{Plan}
 use Rattle.pun_base.specs.declared.outcome.Outcome.TheVariants.{Patched}
 use Rattle.pun_base.specs.declared.scheme.Scheme.TheVariants as scheme
@@ -332,7 +331,7 @@ pub original_path : text_image row_text ≡ image_of row_file
 original_path = λ i x. sym (original_is x) i
 
 -- the scene is the file's
-scene_is : scene ≡ scene_under (thread_rules base.Count) q turns
+scene_is : scene ≡ scene_under (thread_rules Count) q turns
 scene_is = λ i. record {
   image = original_path i;
   segments = sym segments_are i;
@@ -345,7 +344,7 @@ scene_is = λ i. record {
 }
 
 -- the row's turns are those of the rules for threads
-turns_are : AreTurnsOf (scene_under (thread_rules base.Count) q turns) (taken_at_first q) five (row_entry ∷ []) choices
+turns_are : AreTurnsOf (scene_under (thread_rules Count) q turns) (taken_at_first q) five (row_entry ∷ []) choices
 turns_are = subst (λ (g : Scene). AreTurnsOf g (taken_first g.segments []) five (row_entry ∷ []) choices) scene_is turns_told
 
 abbrev planned : PlannedState
@@ -449,7 +448,7 @@ pub written_loads : Loads row_job.emit
 written_loads = layout_loads row_job.emit job_is table_fits
 
 -- the row's written file follows the original, for threads
-followed : IsFollowedInThreads base.Count row_file row_starts row_written row_private (row_value ∷ [])
+followed : IsFollowedInThreads Count row_file row_starts row_written row_private (row_value ∷ [])
 followed =
     let h = threaded q turns planned asked_is planned_is groups refl job_is (image_of row_written) (file_shows row_job.emit job_is table_fits) in
     record { entry = h.entry table_fits; sound = h.sound; followed = h.followed; out = h.out; followed_with = h.followed_with; out_with = h.out_with }

@@ -29,6 +29,7 @@ use Rattle.image_check.proofs.WorkedImage.{inside, between, spread_out}
 use Rattle.patch_report.proofs.ListPlaces.{some_is}
 use Rattle.site_turns.proofs.CodeSizes.{one_standing}
 use Rattle.thread_runs.specs.Event.Point.{At0, At1, At2, At3, At4, At5, At6}
+use Rattle.pun_base.specs.declared.action.Action.TheVariants.{Count}
 use Rattle.pun_base.specs.declared.action.Base.TheVariants as base
 use Rattle.guest_threads.specs.FromTurns.{site_of}
 use Rattle.thread_runs.specs.Guest.{machine_of}
@@ -415,7 +416,7 @@ is_row = λ i. record {
   patched = patched_path i;
   entry = sym entry_is i;
   listed = sym entries_are_row i;
-  sites = flat_map (site_of base.Count (sym entries_are_row i)) (flat_map row_lines (row_value ∷ []));
+  sites = flat_map (site_of Count (sym entries_are_row i)) (flat_map row_lines (row_value ∷ []));
   private = 0x20000;
 }
 

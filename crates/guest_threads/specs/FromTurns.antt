@@ -1,8 +1,9 @@
 -- What the turns have done, loaded with the code of threads, is sound for threads, and runs as the original does. Theorems cite it.
-use Rattle.std.specs.Prelude.{◌≡◌, ℕ, ◌+◌, ◌*◌, ◌<◌, ◌≤◌, true, false, List, [], ◌∷◌, length, map, Contains, Some, None, is_some, option_to_list, option_map}
+use Rattle.std.specs.Prelude.{◌≡◌, ℕ, ◌+◌, ◌*◌, ◌<◌, ◌≤◌, true, false, List, ◌∷◌, length, map, Contains, Some, None, is_some, option_to_list, option_map}
 use Rattle.std.specs.List.{AllByRecursion, flat_map}
 use Rattle.pun_base.specs.Memory.{Bytes}
-use Rattle.pun_base.specs.declared.action.Base.{Base}
+use Rattle.pun_base.specs.declared.action.Action.{Action}
+use Rattle.pun_base.specs.Actions.{IsAction}
 use Rattle.pun_base.specs.declared.range.Range.{Range}
 use Rattle.length_decode.specs.Spelling.{Fields, IsInstruction, spelling}
 use Rattle.cpu_state.specs.Bytes.{Stands}
@@ -27,32 +28,44 @@ use Rattle.site_turns.specs.Folded.{done_by, in_code, IsFolded}
 use Rattle.site_turns.specs.Loaded.{AreShown}
 use Rattle.site_turns.specs.Jobs.{patch_of, AreTurnsOf}
 use Rattle.thread_runs.specs.ThreadCode.{mark_at, mark_len, code_if}
-use Rattle.site_turns.specs.Modes.{can_in_threads, thread_action, thread_base, IsShared, thread_event_size, thread_event_of}
+use Rattle.site_turns.specs.Modes.{can_in_threads, thread_base, thread_when, IsShared, thread_event_size, thread_event_of}
+use Rattle.thread_runs.specs.Building.{when_of}
 use Rattle.thread_runs.specs.Theorem.{AreFollowed, GetOut}
+use Rattle.thread_runs.specs.Building.{when_of}
 use Rattle.thread_runs.specs.TheoremWithDeliveries.{AreFollowedWith, GetOutWith}
 use Rattle.thread_runs.specs.Threading.{ThreadSite, Threading, IsThreadSound}
 
 -- The scene is one whose turns go by the rules for threads.
 pub record IsForThreads (g : Scene) : Type 0 where
-  pub event : g.event_size ≡ thread_event_size (thread_base g.action)
+  pub event : g.event_size ≡ thread_event_size g.action
   pub can : g.can ≡ can_in_threads
 
--- The scene of a file whose turns go by the rules for threads, with events that cover or count.
-abbrev pub thread_scene : Base → List ℕ → List ℕ → List Range → Extent → Scene
-thread_scene b file starts reserves private = record {
+-- The scene of a file whose turns go by the rules for threads, with the events of an action.
+abbrev pub thread_scene : Action → List ℕ → List ℕ → List Range → Extent → Scene
+thread_scene action file starts reserves private = record {
   image = image_of file;
   segments = segments file;
   entries = entries_of file starts;
-  action = thread_action b;
-  event_size = thread_event_size b;
+  action = action;
+  event_size = thread_event_size action;
   can = can_in_threads;
   private = private;
   shut = private ∷ taken_first (segments file) reserves;
 }
 
--- The site of a line, as threads have it, whose event covers or counts.
-abbrev pub site_of : Base → List StartEntry → Line → List ThreadSite
-site_of b es l = option_to_list (option_map (λ e. record { number = l.number; entry = e; place = l.tramp.place; event = thread_event_of b l.tramp.event; when = [] }) (entry_at es l.tramp.start))
+-- The site of a line, as threads have it, whose event covers or counts where the action's condition holds.
+abbrev pub site_with : Action → Line → StartEntry → ThreadSite
+site_with action l e = record {
+  number = l.number;
+  entry = e;
+  place = l.tramp.place;
+  event = thread_event_of (thread_base action) l.tramp.event;
+  when = when_of (thread_when action);
+}
+
+-- It is there where the line's start is listed.
+abbrev pub site_of : Action → List StartEntry → Line → List ThreadSite
+site_of action es l = option_to_list (option_map (site_with action l) (entry_at es l.tramp.start))
 
 -- What was patched for threads, by the lines that the turns have done.
 abbrev pub threading_of : Scene → State → Bytes → ℕ → Threading
@@ -61,7 +74,7 @@ threading_of g t patched entry = record {
   patched = patched;
   entry = entry;
   listed = g.entries;
-  sites = flat_map (site_of (thread_base g.action) g.entries) (done_by t).lines;
+  sites = flat_map (site_of g.action g.entries) (done_by t).lines;
   private = g.private.lo;
 }
 
@@ -80,7 +93,7 @@ HaveMarks g ls = AllByRecursion (λ l. mark_at (thread_base g.action) g.private.
 -- P holds of a line's place and code, whatever the line's instruction is.
 abbrev pub OfCode : Scene → (ℕ → List ℕ → Type 0) → Line → Type 0
 OfCode g P l = (f : Fields) (next : ℕ) → IsInstruction f → Stands g.image l.tramp.start (spelling f) → next ≡ l.tramp.start + length (spelling f)
-    → P l.tramp.place (code_if (thread_event_of (thread_base g.action) l.tramp.event) [] g.private.lo l.number f next l.tramp.place)
+    → P l.tramp.place (code_if (thread_event_of (thread_base g.action) l.tramp.event) (when_of (thread_when g.action)) g.private.lo l.number f next l.tramp.place)
 
 -- Loaded are memory as it stands, the code of threads at each place, at new addresses, and the
 -- private range of zeros.
@@ -92,9 +105,9 @@ pub record IsThreadLoaded (g : Scene) (t : State) (patched : Bytes) : Type 0 whe
   pub room : HaveMarks g (done_by t).lines
   pub high : g.private.hi ≤ 0x7FFF0000
 
--- What the turns for threads have done is sound for threads once it is loaded.
+-- What the turns for threads have done is sound for threads once it is loaded, where the action can be asked for.
 abbrev pub FoldedIsThreadSound : Type 0
-FoldedIsThreadSound = (g : Scene) (t : State) (patched : Bytes) (entry : ℕ) → AreEntries g.image g.entries → IsFolded g t → IsForThreads g
+FoldedIsThreadSound = (g : Scene) (t : State) (patched : Bytes) (entry : ℕ) → AreEntries g.image g.entries → IsAction g.action → IsFolded g t → IsForThreads g
     → AllByRecursion (IsThreadLine g t) (done_by t).lines → EventsAreNumbered (done_by t).lines → IsThreadLoaded g t patched → IsThreadSound (threading_of g t patched entry)
 
 -- After the turns of all five schemes one jump or two lead to each line's place, and of two lines with
@@ -113,7 +126,8 @@ MarksHaveRoom = (g : Scene) (taken : List Extent) (sites : List StartEntry) (cho
 -- Once what the turns have done is loaded, the patched guest runs as the original does and counts or
 -- covers, and its threads get out of the trampolines, with deliveries and without.
 abbrev pub TurnsAreThreaded : Type 0
-TurnsAreThreaded = (g : Scene) (sites : List StartEntry) (choices : List Choice) (patched : Bytes) (entry : ℕ) → AreEntries g.image g.entries → IsForThreads g → AreSites g sites
+TurnsAreThreaded = (g : Scene) (sites : List StartEntry) (choices : List Choice) (patched : Bytes) (entry : ℕ) → AreEntries g.image g.entries → IsAction g.action
+    → IsForThreads g → AreSites g sites
     → IsTurns g five (first_state g) sites choices → IsThreadLoaded g (state_after g (first_state g) sites choices) patched
     → AreFollowed (threading_of g (state_after g (first_state g) sites choices) patched entry) × GetOut (threading_of g (state_after g (first_state g) sites choices) patched entry)
     × AreFollowedWith (threading_of g (state_after g (first_state g) sites choices) patched entry) × GetOutWith (threading_of g (state_after g (first_state g) sites choices) patched entry)
@@ -145,10 +159,10 @@ pub record IsThreaded (g : Scene) (t : State) (m : Bytes) (j : Job) : Type 0 whe
 -- Each memory that shows the job of a file's turns runs with any number of threads as the original
 -- does, and counts.
 abbrev pub WrittenIsThreaded : Type 0
-WrittenIsThreaded = (b : Base) (low : ℕ) (file starts : List ℕ) (reserves : List Range) (private : Extent) (sites : List StartEntry) (choices : List Choice) (m : Bytes) (j : Job)
-    → AreStarts low file starts → AreTurnsOf (thread_scene b file starts reserves private) (taken_first (segments file) reserves) five sites choices
+WrittenIsThreaded = (action : Action) (low : ℕ) (file starts : List ℕ) (reserves : List Range) (private : Extent) (sites : List StartEntry) (choices : List Choice) (m : Bytes) (j : Job)
+    → IsAction action → IsShared action → AreStarts low file starts → AreTurnsOf (thread_scene action file starts reserves private) (taken_first (segments file) reserves) five sites choices
     → IsJob j → Shows j m
-    → IsThreadJobOf (thread_scene b file starts reserves private)
-    (state_after (thread_scene b file starts reserves private) (first_state (thread_scene b file starts reserves private)) sites choices) j
-    → IsThreaded (thread_scene b file starts reserves private)
-    (state_after (thread_scene b file starts reserves private) (first_state (thread_scene b file starts reserves private)) sites choices) m j
+    → IsThreadJobOf (thread_scene action file starts reserves private)
+    (state_after (thread_scene action file starts reserves private) (first_state (thread_scene action file starts reserves private)) sites choices) j
+    → IsThreaded (thread_scene action file starts reserves private)
+    (state_after (thread_scene action file starts reserves private) (first_state (thread_scene action file starts reserves private)) sites choices) m j

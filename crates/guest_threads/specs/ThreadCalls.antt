@@ -1,9 +1,9 @@
 -- What a call of `rewrite_threads` or `rewrite_threads_reported` knows once the sites are planned, and once the file is written. Theorems cite it.
 use Rattle.std.specs.Prelude.{List, ℕ, Result, Ok, Err}
 use Rattle.pun_base.specs.Shown.{DeskState}
-use Rattle.pun_base.specs.declared.action.Base.{Base}
+use Rattle.pun_base.specs.declared.action.Action.{Action}
 use Rattle.pun_base.specs.declared.range.Range.{Range}
-use Rattle.site_turns.specs.Modes.{thread_action, IsShared}
+use Rattle.site_turns.specs.Modes.{IsShared}
 use Rattle.site_turns.specs.PlannedState.{PlannedState}
 use Rattle.site_turns.specs.Planning.{Request, Turns}
 use Rattle.rewrite_core.specs.Asked.{Asked}
@@ -13,12 +13,12 @@ use Rattle.rewrite_core.specs.Patching.{IsCallBy, IsPatchFor, EmitsPlanned}
 use Rattle.guest_threads.specs.ThreadPlanning.{IsThreadPlanned}
 use Rattle.guest_threads.specs.ThreadRewriting.{RewritesThreads}
 
--- What is asked of a rewriting where each event does this.
-abbrev pub sharing : Base → (file starts sites : List ℕ) → List Range → Asked
-sharing base file starts sites reserves =
-    record { file = file; starts = starts; sites = sites; action = thread_action base; reserves = reserves }
+-- What is asked of a rewriting whose events are those of an action.
+abbrev pub sharing : Action → (file starts sites : List ℕ) → List Range → Asked
+sharing action file starts sites reserves =
+    record { file = file; starts = starts; sites = sites; action = action; reserves = reserves }
 
--- What was planned for threads, where events cover or count.
+-- What was planned for threads, where they can get the action's events.
 pub record IsSharedPlanned (q : Request) (t : Turns) (p : PlannedState) : Type 0 where
   pub shared : IsShared q.action
   pub planned : IsThreadPlanned q t p

@@ -1,7 +1,8 @@
 -- What is planned for a guest of several threads. Theorems cite it.
-use Rattle.std.specs.Prelude.{◌≡◌, ℕ, ◌+◌, ◌<◌, true, List, [], length, Some, None, is_some}
+use Rattle.std.specs.Prelude.{◌≡◌, ℕ, ◌+◌, ◌<◌, true, List, length, Some, None, is_some}
 use Rattle.pun_base.specs.Memory.{Bytes}
-use Rattle.pun_base.specs.declared.action.Base.{Base}
+use Rattle.pun_base.specs.declared.action.Action.{Action}
+use Rattle.pun_base.specs.Actions.{IsAction}
 use Rattle.pun_base.specs.Limits.{most_sites}
 use Rattle.length_decode.specs.Spelling.{Fields, IsInstruction, spelling}
 use Rattle.cpu_state.specs.Bytes.{Stands}
@@ -11,31 +12,34 @@ use Rattle.start_entries.specs.declared.entry.StartEntry.{StartEntry}
 use Rattle.start_entries.specs.Finding.{entry_at}
 use Rattle.start_entries.specs.Laws.{IsBuilt}
 use Rattle.image_check.specs.Reports.{Line}
-use Rattle.site_turns.specs.Modes.{thread_rules, thread_base, thread_event_of, can_in_threads}
+use Rattle.site_turns.specs.Modes.{thread_rules, thread_base, thread_when, thread_event_of, can_in_threads}
 use Rattle.site_turns.specs.PlannedState.{PlannedState}
 use Rattle.site_turns.specs.Planning.{Request, Turns, lines_of, AreCodesBy, IsTurned}
 use Rattle.guest_threads.specs.declared.planning.ThreadSetting.{ThreadSetting}
+use Rattle.thread_runs.specs.Building.{when_of}
 use Rattle.thread_runs.specs.ThreadCode.{code_if}
 
--- The code of a trampoline for threads, with an event that covers or counts or without, by the instruction that stands at its start in an
+-- The code of a trampoline for threads, with the event of an action or without, by the instruction that stands at its start in an
 -- image; p is the first address of the private range.
-pub record HasThreadCode (b : Base) (image : Bytes) (p : ℕ) (l : Line) (code : List ℕ) : Type 0 where
+pub record HasThreadCode (action : Action) (image : Bytes) (p : ℕ) (l : Line) (code : List ℕ) : Type 0 where
   pub fields : Fields
   pub spelled : IsInstruction fields
   pub stands : Stands image l.tramp.start (spelling fields)
-  pub is : code ≡ code_if (thread_event_of b l.tramp.event) [] p l.number fields (l.tramp.start + length (spelling fields)) l.tramp.place
+  pub is : code
+      ≡ code_if (thread_event_of (thread_base action) l.tramp.event) (when_of (thread_when action)) p l.number fields (l.tramp.start + length (spelling fields)) l.tramp.place
 
 -- What was planned is what the turns for threads give: the private range, a row for each site in turn order, and the code of
 -- each trampoline in the order of the rows.
 pub record IsThreadPlanned (q : Request) (t : Turns) (p : PlannedState) : Type 0 where
-  pub turned : IsTurned (thread_rules (thread_base q.action)) q t p.private p.rows
-  pub built : AreCodesBy (HasThreadCode (thread_base q.action) (image_of q.file) p.private.lo) (lines_of p.rows) p.built
+  pub turned : IsTurned (thread_rules q.action) q t p.private p.rows
+  pub built : AreCodesBy (HasThreadCode q.action (image_of q.file) p.private.lo) (lines_of p.rows) p.built
 
 -- What the code of trampolines for threads is made of: the file is accepted, the starts are its
--- own, and the private range lies among a program's addresses.
+-- own, the action can be asked for, and the private range lies among a program's addresses.
 pub record IsThreadSetting (s : ThreadSetting) : Type 0 where
   pub accepted : refusal 0x10000 s.elf.now.bytes ≡ None
   pub own : IsBuilt s.elf.now.bytes s.starts.now
+  pub asked : IsAction s.action
   pub low : s.private.lo < 0x7FFF0000
 
 -- A trampoline's code can be made.
@@ -48,4 +52,4 @@ pub record CanBuildThread (s : ThreadSetting) (l : Line) : Type 0 where
 
 -- What the code of a trampoline is, in a setting.
 abbrev pub code_in : ThreadSetting → Line → List ℕ → Type 0
-code_in s = HasThreadCode s.base (image_of s.elf.now.bytes) s.private.lo
+code_in s = HasThreadCode s.action (image_of s.elf.now.bytes) s.private.lo

@@ -4,7 +4,7 @@ use Rattle.std.specs.List.{flat_map}
 use Rattle.pun_base.specs.Memory.{Bytes}
 use Rattle.pun_base.specs.Shown.{DeskState}
 use Rattle.pun_base.specs.Desk.{Fills}
-use Rattle.pun_base.specs.declared.action.Base.{Base}
+use Rattle.pun_base.specs.declared.action.Action.{Action}
 use Rattle.address_space.specs.declared.extent.Extent.{Extent}
 use Rattle.address_space.specs.Free.{extent_of}
 use Rattle.page_group.specs.Grouping.{GroupsState}
@@ -16,7 +16,7 @@ use Rattle.patch_report.specs.Grammar.{IsReport}
 use Rattle.patch_report.specs.Values.{RowValue, ReportValue, row_value, written as report_written}
 use Rattle.start_entries.specs.Entries.{entries_of}
 use Rattle.image_check.specs.Reports.{row_lines}
-use Rattle.site_turns.specs.Modes.{thread_rules, thread_base}
+use Rattle.site_turns.specs.Modes.{thread_rules}
 use Rattle.site_turns.specs.PlannedState.{PlannedState}
 use Rattle.site_turns.specs.Planning.{Request, Turns, end_under}
 use Rattle.site_turns.specs.PlanLaws.{job_for, report_under, AreGroups}
@@ -46,8 +46,8 @@ abbrev pub job_of : Request → Turns → PlannedState → GroupsState → Threa
 job_of q turns planned groups = record {
   emit = job_for q planned groups;
   private = turns.private;
-  rows = (end_under (thread_rules (thread_base q.action)) q turns).rows;
-  report = report_written (report_under (thread_rules (thread_base q.action)) q turns groups) (origin_of q.file);
+  rows = (end_under (thread_rules q.action) q turns).rows;
+  report = report_written (report_under (thread_rules q.action) q turns groups) (origin_of q.file);
 }
 
 -- A job is the one of what the turns for threads give for a request, with the groups of the planned
@@ -72,35 +72,35 @@ file_of j = layout j.emit
 abbrev pub Judges : Asked → Result ThreadJob RewriteError → Type 0
 Judges a v = JudgesBy IsThreadJobFor writing_of a v
 
--- What was patched for threads, where each event does this: the images of the original and of the
+-- What was patched for threads, where the events are those of an action: the images of the original and of the
 -- patched program, the listed entries of the starts, the sites of the rows, and the private range.
-abbrev pub threading_on : Base → List ℕ → List ℕ → Bytes → Extent → List RowValue → Threading
-threading_on b file starts patched private rows = record {
+abbrev pub threading_on : Action → List ℕ → List ℕ → Bytes → Extent → List RowValue → Threading
+threading_on action file starts patched private rows = record {
   original = image_of file;
   patched = patched;
   entry = entry_of file;
   listed = entries_of file starts;
-  sites = flat_map (site_of b (entries_of file starts)) (flat_map row_lines rows);
+  sites = flat_map (site_of action (entries_of file starts)) (flat_map row_lines rows);
   private = private.lo;
 }
 
 -- The same, where the patched program is a written file.
-abbrev pub threading_for : Base → List ℕ → List ℕ → List ℕ → Extent → List RowValue → Threading
-threading_for b file starts out private rows = threading_on b file starts (image_of out) private rows
+abbrev pub threading_for : Action → List ℕ → List ℕ → List ℕ → Extent → List RowValue → Threading
+threading_for action file starts out private rows = threading_on action file starts (image_of out) private rows
 
 -- The written file follows the original, for threads.
-pub record IsFollowedInThreads (b : Base) (file starts patched : List ℕ) (private : Extent) (rows : List RowValue) : Type 0 where
+pub record IsFollowedInThreads (action : Action) (file starts patched : List ℕ) (private : Extent) (rows : List RowValue) : Type 0 where
   -- the written program starts where the original does
   pub entry : entry_of patched ≡ entry_of file
   -- what it loads is sound
-  pub sound : IsThreadSound (threading_for b file starts patched private rows)
+  pub sound : IsThreadSound (threading_for action file starts patched private rows)
   -- in each run that meets the premises the threads run as the original's do, and each counter tells how often its site was run, or each byte whether it was
-  pub followed : AreFollowed (threading_for b file starts patched private rows)
+  pub followed : AreFollowed (threading_for action file starts patched private rows)
   -- a thread that runs alone gets out of a trampoline
-  pub out : GetOut (threading_for b file starts patched private rows)
+  pub out : GetOut (threading_for action file starts patched private rows)
   -- with deliveries to threads that stand outside, each run that meets the premises is followed and counted, too
-  pub followed_with : AreFollowedWith (threading_for b file starts patched private rows)
-  pub out_with : GetOutWith (threading_for b file starts patched private rows)
+  pub followed_with : AreFollowedWith (threading_for action file starts patched private rows)
+  pub out_with : GetOutWith (threading_for action file starts patched private rows)
 
 -- The answer is what was patched by a job, and the name holds the job's file, which follows the
 -- original.
@@ -109,7 +109,7 @@ pub record IsRewritten (a : Asked) (name : List ℕ) (s t : DeskState) (report :
   pub private_is : extent_of report.private ≡ j.private
   pub rows_are : map row_value report.rows.items ≡ j.rows
   pub holds : Fills name (layout j.emit) s t (Ok tt)
-  pub followed : IsFollowedInThreads (thread_base a.action) a.file a.starts (layout j.emit) j.private j.rows
+  pub followed : IsFollowedInThreads a.action a.file a.starts (layout j.emit) j.private j.rows
 
 -- What each answer of `rewrite_threads` says.
 abbrev pub RewritesThreads : Asked → List ℕ → DeskState → DeskState → Result ThreadReport RewriteError → Type 0
@@ -126,7 +126,7 @@ pub record IsReported (a : Asked) (name : List ℕ) (s t : DeskState) (report : 
   pub private_is : report.body.private ≡ (j.private.lo, j.private.hi)
   pub rows_are : report.body.rows ≡ j.rows
   pub holds : Fills name (layout j.emit) s t (Ok tt)
-  pub followed : IsFollowedInThreads (thread_base a.action) a.file a.starts (layout j.emit) j.private j.rows
+  pub followed : IsFollowedInThreads a.action a.file a.starts (layout j.emit) j.private j.rows
 
 -- What each answer of `rewrite_threads_reported` says: a report tells what was written.
 abbrev pub ReportsThreads : Asked → List ℕ → DeskState → DeskState → Result ReportValue RewriteError → Type 0

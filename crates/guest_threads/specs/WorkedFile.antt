@@ -1,7 +1,6 @@
 -- The first worked row of `threads`: a file of one jump to itself, and what is written for it. Worked examples alone cite it.
 use Rattle.std.specs.Prelude.{ℕ, true, false, List, [], ◌∷◌, Some, Ok}
 use Rattle.pun_base.specs.declared.action.Action.TheVariants.{Count}
-use Rattle.pun_base.specs.declared.action.Base.TheVariants as base
 use Rattle.pun_base.specs.declared.scheme.Scheme.TheVariants.{B2}
 use Rattle.address_space.specs.declared.extent.Extent.{Extent}
 use Rattle.elf_read.specs.Plain.{plain_file}
@@ -87,9 +86,9 @@ row_written = layout row_job.emit
 
 -- what was patched in the row, for threads
 abbrev pub row_threading : Threading
-row_threading = threading_for base.Count row_file row_starts row_written row_private (row_value ∷ [])
+row_threading = threading_for Count row_file row_starts row_written row_private (row_value ∷ [])
 
 -- The row's input is judged to be its job, and the theorem holds of the file that is written.
 pub record RowIsThreaded : Type 0 where
   pub judged : Judges row_asked (Ok row_job)
-  pub followed : IsFollowedInThreads base.Count row_file row_starts row_written row_private (row_value ∷ [])
+  pub followed : IsFollowedInThreads Count row_file row_starts row_written row_private (row_value ∷ [])

@@ -1,20 +1,21 @@
 //! What is planned for a guest of several threads.
 ghost use Rattle.std.specs.Prelude.{◌≤◌, length, IfOk, IfErr};
 ghost use Rattle.std.specs.List.Sorted.{IsStrictlyIncreasing};
+ghost use Rattle.pun_base.specs.Actions.{IsAction};
 ghost use Rattle.pun_base.specs.Limits.{most_sites};
 ghost use Rattle.start_entries.specs.Laws.{IsBuilt};
-ghost use Rattle.site_turns.specs.Modes.{thread_action};
+ghost use Rattle.site_turns.specs.Modes.{IsShared};
 ghost use Rattle.site_turns.specs.Planning.{Turns, IsRequestRefused};
 ghost use Rattle.guest_threads.specs.ThreadPlanning.{IsThreadPlanned, CanBuildThread, code_in};
 
 use code_bytes::code::Code;
 use elf_read::elf::Elf;
-use pun_base::action::Base;
+use pun_base::action::Action;
 use pun_base::range::Range;
 use pun_base::tramp::Tramp;
 use site_turns::building::{Coding, build_all};
 use site_turns::error::TurnError;
-use site_turns::mode::{Mode, thread_event_of};
+use site_turns::mode::{Mode, thread_base, thread_event_of, thread_when};
 use site_turns::plan::{TurnedSites, turn_sites};
 use site_turns::planned::Planned;
 use site_turns::start_insn::insn_at;
@@ -26,7 +27,7 @@ use thread_runs::thread_trampoline;
 /// the private range.
 #[derive(Clone, Copy)]
 pub(crate) struct ThreadSetting<'a> {
-    pub(crate) base: Base,
+    pub(crate) action: Action,
     pub(crate) elf: &'a Elf<'a>,
     pub(crate) starts: &'a Starts,
     pub(crate) private: Range,
@@ -42,8 +43,8 @@ impl Coding for ThreadSetting<'_> {
             unreachable!();
         };
         thread_trampoline(
-            thread_event_of(self.base, tramp.event),
-            None,
+            thread_event_of(thread_base(self.action), tramp.event),
+            thread_when(self.action),
             at.insn,
             at.bytes,
             at.entry.addr,
@@ -56,7 +57,7 @@ impl Coding for ThreadSetting<'_> {
 }
 
 /// Plans each site for a guest of several threads, from the highest to the lowest: the site gets a
-/// jump to new code, whose event covers or counts, or is left. A victim's code has no event.
+/// jump to new code, whose event is the action's, or is left. A victim's code has no event.
 ///
 /// `sites` are addresses in ascending order, and no new code stands in the reserved ranges.
 pub fn plan_threads(
@@ -64,24 +65,26 @@ pub fn plan_threads(
     elf: &Elf<'_>,
     starts: &Starts,
     sites: &[u32],
-    base: Base,
+    action: Action,
     reserves: &[Range],
 ) -> Result<Planned, TurnError>
     requires ascend { IsStrictlyIncreasing sites.now }
     requires few { length sites.now ≤ most_sites }
+    requires action { IsAction action }
+    requires shared { IsShared action }
     requires built { IsBuilt elf.now.bytes starts.now }
     ensures planned { IfOk result (λ p. (turns : Turns) × IsThreadPlanned (record {
       file = elf.now.bytes;
       listed = starts.now;
       sites = sites.now;
-      action = thread_action base;
+      action = action;
       reserves = reserves.now;
     }) turns p) }
     ensures refused { IfErr result (λ error. IsRequestRefused (record {
       file = elf.now.bytes;
       listed = starts.now;
       sites = sites.now;
-      action = thread_action base;
+      action = action;
       reserves = reserves.now;
     }) error) }
 {
@@ -90,11 +93,11 @@ pub fn plan_threads(
         elf,
         starts,
         sites,
-        Mode::Threads(base),
+        Mode::Threads(action),
         reserves,
     )?;
     let setting = ThreadSetting {
-        base,
+        action,
         elf,
         starts,
         private,

@@ -2,12 +2,13 @@
 ghost use Rattle.std.specs.Prelude.{◌≡◌, ◌^◌, ◌<◌, ◌≤◌, None, length};
 ghost use Rattle.std.specs.List.Sorted.{IsStrictlyIncreasing};
 ghost use Rattle.pun_base.specs.declared.action.Action.TheVariants.{Count};
+ghost use Rattle.pun_base.specs.Actions.{IsAction};
 ghost use Rattle.pun_base.specs.Desk.{Stays};
 ghost use Rattle.pun_base.specs.Limits.{most_sites};
 ghost use Rattle.elf_read.specs.Refusals.{refusal};
 ghost use Rattle.rewrite_core.specs.Asked.{IsInOrder};
 ghost use Rattle.rewrite_core.specs.Patching.{PlansBy};
-ghost use Rattle.site_turns.specs.Modes.{thread_action};
+ghost use Rattle.site_turns.specs.Modes.{IsShared};
 ghost use Rattle.guest_threads.specs.ThreadCalls.{sharing, IsSharedPlanned, WritesThreads};
 ghost use Rattle.guest_threads.specs.ThreadRewriting.{RewritesThreads, ReportsThreads};
 
@@ -15,13 +16,12 @@ use crate::planning::plan_threads;
 use elf_read::elf::{Elf, read_elf};
 use patch_report::report::Report;
 use patch_report::row::ReportRow;
-use pun_base::action::Base;
+use pun_base::action::Action;
 use pun_base::desk::Desk;
 use pun_base::range::Range;
 use rewrite_core::original::origin_of;
 use rewrite_core::patching::Patch;
 use rewrite_core::rewrite::write_patch;
-use site_turns::mode::Mode;
 use site_turns::planned::Planned;
 use start_entries::starts::Starts;
 use std::alloc::Global;
@@ -41,23 +41,25 @@ pub struct ThreadReport {
 }
 
 /// Builds the starts of a file that was read, and plans each site for a guest of several threads,
-/// where events cover or count.
+/// which gets the events of an action.
 pub fn plan_thread_file(
     alloc: Global,
     elf: &Elf<'_>,
     starts: &[u32],
     sites: &[u32],
-    base: Base,
+    action: Action,
     reserves: &[Range],
 ) -> Result<Planned, ThreadError>
-    requires order { IsInOrder (sharing base elf.now.bytes starts.now sites.now reserves.now) }
+    requires order { IsInOrder (sharing action elf.now.bytes starts.now sites.now reserves.now) }
     requires size { length elf.now.bytes < 2 ^ 63 }
     requires accepted { refusal 0x20000 elf.now.bytes ≡ None }
+    requires action { IsAction action }
+    requires shared { IsShared action }
     ensures { PlansBy IsSharedPlanned
-        (sharing base elf.now.bytes starts.now sites.now reserves.now) result }
+        (sharing action elf.now.bytes starts.now sites.now reserves.now) result }
 {
     let listed = Starts::build(alloc, elf, starts)?;
-    let planned = plan_threads(alloc, elf, &listed, sites, base, reserves)?;
+    let planned = plan_threads(alloc, elf, &listed, sites, action, reserves)?;
     Ok(planned)
 }
 
@@ -67,20 +69,22 @@ fn write_threads<D: Desk>(
     elf: &Elf<'_>,
     starts: &[u32],
     sites: &[u32],
-    base: Base,
+    action: Action,
     reserves: &[Range],
     name: &str,
     desk: &mut D,
 ) -> Result<Patch, ThreadError>
-    requires order { IsInOrder (sharing base elf.now.bytes starts.now sites.now reserves.now) }
+    requires order { IsInOrder (sharing action elf.now.bytes starts.now sites.now reserves.now) }
     requires size { length elf.now.bytes < 2 ^ 63 }
     requires accepted { refusal 0x20000 elf.now.bytes ≡ None }
+    requires action { IsAction action }
+    requires shared { IsShared action }
     requires nothing { (D.seen desk.old).writing ≡ None }
-    ensures writes { WritesThreads (sharing base elf.now.bytes starts.now sites.now reserves.now)
+    ensures writes { WritesThreads (sharing action elf.now.bytes starts.now sites.now reserves.now)
         name.now (D.seen desk.old) (D.seen desk.new) result }
     ensures stays { Stays (D.seen desk.old) (D.seen desk.new) }
 {
-    let planned = plan_thread_file(alloc, elf, starts, sites, base, reserves)?;
+    let planned = plan_thread_file(alloc, elf, starts, sites, action, reserves)?;
     write_patch(alloc, elf, planned, name, desk)
 }
 
@@ -117,7 +121,7 @@ pub fn rewrite_threads<D: Desk>(
         &elf,
         starts,
         sites,
-        Base::Count,
+        Action::Count,
         reserves,
         name,
         desk,
@@ -132,7 +136,7 @@ pub fn rewrite_threads<D: Desk>(
     Ok(ThreadReport { private, rows })
 }
 
-/// Writes what `rewrite_threads` writes, or a file whose events cover, and returns a report of version 2 that undoes the patch.
+/// Writes what `rewrite_threads` writes, or a file with the events of another action, and returns a report of version 2 that undoes the patch.
 /// After want of memory for the report the file stands under the name.
 ///
 /// `file` is the original, `starts` and `sites` are addresses in ascending order, and no new code
@@ -142,7 +146,7 @@ pub fn rewrite_threads_reported<D: Desk>(
     file: &[u8],
     starts: &[u32],
     sites: &[u32],
-    base: Base,
+    action: Action,
     reserves: &[Range],
     name: &str,
     desk: &mut D,
@@ -150,20 +154,21 @@ pub fn rewrite_threads_reported<D: Desk>(
     requires starts_ascend { IsStrictlyIncreasing starts.now }
     requires sites_ascend { IsStrictlyIncreasing sites.now }
     requires few_sites { length sites.now ≤ most_sites }
+    requires action { IsAction action }
+    requires shared { IsShared action }
     requires nothing { (D.seen desk.old).writing ≡ None }
     ensures rewrites { ReportsThreads (record {
       file = file.now;
       starts = starts.now;
       sites = sites.now;
-      action = thread_action base;
+      action = action;
       reserves = reserves.now;
     }) name.now (D.seen desk.old) (D.seen desk.new) result }
     ensures stays { Stays (D.seen desk.old) (D.seen desk.new) }
 {
     let elf = read_elf(alloc, file)?;
-    let patch = write_threads(alloc, &elf, starts, sites, base, reserves, name, desk)?;
+    let patch = write_threads(alloc, &elf, starts, sites, action, reserves, name, desk)?;
     let origin = origin_of(&elf);
-    let action = Mode::Threads(base).action();
     let report = patch.into_report(alloc, action, origin)?;
     Ok(report)
 }

@@ -1,41 +1,33 @@
 use Rattle.std.proofs.Common.{List, refl, sym, subst, rules}
 use Rattle.std.specs.List.{AllByRecursion}
-use Rattle.pun_base.specs.declared.action.Base.{Base}
-use Rattle.elf_read.specs.Image.{image_of}
 use Rattle.patch_report.specs.declared.row.ReportRow.{ReportRow}
 use Rattle.image_check.proofs.CodeAtStarts.{entries_built}
-use Rattle.site_turns.specs.Modes.{thread_action, thread_rules}
 use Rattle.site_turns.specs.PlannedState.{PlannedState}
-use Rattle.site_turns.specs.Planning.{Turns, lines_of, AreCodesBy, IsTurned}
+use Rattle.site_turns.specs.Planning.{Turns, lines_of, AreCodesBy}
 use Rattle.site_turns.proofs.PlannedEvents.{requested}
 use Rattle.guest_threads.specs.declared.planning.ThreadSetting.{ThreadSetting}
-use Rattle.guest_threads.specs.ThreadPlanning.{HasThreadCode, CanBuildThread, IsThreadPlanned, code_in}
-use Rattle.guest_threads.proofs.ThreadPlans.{shared_action, base_back, can_build}
+use Rattle.guest_threads.specs.ThreadPlanning.{CanBuildThread, IsThreadPlanned, code_in}
+use Rattle.guest_threads.proofs.ThreadPlans.{can_build}
 use Rattle.guest_threads.proofs.planning.plan_threads.Goals as goal
-
-pub turn_sites-requires-clause-action : goal.turn_sites-requires-clause-action
-turn_sites-requires-clause-action c = shared_action c.args.base
 
 pub build_all-requires : goal.build_all-requires
 build_all-requires c =
-    let s : ThreadSetting = record { base = c.args.base; elf = c.args.elf; starts = c.args.starts; private = c.in_ok-private.field-0.private } in
-    let q = requested c.args.elf.now.bytes c.args.starts.now c.args.sites.now (thread_action c.args.base) c.args.reserves.now in
+    let s : ThreadSetting = record { action = c.args.action; elf = c.args.elf; starts = c.args.starts; private = c.in_ok-private.field-0.private } in
+    let q = requested c.args.elf.now.bytes c.args.starts.now c.args.sites.now c.args.action c.args.reserves.now in
     let t = c.in_ok-private.ensures.turned in
     subst (λ (rows : List ReportRow). AllByRecursion (CanBuildThread s) (lines_of rows)) (sym c.deref.ensures.value)
     (can_build q t.0 c.in_ok-private.field-0.private c.in_ok-private.field-0.rows.items
-    (entries_built c.args.elf.now.bytes c.args.starts.now c.in_ok-private.ensures.accepted c.requires.built) c.requires.few
-    (subst (λ (b : Base). IsTurned (thread_rules b) q t.0 c.in_ok-private.field-0.private c.in_ok-private.field-0.rows.items) (sym (base_back c.args.base)) t.1) s refl (search rules))
+    (entries_built c.args.elf.now.bytes c.args.starts.now c.in_ok-private.ensures.accepted c.requires.built) c.requires.few t.1 s refl (search rules))
 
 pub returns-clause-planned : goal.returns-clause-planned
 returns-clause-planned c =
-    let s : ThreadSetting = record { base = c.args.base; elf = c.args.elf; starts = c.args.starts; private = c.in_ok-private.field-0.private } in
-    let q = requested c.args.elf.now.bytes c.args.starts.now c.args.sites.now (thread_action c.args.base) c.args.reserves.now in
+    let s : ThreadSetting = record { action = c.args.action; elf = c.args.elf; starts = c.args.starts; private = c.in_ok-private.field-0.private } in
+    let q = requested c.args.elf.now.bytes c.args.starts.now c.args.sites.now c.args.action c.args.reserves.now in
     let t = c.in_ok-private.ensures.turned in
     subst (λ (p : PlannedState). (t : Turns) × IsThreadPlanned q t p) (sym c.new.ensures) (
       t.0,
       record {
-        turned = subst (λ (b : Base). IsTurned (thread_rules b) q t.0 c.in_ok-private.field-0.private c.in_ok-private.field-0.rows.items) (sym (base_back c.args.base)) t.1;
-        built = subst (λ (b : Base). AreCodesBy (HasThreadCode b (image_of c.args.elf.now.bytes) c.in_ok-private.field-0.private.lo) (lines_of c.in_ok-private.field-0.rows.items) c.in-Ok.built.items)
-            (sym (base_back c.args.base)) (subst (λ (rows : List ReportRow). AreCodesBy (code_in s) (lines_of rows) c.in-Ok.built.items) c.deref.ensures.value c.in-Ok.ensures);
+        turned = t.1;
+        built = subst (λ (rows : List ReportRow). AreCodesBy (code_in s) (lines_of rows) c.in-Ok.built.items) c.deref.ensures.value c.in-Ok.ensures;
       },
     )

@@ -1,5 +1,5 @@
 use Rattle.std.proofs.Common.{rules, Ok, refl}
-use Rattle.pun_base.specs.declared.action.Base.TheVariants.{Count}
+use Rattle.pun_base.specs.declared.action.Action.TheVariants.{Count}
 use Rattle.rewrite_core.specs.Asked.{Asked}
 use Rattle.rewrite_core.proofs.PlannedCalls.{by_error, of_input}
 use Rattle.guest_threads.specs.ThreadCalls.{sharing}

@@ -1,11 +1,7 @@
-use Rattle.std.proofs.Common.{rules, Ok, sym, ap, ◌∙◌, subst}
-use Rattle.pun_base.specs.declared.action.Action.{Action}
-use Rattle.patch_report.specs.declared.origin.Version.TheVariants.{Two}
-use Rattle.patch_report.specs.Values.{written}
-use Rattle.patch_report.specs.Grammar.{IsBody}
+use Rattle.std.proofs.Common.{rules, Ok}
 use Rattle.rewrite_core.specs.declared.rewrite.RewriteError.TheVariants as rewrite
 use Rattle.rewrite_core.specs.Asked.{Asked}
-use Rattle.rewrite_core.proofs.PlannedCalls.{by_error, of_input, told_of}
+use Rattle.rewrite_core.proofs.PlannedCalls.{by_error, of_input}
 use Rattle.guest_threads.specs.ThreadCalls.{sharing}
 use Rattle.guest_threads.specs.ThreadRewriting.{ReportsThreads}
 use Rattle.guest_threads.proofs.RewriteAnswers.{can_report, not_told, reported}
@@ -17,7 +13,7 @@ write_threads-requires-clause-order g c =
 
 pub returns-in_err-patch-clause-rewrites : goal.returns-in_err-patch-clause-rewrites
 returns-in_err-patch-clause-rewrites g c =
-    let a = sharing c.args.base c.in_ok-elf.elf.bytes c.args.starts.now c.args.sites.now c.args.reserves.now in
+    let a = sharing c.args.action c.in_ok-elf.elf.bytes c.args.starts.now c.args.sites.now c.args.reserves.now in
     of_input (λ (z : Asked). ReportsThreads z c.args.name.now
     (g.D.Desk.seen c.args.desk.now) (g.D.Desk.seen c.write_threads.new.desk) c.from_residual-in_err-patch.result)
     (record a { file = c.args.file.now }) c.in_ok-elf.elf.bytes c.in_ok-elf.ensures.file.0
@@ -27,13 +23,12 @@ returns-in_err-patch-clause-rewrites g c =
 pub into_report-requires : goal.into_report-requires
 into_report-requires g c = record {
   origin = c.origin_of-origin.ensures.fits;
-  body = subst (λ (z : Action). IsBody Two (told_of z c.in_ok-patch.patch)) (sym c.action-action.ensures)
-      (can_report _ c.args.name.now _ _ c.in_ok-patch.patch c.in_ok-patch.ensures.writes);
+  body = can_report _ c.args.name.now _ _ c.in_ok-patch.patch c.in_ok-patch.ensures.writes;
 }
 
 pub returns-in_err-report-clause-rewrites : goal.returns-in_err-report-clause-rewrites
 returns-in_err-report-clause-rewrites g c =
-    let a = sharing c.args.base c.in_ok-elf.elf.bytes c.args.starts.now c.args.sites.now c.args.reserves.now in
+    let a = sharing c.args.action c.in_ok-elf.elf.bytes c.args.starts.now c.args.sites.now c.args.reserves.now in
     of_input (λ (z : Asked). ReportsThreads z c.args.name.now
     (g.D.Desk.seen c.args.desk.now) (g.D.Desk.seen c.write_threads.new.desk) c.from_residual-in_err-report.result)
     (record a { file = c.args.file.now }) c.in_ok-elf.elf.bytes c.in_ok-elf.ensures.file.0
@@ -42,10 +37,10 @@ returns-in_err-report-clause-rewrites g c =
 
 pub returns-clause-rewrites : goal.returns-clause-rewrites
 returns-clause-rewrites g c =
-    let a = sharing c.args.base c.in_ok-elf.elf.bytes c.args.starts.now c.args.sites.now c.args.reserves.now in
+    let a = sharing c.args.action c.in_ok-elf.elf.bytes c.args.starts.now c.args.sites.now c.args.reserves.now in
     of_input (λ (z : Asked). ReportsThreads z c.args.name.now
     (g.D.Desk.seen c.args.desk.now) (g.D.Desk.seen c.write_threads.new.desk) (Ok c.in_ok-report.report))
     (record a { file = c.args.file.now }) c.in_ok-elf.elf.bytes c.in_ok-elf.ensures.file.0
     (reported a c.args.name.now _ _ c.in_ok-patch.patch c.in_ok-patch.ensures.writes c.in_ok-report.report c.origin_of-origin.result
     c.origin_of-origin.ensures.value c.origin_of-origin.ensures.fits
-    (c.in_ok-report.ensures ∙ ap (λ (z : Action). written (told_of z c.in_ok-patch.patch) c.origin_of-origin.result) c.action-action.ensures))
+    c.in_ok-report.ensures)

@@ -1,7 +1,5 @@
 use Rattle.std.proofs.Common.{sym, ap, ◌∙◌, subst, arith}
 use Rattle.pun_base.specs.declared.action.Base.{Base}
-use Rattle.pun_base.specs.declared.action.Comparisons.{Comparisons}
-use Rattle.std.specs.Prelude.{Option}
 use Rattle.site_turns.specs.Modes.{thread_event_of}
 use Rattle.site_turns.specs.Turned.{line_at}
 use Rattle.site_turns.proofs.TrampolineCodes.{taken_len}

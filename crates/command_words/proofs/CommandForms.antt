@@ -1,17 +1,21 @@
 -- What the form of a command's words gives of its names and numbers.
-use Rattle.std.proofs.Common.{◌≡◌, ℕ, ◌+◌, ◌<◌, ◌≤◌, ◌==◌, Bool, true, false, ◌&&◌, not, nat_lt, if◌then◌else◌, List, [], ◌∷◌, Option, Some, None, Decides, refl, sym, subst, arith}
+use Rattle.std.proofs.Common.{◌≡◌, ℕ, ◌+◌, ◌<◌, ◌≤◌, ◌==◌, Bool, true, false, ◌&&◌, not, nat_lt, if◌then◌else◌, List, [], ◌∷◌, take, drop, Option, Some, None, Decides, codes, refl, sym, subst, arith}
 use Rattle.std.specs.List.{list_all}
 use Rattle.std.specs.Str.{bytes_eq}
 use Rattle.std.proofs.lemmas.Bool.{and_parts}
 use Rattle.std.proofs.lemmas.Bool.Decides.{nat_tests}
 use Rattle.std.proofs.lemmas.Slice.Eq.{bytes_eq-Decides}
 use Rattle.pun_base.specs.declared.action.Action.{Action}
-use Rattle.pun_base.specs.declared.action.Base.TheVariants.{Count}
+use Rattle.pun_base.specs.declared.action.Action.TheVariants.{Cover, Count, Ring, When}
 use Rattle.pun_base.specs.Actions.{IsAction}
 use Rattle.list_text.specs.Digits.{below, number_in}
 use Rattle.list_text.specs.Words.{action_of, count_of}
 use Rattle.list_text.proofs.ActionSpellings.{actions_are_spelled}
-use Rattle.command_words.specs.Words.{Names, ThreadNames, UnpatchNames, Command, Usage, Patch, Step, Gen, Load, Threads, ThreadsReported, ThreadsLoaded, Unpatch, is_plain, are_apart, patch_with, reserves_of, patch_of, check_of, most_steps, step_with, step_of, most_seed, most_blocks, nonzero, blocks_of, gen_with, gen_of, load_with, load_of, threads_with, reported_with, report_of, threads_by, threads_after, covered_with, is_cover_action, threads_by_action, loaded_with, is_loader_form, threads_in_form, threads_of, unpatch_of, CommandRow, commands, under_name, form_of, command_of}
+use Rattle.command_words.specs.Words.{Names, ThreadNames, UnpatchNames, Command, Usage, Patch, Step, Gen, Load, Threads, ThreadsReported, ThreadsLoaded, Unpatch, is_plain, are_apart, patch_with, reserves_of, patch_of, check_of, most_steps, step_with, step_of, most_seed, most_blocks, nonzero, blocks_of, gen_with, gen_of, load_with, load_of, threads_with, reported_with, report_of, threads_by, threads_after, acting_with, asked, action_asked, threads_acting, threads_by_action, loaded_with, is_loader_form, threads_in_form, threads_of, unpatch_of, CommandRow, commands, under_name, form_of, command_of}
+
+-- An action that can be asked for, and isn't a ring.
+abbrev pub IsThreadAction : Action → Type 0
+IsThreadAction a = IsAction a × ((len : ℕ) → a ≡ Ring len → ⊥)
 
 -- What is known of a command that words are of: its outputs are apart, its action can be asked for, and its numbers are within their limits.
 abbrev pub IsKnown : Command → Type 0
@@ -20,8 +24,8 @@ IsKnown (Step n count) = count ≤ most_steps
 IsKnown (Gen seed blocks) = (1 ≤ blocks) × (blocks ≤ most_blocks)
 IsKnown (Load n a r) = (n.out ≡ n.report → ⊥) × IsAction a
 IsKnown (Threads n r) = (n.out ≡ n.file → ⊥) × (n.out ≡ n.starts → ⊥) × (n.out ≡ n.sites → ⊥)
-IsKnown (ThreadsReported n b r) = n.out ≡ n.report → ⊥
-IsKnown (ThreadsLoaded n b r) = n.out ≡ n.report → ⊥
+IsKnown (ThreadsReported n a r) = (n.out ≡ n.report → ⊥) × IsThreadAction a
+IsKnown (ThreadsLoaded n a r) = (n.out ≡ n.report → ⊥) × IsThreadAction a
 IsKnown (Unpatch n) = (n.new ≡ n.patched → ⊥) × (n.new ≡ n.report → ⊥)
 IsKnown other = Unit {0}
 
@@ -117,7 +121,24 @@ known_gen (seed ∷ blocks ∷ []) =
     parts (Some s) (Some n) f = f n refl
 known_gen other = tt
 
--- ---- the output of `threads` is apart from its inputs, and from its report
+-- ---- the output of `threads` is apart from its inputs, and from its report, and its action isn't a ring
+
+-- an action that a word may ask for isn't one
+asked_known : (o : Option Action) → ((a : Action) → o ≡ Some a → IsAction a) → (a : Action) → asked o ≡ Some a → IsThreadAction a
+asked_known None f a e = cc
+asked_known (Some Cover) f a e = let same : Cover ≡ a = cc in subst IsThreadAction same (tt, λ len q. cc)
+asked_known (Some Count) f a e = cc
+asked_known (Some (Ring len)) f a e = cc
+asked_known (Some (When b list)) f a e =
+    let same : When b list ≡ a = cc in subst IsThreadAction same (f (When b list) refl, λ len q. cc)
+
+-- an action that a word asks for
+action_known : (word : List ℕ) (a : Action) → action_asked word ≡ Some a → IsThreadAction a
+action_known word a e = go (bytes_eq (take 7 word) (codes "action:")) e
+  where
+    go : (b : Bool) → (if b then asked (action_of (drop 7 word)) else None) ≡ Some a → IsThreadAction a
+    go true f = asked_known (action_of (drop 7 word)) (λ x h. ((actions_are_spelled (drop 7 word) x).0 h).0) a f
+    go false f = cc
 
 known_threads : (words : List (List ℕ)) → IsKnown (threads_of words)
 known_threads (file ∷ starts ∷ sites ∷ out ∷ words) = in_form (record { file = file; starts = starts; sites = sites; out = out }) words
@@ -136,7 +157,7 @@ known_threads (file ∷ starts ∷ sites ∷ out ∷ words) = in_form (record { 
         (bytes_eq-Decides n.out n.starts) (bytes_eq-Decides n.out n.sites)
 
     by_apart : (n : Names) (r : List (ℕ × ℕ)) (b : Bool) → (b ≡ true → n.out ≡ n.report → ⊥) → IsKnown (if b then ThreadsReported n Count r else Usage)
-    by_apart n r true f = f refl
+    by_apart n r true f = (f refl, tt, λ len q. cc)
     by_apart n r false f = tt
 
     reported : (n : Names) (reserves : Option (List (ℕ × ℕ))) → IsKnown (reported_with n reserves)
@@ -152,18 +173,18 @@ known_threads (file ∷ starts ∷ sites ∷ out ∷ words) = in_form (record { 
     after n [] = parts n (reserves_of [])
     after n (word ∷ words) = by_report n (report_of word) word words
 
-    covered : (c : Command) → IsKnown c → IsKnown (covered_with c)
-    covered (ThreadsReported n b r) k = k
-    covered other k = tt
+    acting : (a : Action) → IsThreadAction a → (c : Command) → IsKnown c → IsKnown (acting_with a c)
+    acting a i (ThreadsReported n b r) k = (k.0, i)
+    acting a i other k = tt
 
-    by_cover : (n : ThreadNames) (b : Bool) (word : List ℕ) (words : List (List ℕ))
-        → IsKnown (if b then covered_with (threads_after n words) else threads_after n (word ∷ words))
-    by_cover n true word words = covered (threads_after n words) (after n words)
-    by_cover n false word words = after n (word ∷ words)
+    by_asked : (n : ThreadNames) (o : Option Action) → ((a : Action) → o ≡ Some a → IsThreadAction a) → (word : List ℕ) (words : List (List ℕ))
+        → IsKnown (threads_acting n o word words)
+    by_asked n None i word words = after n (word ∷ words)
+    by_asked n (Some a) i word words = acting a (i a refl) (threads_after n words) (after n words)
 
     by_action : (n : ThreadNames) (words : List (List ℕ)) → IsKnown (threads_by_action n words)
     by_action n [] = after n []
-    by_action n (word ∷ words) = by_cover n (is_cover_action word) word words
+    by_action n (word ∷ words) = by_asked n (action_asked word) (action_known word) word words
 
     loaded : (c : Command) → IsKnown c → IsKnown (loaded_with c)
     loaded (ThreadsReported n b r) k = k

@@ -3,8 +3,7 @@ use Rattle.std.specs.Prelude.{ℕ, ◌==◌, Bool, true, false, not, ◌&&◌, n
 use Rattle.std.specs.List.{list_all}
 use Rattle.std.specs.Str.{bytes_eq}
 use Rattle.pun_base.specs.declared.action.Action.{Action}
-use Rattle.pun_base.specs.declared.action.Base.{Base}
-use Rattle.pun_base.specs.declared.action.Base.TheVariants.{Cover, Count}
+use Rattle.pun_base.specs.declared.action.Action.TheVariants.{Cover, Count, When}
 use Rattle.list_text.specs.Words.{action_of, range_of, count_of}
 use Rattle.command_words.specs.Synopses.{Synopsis, usage_of}
 
@@ -57,10 +56,10 @@ pub data Command : Type 0 where
   Load : (names : Names) (action : Action) (reserves : List (ℕ × ℕ)) → Command
   -- patch for a guest of several threads, with counters
   Threads : (names : ThreadNames) (reserves : List (ℕ × ℕ)) → Command
-  -- as that, with events that cover or count, and a report
-  ThreadsReported : (names : Names) (base : Base) (reserves : List (ℕ × ℕ)) → Command
+  -- as that, with this action and a report
+  ThreadsReported : (names : Names) (action : Action) (reserves : List (ℕ × ℕ)) → Command
   -- as that, whose file maps its new code itself
-  ThreadsLoaded : (names : Names) (base : Base) (reserves : List (ℕ × ℕ)) → Command
+  ThreadsLoaded : (names : Names) (action : Action) (reserves : List (ℕ × ℕ)) → Command
   -- give back the original of a patched file
   Unpatch : (names : UnpatchNames) → Command
 
@@ -203,24 +202,41 @@ abbrev pub threads_after : ThreadNames → List (List ℕ) → Command
 threads_after n [] = threads_with n (reserves_of [])
 threads_after n (word ∷ words) = threads_by n (report_of word) word words
 
--- A patch for threads with a report as one that covers. Without a report there is none.
-abbrev pub covered_with : Command → Command
-covered_with (ThreadsReported names base reserves) = ThreadsReported names Cover reserves
-covered_with other = Usage
+-- A patch for threads with a report as one with this action. Without a report there is none.
+abbrev pub acting_with : Action → Command → Command
+acting_with a (ThreadsReported names action reserves) = ThreadsReported names a reserves
+acting_with a other = Usage
 
--- A word asks for events that cover.
-abbrev pub is_cover_action : List ℕ → Bool
-is_cover_action word = bytes_eq word (codes "action:cover")
+-- A word of `threads` asks for this action: it covers, or has a condition. Without such a word the events count at each execution, and none
+-- of threads goes to a ring.
+abbrev pub is_asked : Action → Bool
+is_asked Cover = true
+is_asked (When b list) = true
+is_asked other = false
+
+-- The action, where a word of `threads` asks for it.
+abbrev pub asked : Option Action → Option Action
+asked None = None
+asked (Some action) = if is_asked action then Some action else None
+
+-- The action that a word asks for: the word is `action:` with the action after it, spelled as `patch` is told it.
+abbrev pub action_asked : List ℕ → Option Action
+action_asked word = if bytes_eq (take 7 word) (codes "action:") then asked (action_of (drop 7 word)) else None
 
 -- A patch for threads, by the action that the first of these words after OUT asks for: where it asks for none, it is one of the words after
 -- that.
+abbrev pub threads_acting : ThreadNames → Option Action → List ℕ → List (List ℕ) → Command
+threads_acting n None word words = threads_after n (word ∷ words)
+threads_acting n (Some action) word words = acting_with action (threads_after n words)
+
+-- A patch for threads with these words after OUT, or after the form.
 abbrev pub threads_by_action : ThreadNames → List (List ℕ) → Command
 threads_by_action n [] = threads_after n []
-threads_by_action n (word ∷ words) = if is_cover_action word then covered_with (threads_after n words) else threads_after n (word ∷ words)
+threads_by_action n (word ∷ words) = threads_acting n (action_asked word) word words
 
 -- A patch for threads with a report as one in the loader form. Without a report there is none.
 abbrev pub loaded_with : Command → Command
-loaded_with (ThreadsReported names base reserves) = ThreadsLoaded names base reserves
+loaded_with (ThreadsReported names action reserves) = ThreadsLoaded names action reserves
 loaded_with other = Usage
 
 -- A word asks for the loader form.

@@ -6,13 +6,13 @@ ghost use Rattle.command_words.specs.Words.{are_apart as apart, is_apart as stan
 ghost use Rattle.command_words.specs.Words.{has_own_out as owns_out};
 ghost use Rattle.command_words.specs.Words.{report_of as report_name};
 ghost use Rattle.command_words.specs.Words.{is_loader_form as asks_for_loader, loaded_with as as_loaded};
-ghost use Rattle.command_words.specs.Words.{is_cover_action as asks_to_cover, covered_with as as_covered};
+ghost use Rattle.command_words.specs.Words.{is_asked as can_be_asked, action_asked as action_told, acting_with as as_acting};
 ghost use Rattle.command_words.specs.Named.{names_of, thread_names_of, unpatch_names_of, command_view};
 
 use crate::reserves::read_reserves;
 use crate::words::{CheckNames, Command, Names, StepNames, ThreadNames, UnpatchNames, is_name};
 use list_text::words::{read_action, read_count};
-use pun_base::action::{Action, Base};
+use pun_base::action::Action;
 use pun_base::range::Range;
 use std::alloc::{AllocError, Global};
 
@@ -181,7 +181,7 @@ fn load_with<'a>(patch: Command<'a>) -> Command<'a>
     }
 }
 
-/// The patch for threads that is asked for: FILE STARTS SITES OUT, then `form:loader` or nothing, then `action:cover` or nothing,
+/// The patch for threads that is asked for: FILE STARTS SITES OUT, then `form:loader` or nothing, then `action:ACTION` or nothing,
 /// then `report:NAME` or nothing, and then any RESERVE. Without a report there is no loader form, and sites count.
 fn read_threads<'a>(alloc: Global, words: &[&'a str]) -> Result<Command<'a>, AllocError>
     ensures { IfOk result (λ c. command_view c ≡ threads_of (map (λ w. w.now) words.now)) }
@@ -232,11 +232,11 @@ fn loaded_with<'a>(reported: Command<'a>) -> Command<'a>
     match reported {
         Command::ThreadsReported {
             names,
-            base,
+            action,
             reserves,
         } => Command::ThreadsLoaded {
             names,
-            base,
+            action,
             reserves,
         },
         _ => Command::Usage,
@@ -255,33 +255,47 @@ fn read_by_action<'a>(
     let Some((first, later)) = words.split_first() else {
         return read_after_out(alloc, names, words);
     };
-    if is_cover_action(first) {
-        let reported = read_after_out(alloc, names, later)?;
-        Ok(covered_with(reported))
-    } else {
-        read_after_out(alloc, names, words)
+    match action_asked(first) {
+        Some(action) => {
+            let reported = read_after_out(alloc, names, later)?;
+            Ok(acting_with(action, reported))
+        }
+        None => read_after_out(alloc, names, words),
     }
 }
 
-/// Whether a word asks for events that cover.
-fn is_cover_action(word: &str) -> bool
-    ensures { result ≡ asks_to_cover word.now }
+/// The action that a word asks for: the word is `action:` with the action after it, spelled as `patch` is told it.
+fn action_asked(word: &str) -> Option<Action>
+    ensures { result ≡ action_told word.now }
 {
-    word == "action:cover"
+    match read_action(word.strip_prefix("action:")?) {
+        Some(action) if is_asked(action) => Some(action),
+        _ => None,
+    }
 }
 
-/// A patch for threads with a report, as one that covers.
-fn covered_with<'a>(reported: Command<'a>) -> Command<'a>
-    ensures { command_view result ≡ as_covered (command_view reported.entry) }
+/// Whether a word of `threads` asks for this action: it covers, or has a condition.
+fn is_asked(action: Action) -> bool
+    ensures { result ≡ can_be_asked action }
+{
+    match action {
+        Action::Cover | Action::When { .. } => true,
+        Action::Count | Action::Ring { .. } => false,
+    }
+}
+
+/// A patch for threads with a report, as one with this action.
+fn acting_with<'a>(action: Action, reported: Command<'a>) -> Command<'a>
+    ensures { command_view result ≡ as_acting action (command_view reported.entry) }
 {
     match reported {
         Command::ThreadsReported {
             names,
-            base: _,
+            action: _,
             reserves,
         } => Command::ThreadsReported {
             names,
-            base: Base::Cover,
+            action,
             reserves,
         },
         _ => Command::Usage,
@@ -347,7 +361,7 @@ fn reported_with<'a>(names: Names<'a>, reserves: Option<Vec<Range>>) -> Command<
     if are_apart(&names) {
         Command::ThreadsReported {
             names,
-            base: Base::Count,
+            action: Action::Count,
             reserves,
         }
     } else {

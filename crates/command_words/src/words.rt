@@ -6,7 +6,7 @@ ghost use Rattle.command_words.specs.Named.{command_view};
 
 use crate::forms::{found_command, program};
 use clap::error::ErrorKind;
-use pun_base::action::{Action, Base};
+use pun_base::action::Action;
 use pun_base::range::Range;
 use std::alloc::{AllocError, Global};
 
@@ -87,16 +87,16 @@ pub enum Command<'a> {
         names: ThreadNames<'a>,
         reserves: Vec<Range>,
     },
-    /// As that, with events that cover or count, and a report.
+    /// As that, with an action and a report.
     ThreadsReported {
         names: Names<'a>,
-        base: Base,
+        action: Action,
         reserves: Vec<Range>,
     },
     /// As that, with a file that maps its new code itself.
     ThreadsLoaded {
         names: Names<'a>,
-        base: Base,
+        action: Action,
         reserves: Vec<Range>,
     },
     /// Give back the original of a patched file.

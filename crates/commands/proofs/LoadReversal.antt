@@ -4,7 +4,7 @@ use Rattle.address_space.specs.declared.extent.Extent.{Extent}
 use Rattle.elf_emit.specs.Job as written
 use Rattle.patch_report.specs.Values.{ReportValue}
 use Rattle.page_group.specs.Grouping.{GroupsState}
-use Rattle.site_turns.specs.Modes.{thread_rules, thread_base}
+use Rattle.site_turns.specs.Modes.{thread_rules}
 use Rattle.site_turns.specs.PlannedState.{PlannedState}
 use Rattle.site_turns.specs.Planning.{Request}
 use Rattle.site_turns.specs.PlanLaws.{IsAsked, job_for}
@@ -80,8 +80,8 @@ laid_threads_reversed q j l asked size i laid few =
     subst (λ (z : ThreadJob). entry_count threads.writing_of (with_loader z l) ≤ 1024) i.is few in
     subst (λ (z : ThreadJob). IsReversed q.file (file_by threads.writing_of (with_loader z l)) z.report) (sym i.is)
     (loader_is_reversed q i.planned i.groups l job.report asked (writable q i.turns i.planned asked i.is_planned) i.are_groups size
-    (laid_after q i.planned i.groups l lay) short (writes_under (thread_rules (thread_base q.action)) q i.turns i.planned i.groups turned.rows)
-    (told_under (thread_rules (thread_base q.action)) five_lead q i.turns i.groups asked turned.turns))
+    (laid_after q i.planned i.groups l lay) short (writes_under (thread_rules q.action) q i.turns i.planned i.groups turned.rows)
+    (told_under (thread_rules q.action) five_lead q i.turns i.groups asked turned.turns))
 
 -- the file of each job for threads in the loader form that an input is judged to be is undone by its report
 pub judged_thread_loaders_are_reversed : JudgedThreadLoadersAreReversed
@@ -90,6 +90,6 @@ judged_thread_loaders_are_reversed a k order size h =
 
 -- after a `threads` in the loader form that answered 0 or 1, OUT and REPORT hold what gives FILE back
 pub loaded_threads_are_reversed : LoadedThreadsAreReversed
-loaded_threads_are_reversed b p files new s t k l status orig apart h bytes held w =
-    form_is_reversed (for_threads_with_stub b) (record { undone = judged_thread_loaders_are_reversed; told = λ file starts job f. f.of_job.told }) p files new s
-    t k l status orig apart h bytes held w.writes
+loaded_threads_are_reversed action p files new s t k l status orig apart h bytes held w =
+    form_is_reversed (for_threads_with_stub action) (record { undone = judged_thread_loaders_are_reversed; told = λ file starts job f. f.of_job.told }) p files
+    new s t k l status orig apart h bytes held w.writes

@@ -14,7 +14,7 @@ use Rattle.inspect_commands.proofs.StepVerdicts.{step_agrees}
 use Rattle.command_io.specs.Verdict.{patching}
 use Rattle.patch_commands.specs.Answers.{patch_writing, Patches}
 use Rattle.patch_commands.specs.LoadAnswers.{with_stub, load_writing, Loads}
-use Rattle.patch_commands.specs.ThreadsAnswers.{for_threads, for_threads_with_stub, thread_patching, threads_writing, PatchesThreads, reported_patching, reported_writing, PatchesReported, threads_loaded_writing, LoadsThreads}
+use Rattle.patch_commands.specs.ThreadsAnswers.{for_threads, for_threads_with_stub, thread_patching, threads_writing, PatchesThreads, reported_writing, PatchesReported, threads_loaded_writing, LoadsThreads}
 use Rattle.patch_commands.specs.UnpatchAnswers.{unpatch_writing}
 use Rattle.commands.specs.Reversal.{Unpatches}
 use Rattle.command_words.proofs.CommandForms.{known_of}
@@ -47,10 +47,11 @@ words_lost words (Load n action reserves) s k e =
     let p = patching n action reserves in lost (load_writing p) (Loads p) (form_ended with_stub p (known_of words (Load n action reserves) e).0) s k
 words_lost words (Threads n reserves) s k e =
     let p = thread_patching n reserves in lost (threads_writing p) (PatchesThreads p) (threads_ended p) s k
-words_lost words (ThreadsReported n b reserves) s k e =
-    let p = reported_patching n b reserves in
-    lost (reported_writing b p) (PatchesReported b p) (form_ended (for_threads b) p (known_of words (ThreadsReported n b reserves) e)) s k
-words_lost words (ThreadsLoaded n b reserves) s k e =
-    let p = reported_patching n b reserves in
-    lost (threads_loaded_writing b p) (LoadsThreads b p) (form_ended (for_threads_with_stub b) p (known_of words (ThreadsLoaded n b reserves) e)) s k
+words_lost words (ThreadsReported n action reserves) s k e =
+    let p = patching n action reserves in
+    lost (reported_writing action p) (PatchesReported action p) (form_ended (for_threads action) p (known_of words (ThreadsReported n action reserves) e).0) s k
+words_lost words (ThreadsLoaded n action reserves) s k e =
+    let p = patching n action reserves in
+    lost (threads_loaded_writing action p) (LoadsThreads action p)
+    (form_ended (for_threads_with_stub action) p (known_of words (ThreadsLoaded n action reserves) e).0) s k
 words_lost words (Unpatch n) s k e = lost (unpatch_writing n) (Unpatches n) (unpatch_ended n) s k

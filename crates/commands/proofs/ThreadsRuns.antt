@@ -1,7 +1,7 @@
 -- What `threads` does without a report is what a command does that writes OUT.
 use Rattle.std.proofs.Common.{◌≡◌, ℕ, List, [], ◌∷◌, Result, subst, arith}
 use Rattle.pun_base.specs.Shown.{Files, DeskState, SinkState, Told}
-use Rattle.pun_base.specs.declared.action.Base.TheVariants.{Count}
+use Rattle.pun_base.specs.declared.action.Action.TheVariants.{Count}
 use Rattle.pun_base.proofs.HeldFiles.{with_file-same}
 use Rattle.guest_threads.specs.ThreadRewriting.{ThreadJob, file_of}
 use Rattle.command_words.specs.Words.{ThreadNames}

@@ -5,7 +5,7 @@ use Rattle.pun_base.specs.Shown.{DeskState, SinkState, Rose}
 use Rattle.command_words.specs.Words.{Command, Usage, Patch, Check, Step, Gen, Load, Threads, ThreadsReported, ThreadsLoaded, Unpatch}
 use Rattle.patch_commands.specs.Answers.{IsUsage, Patches}
 use Rattle.patch_commands.specs.LoadAnswers.{Loads}
-use Rattle.patch_commands.specs.ThreadsAnswers.{thread_patching, PatchesThreads, reported_patching, PatchesReported, LoadsThreads}
+use Rattle.patch_commands.specs.ThreadsAnswers.{thread_patching, PatchesThreads, PatchesReported, LoadsThreads}
 use Rattle.command_io.specs.Verdict.{patching}
 use Rattle.inspect_commands.specs.CheckAnswers.{Checks}
 use Rattle.inspect_commands.specs.StepAnswers.{Steps}
@@ -23,8 +23,8 @@ IsLoad other = ⊥
 
 abbrev pub IsThreads : Command → Type 0
 IsThreads (Threads names reserves) = Unit {0}
-IsThreads (ThreadsReported names base reserves) = Unit {0}
-IsThreads (ThreadsLoaded names base reserves) = Unit {0}
+IsThreads (ThreadsReported names action reserves) = Unit {0}
+IsThreads (ThreadsLoaded names action reserves) = Unit {0}
 IsThreads other = ⊥
 
 abbrev pub IsCheck : Command → Type 0
@@ -61,5 +61,5 @@ Does (Gen seed blocks) s t k l status = Generates seed blocks s t k l status
 Does (Unpatch names) s t k l status = Unpatches names s t k l status
 Does (Load names action reserves) s t k l status = Loads (patching names action reserves) s t k l status
 Does (Threads names reserves) s t k l status = PatchesThreads (thread_patching names reserves) s t k l status
-Does (ThreadsReported names base reserves) s t k l status = PatchesReported base (reported_patching names base reserves) s t k l status
-Does (ThreadsLoaded names base reserves) s t k l status = LoadsThreads base (reported_patching names base reserves) s t k l status
+Does (ThreadsReported names action reserves) s t k l status = PatchesReported action (patching names action reserves) s t k l status
+Does (ThreadsLoaded names action reserves) s t k l status = LoadsThreads action (patching names action reserves) s t k l status

@@ -2,7 +2,7 @@
 -- sink shows.
 use Rattle.std.specs.Prelude.{◌≡◌, ℕ, ◌≤◌, List, length, Some}
 use Rattle.pun_base.specs.Shown.{Files, DeskState, SinkState, with_file}
-use Rattle.pun_base.specs.declared.action.Base.{Base}
+use Rattle.pun_base.specs.declared.action.Action.{Action}
 use Rattle.patch_report.specs.Values.{ReportValue}
 use Rattle.commands.specs.Planned.{IsReversed}
 use Rattle.command_words.specs.Words.{UnpatchNames}
@@ -60,8 +60,8 @@ LoadIsReversed = IsReversedAfter Plain Loads
 
 -- After `threads` with a report they do.
 abbrev pub ThreadsAreReversed : Type 0
-ThreadsAreReversed = (b : Base) → IsReversedAfter Threaded (PatchesReported b)
+ThreadsAreReversed = (action : Action) → IsReversedAfter Threaded (PatchesReported action)
 
 -- After `threads` in the loader form they do.
 abbrev pub LoadedThreadsAreReversed : Type 0
-LoadedThreadsAreReversed = (b : Base) → IsReversedAfter Threaded (LoadsThreads b)
+LoadedThreadsAreReversed = (action : Action) → IsReversedAfter Threaded (LoadsThreads action)

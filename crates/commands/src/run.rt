@@ -62,23 +62,23 @@ pub fn run<D: Desk, K: Sink>(alloc: Global, words: &[String], desk: &mut D, out:
         Ok(
             Command::ThreadsReported {
                 names,
-                base,
+                action,
                 reserves,
             },
         ) => tell(
             alloc,
-            threads_command::patch_reported(alloc, &names, base, &reserves, desk),
+            threads_command::patch_reported(alloc, &names, action, &reserves, desk),
             out,
         ),
         Ok(
             Command::ThreadsLoaded {
                 names,
-                base,
+                action,
                 reserves,
             },
         ) => tell(
             alloc,
-            threads_command::patch_loaded(alloc, &names, base, &reserves, desk),
+            threads_command::patch_loaded(alloc, &names, action, &reserves, desk),
             out,
         ),
         Ok(Command::Unpatch(names)) => tell(alloc, unpatch_command::undo(alloc, &names, desk), out),

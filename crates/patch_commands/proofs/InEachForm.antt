@@ -1,12 +1,11 @@
 -- What the rewriting in each form comes to, by the form.
-use Rattle.std.proofs.Common.{◌≡◌, ℕ, ◌<◌, inl, List, map, slice_index, Result, Ok, Err, refl, sym, ap, ◌∙◌, subst}
+use Rattle.std.proofs.Common.{◌≡◌, ℕ, ◌<◌, inl, List, map, slice_index, Result, Ok, Err, refl, sym, ◌∙◌, subst}
 use Rattle.pun_base.specs.Shown.{DeskState}
 use Rattle.pun_base.specs.Desk.{Fills}
-use Rattle.pun_base.specs.declared.action.Base.{Base}
+use Rattle.pun_base.specs.declared.action.Action.{Action}
 use Rattle.pun_base.specs.declared.range.Range.{Range}
 use Rattle.pun_base.specs.Ranges.{ends}
 use Rattle.patch_report.specs.Values.{ReportValue}
-use Rattle.site_turns.specs.Modes.{thread_base}
 use Rattle.rewrite_core.specs.Asked.{Asked}
 use Rattle.rewrite_core.specs.Followed.{IsFollowed}
 use Rattle.rewrite_core.specs.Judging as core
@@ -16,17 +15,17 @@ use Rattle.rewrite_loader.specs.Judging as loader_judging
 use Rattle.rewrite_loader.specs.Rewrites as loader_answers
 use Rattle.guest_threads.specs.ThreadRewriting as threads
 use Rattle.guest_threads.specs.ThreadRewriting.{IsFollowedInThreads}
-use Rattle.guest_threads.proofs.ThreadPlans.{base_back}
 use Rattle.thread_loader.specs.Followed.{IsLoaderFollowedInThreads}
 use Rattle.thread_loader.specs.Rewriting as thread_loader
 use Rattle.command_io.specs.Writing.{Verdict, Accepted}
 use Rattle.command_io.specs.Verdict as verdict
-use Rattle.command_io.specs.Verdict.{Patching, rewriting_in, asked, OfTexts}
+use Rattle.command_io.specs.Verdict.{Patching, plain, rewriting_in, asked, OfTexts}
 use Rattle.command_io.specs.declared.report_mode.Mode.{Mode}
 use Rattle.command_io.specs.Failing.{Failed, Answer}
 use Rattle.command_io.specs.Works.{IsOnly, Works}
 use Rattle.command_io.proofs.WholeCommands.{works_as}
-use Rattle.patch_commands.specs.ThreadsAnswers.{IsOfJob}
+use Rattle.patch_commands.specs.LoadAnswers.{with_stub}
+use Rattle.patch_commands.specs.ThreadsAnswers.{IsOfJob, for_threads, for_threads_with_stub}
 use Rattle.patch_commands.specs.Patching.{patch_texts, AreLists, WritesReport}
 use Rattle.patch_commands.specs.Forms.{action_in, job_in, form_in, mode_in, writing_in, RewritesIn}
 use Rattle.patch_commands.specs.declared.patching.Form.{Form}
@@ -51,64 +50,48 @@ record IsRewrittenIn {J : Type 0} (f : verdict.Form J) (a : Asked) (out : List �
   holds : Fills out (f.file job) s t (Ok tt)
   followed : f.Follows a.file a.starts job
 
+-- so was a job of which all this is known
+written : {J : Type 0} → (f : verdict.Form J) (a : Asked) (out : List ℕ) (s t : DeskState) (report : ReportValue) (j : J) → f.Judged a (Accepted j)
+    → report ≡ f.report j → Fills out (f.file j) s t (Ok tt) → f.Follows a.file a.starts j → IsRewrittenIn f a out s t report
+written f a out s t report j v r h w = record { job = j; judged = v; told = r; holds = h; followed = w }
+
 -- a rewriting that ended well, of what was asked with the form's action
 rewritten : (f : Form) (a : Asked) (out : List ℕ) (s t : DeskState) (report : ReportValue) → a.action ≡ action_in f → RewritesIn f a out s t (Ok report)
     → IsRewrittenIn (form_in f) a out s t report
-rewritten (Plain action) a out s t report same h = record {
-  job = h.0;
-  judged = h.1;
-  told = h.2.report_is;
-  holds = h.2.holds;
-  followed = subst (λ (v : ReportValue). IsFollowed a.file a.starts (core_answers.file_of h.0) v) h.2.report_is h.2.followed;
-}
-rewritten (WithStub action) a out s t report same h = record {
-  job = h.0;
-  judged = h.1;
-  told = h.2.report_is;
-  holds = h.2.holds;
-  followed = subst (λ (v : ReportValue). IsLoaderFollowed a.file a.starts h.0 v) h.2.report_is h.2.followed;
-}
-rewritten (ForThreads b) a out s t report same h =
-    let of_job : IsOfJob b h.0 report =
-    record { told = h.2.told; action = h.2.action_is ∙ same; private = h.2.private_is; rows = h.2.rows_are } in
-    record {
-      job = h.0;
-      judged = h.1;
-      told = h.2.report_is;
-      holds = h.2.holds;
-      followed = record {
-        of_job = subst (IsOfJob b h.0) h.2.report_is of_job;
-        followed = subst (λ (z : Base). IsFollowedInThreads z a.file a.starts (threads.file_of h.0) h.0.private h.0.rows) (ap thread_base same ∙ base_back b)
-            h.2.followed;
-      };
-    }
-rewritten (ForThreadsWithStub b) a out s t report same h =
-    let of_job : IsOfJob b h.0.job report =
-    record { told = h.2.told; action = h.2.action_is ∙ same; private = h.2.private_is; rows = h.2.rows_are } in
-    record {
-      job = h.0;
-      judged = h.1;
-      told = h.2.report_is;
-      holds = h.2.holds;
-      followed = record {
-        of_job = subst (IsOfJob b h.0.job) h.2.report_is of_job;
-        followed = subst (λ (z : Base). IsLoaderFollowedInThreads z a.file a.starts h.0) (ap thread_base same ∙ base_back b) h.2.followed;
-      };
-    }
+rewritten (Plain action) a out s t report same h =
+    written plain a out s t report h.0 h.1 h.2.report_is h.2.holds
+    (subst (λ (v : ReportValue). IsFollowed a.file a.starts (core_answers.file_of h.0) v) h.2.report_is h.2.followed)
+rewritten (WithStub action) a out s t report same h =
+    written with_stub a out s t report h.0 h.1 h.2.report_is h.2.holds
+    (subst (λ (v : ReportValue). IsLoaderFollowed a.file a.starts h.0 v) h.2.report_is h.2.followed)
+rewritten (ForThreads action) a out s t report same h =
+    let of_job : IsOfJob action h.0 report =
+    record { told = h.2.told; action_is = h.2.action_is ∙ same; private = h.2.private_is; rows = h.2.rows_are } in
+    written (for_threads action) a out s t report h.0 h.1 h.2.report_is h.2.holds (record {
+      of_job = subst (IsOfJob action h.0) h.2.report_is of_job;
+      followed = subst (λ (z : Action). IsFollowedInThreads z a.file a.starts (threads.file_of h.0) h.0.private h.0.rows) same h.2.followed;
+    })
+rewritten (ForThreadsWithStub action) a out s t report same h =
+    let of_job : IsOfJob action h.0.job report =
+    record { told = h.2.told; action_is = h.2.action_is ∙ same; private = h.2.private_is; rows = h.2.rows_are } in
+    written (for_threads_with_stub action) a out s t report h.0 h.1 h.2.report_is h.2.holds (record {
+      of_job = subst (IsOfJob action h.0.job) h.2.report_is of_job;
+      followed = subst (λ (z : Action). IsLoaderFollowedInThreads z a.file a.starts h.0) same h.2.followed;
+    })
 
 -- the mode of a form's report is that of the form
 mode_is : (f : Form) → mode_in f ≡ (form_in f).mode
 mode_is (Plain action) = refl
 mode_is (WithStub action) = refl
-mode_is (ForThreads b) = refl
-mode_is (ForThreadsWithStub b) = refl
+mode_is (ForThreads action) = refl
+mode_is (ForThreadsWithStub action) = refl
 
 -- an input in order has one verdict at most in each form
 once_in : (f : Form) (p : Patching) → IsOnce (rewriting_in (form_in f) p)
 once_in (Plain action) p = one_plain
 once_in (WithStub action) p = one_with_stub
-once_in (ForThreads b) p = one_for_threads b
-once_in (ForThreadsWithStub b) p = one_for_threads_with_stub b
+once_in (ForThreads action) p = one_for_threads action
+once_in (ForThreadsWithStub action) p = one_for_threads_with_stub action
 
 -- ---- a rewriting that doesn't end well
 
@@ -128,14 +111,14 @@ refused (WithStub action) p x a g s t e h =
     works_as (writing_in (WithStub action) p) (patch_texts x) s t e _ h.1
     (unloaded loader_judging.Judges loader_judging.file_of loader_answers.IsRewritten (writing_in (WithStub action) p) (patch_texts x) a p.names.out
     (λ j u v d q. inl q) (only_this (WithStub action) p x a g) s t h.0 h.2)
-refused (ForThreads b) p x a g s t e h =
-    works_as (writing_in (ForThreads b) p) (patch_texts x) s t e _ h.1
-    (unfinished threads.Judges threads.file_of threads.IsReported (writing_in (ForThreads b) p) (patch_texts x) a p.names.out (λ j u v d q. inl q)
-    (only_this (ForThreads b) p x a g) s t h.0 h.2)
-refused (ForThreadsWithStub b) p x a g s t e h =
-    works_as (writing_in (ForThreadsWithStub b) p) (patch_texts x) s t e _ h.1
-    (unloaded thread_loader.Judges thread_loader.file_of thread_loader.IsReported (writing_in (ForThreadsWithStub b) p) (patch_texts x) a p.names.out
-    (λ j u v d q. inl q) (only_this (ForThreadsWithStub b) p x a g) s t h.0 h.2)
+refused (ForThreads action) p x a g s t e h =
+    works_as (writing_in (ForThreads action) p) (patch_texts x) s t e _ h.1
+    (unfinished threads.Judges threads.file_of threads.IsReported (writing_in (ForThreads action) p) (patch_texts x) a p.names.out (λ j u v d q. inl q)
+    (only_this (ForThreads action) p x a g) s t h.0 h.2)
+refused (ForThreadsWithStub action) p x a g s t e h =
+    works_as (writing_in (ForThreadsWithStub action) p) (patch_texts x) s t e _ h.1
+    (unloaded thread_loader.Judges thread_loader.file_of thread_loader.IsReported (writing_in (ForThreadsWithStub action) p) (patch_texts x) a p.names.out
+    (λ j u v d q. inl q) (only_this (ForThreadsWithStub action) p x a g) s t h.0 h.2)
 
 -- ---- of the lists that were read
 

@@ -3,7 +3,7 @@ use Rattle.std.proofs.Common.{◌≡◌, inl, inr, ℕ, ◌<◌, List, [], ◌�
 use Rattle.std.proofs.Math.Bridge.{le_prop}
 use Rattle.pun_base.specs.Shown.{Files}
 use Rattle.pun_base.specs.declared.action.Action.{Action}
-use Rattle.pun_base.specs.declared.action.Base.{Base}
+use Rattle.pun_base.specs.declared.action.Action.{Action}
 use Rattle.pun_base.specs.declared.range.Range.{Range}
 use Rattle.pun_base.specs.Ranges.{ends}
 use Rattle.pun_base.specs.Limits.{most_sites}
@@ -93,13 +93,14 @@ pub one_with_stub : (a : Asked) (v w : Verdict LoaderJob) → IsInOrder a → wi
 one_with_stub = one_judged refusal_told loader.Judges loader_verdicts.judged_once
 
 -- an input in order has one verdict at most for `threads`
-pub one_for_threads : (b : Base) (a : Asked) (v w : Verdict ThreadJob) → IsInOrder a → (for_threads b).Judged a v → (for_threads b).Judged a w → v ≡ w
-one_for_threads b = one_judged Rewrite threads.Judges thread_verdicts.judged_once
+pub one_for_threads : (action : Action) (a : Asked) (v w : Verdict ThreadJob) → IsInOrder a → (for_threads action).Judged a v
+    → (for_threads action).Judged a w → v ≡ w
+one_for_threads action = one_judged Rewrite threads.Judges thread_verdicts.judged_once
 
 -- an input in order has one verdict at most for `threads` in the loader form
-pub one_for_threads_with_stub : (b : Base) (a : Asked) (v w : Verdict ThreadLoaderJob) → IsInOrder a → (for_threads_with_stub b).Judged a v
-    → (for_threads_with_stub b).Judged a w → v ≡ w
-one_for_threads_with_stub b = one_judged refusal_told thread_loader.Judges thread_loader_verdicts.judged_once
+pub one_for_threads_with_stub : (action : Action) (a : Asked) (v w : Verdict ThreadLoaderJob) → IsInOrder a
+    → (for_threads_with_stub action).Judged a v → (for_threads_with_stub action).Judged a w → v ≡ w
+one_for_threads_with_stub action = one_judged refusal_told thread_loader.Judges thread_loader_verdicts.judged_once
 
 -- Of what is asked in order there is one verdict at most.
 abbrev pub IsOnce : {J : Type 0} → Rewriting J → Type 0

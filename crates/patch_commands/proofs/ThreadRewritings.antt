@@ -1,12 +1,11 @@
 -- OUT is rewritten for threads without a report, and the summary is told.
 use Rattle.std.proofs.Common.{◌≡◌, inl, inr, List, map, Result, Ok, Err, refl, ap, ◌∙◌, subst}
 use Rattle.pun_base.specs.Shown.{DeskState}
-use Rattle.pun_base.specs.declared.action.Base.{Base}
-use Rattle.pun_base.specs.declared.action.Base.TheVariants.{Count}
+use Rattle.pun_base.specs.declared.action.Action.{Action}
+use Rattle.pun_base.specs.declared.action.Action.TheVariants.{Count}
 use Rattle.patch_report.specs.Values.{RowValue, row_value}
 use Rattle.patch_report.specs.declared.row.ReportRow.{ReportRow}
 use Rattle.rewrite_core.specs.declared.rewrite.RewriteError.{RewriteError}
-use Rattle.site_turns.specs.Modes.{thread_base}
 use Rattle.rewrite_core.specs.Asked.{Asked}
 use Rattle.guest_threads.specs.declared.rewriting.ThreadReport.{ThreadReport}
 use Rattle.guest_threads.specs.ThreadRewriting.{ThreadJob, Judges, file_of, IsRewritten, RewritesThreads}
@@ -48,7 +47,7 @@ module _ (p : ThreadPatching) (x : Inputs) (a : Asked) (g : IsGiven (threads_rew
               (subst (λ (z : List RowValue). TellsSummary z r) same w);
           promised = if_done (ListFollowed (FollowsInThreads Count) x.file.items x.starts.items h.0) r
               (list_followed (FollowsInThreads Count) (threads_rewriting p) x a h.0 g
-              (subst (λ (b : Base). FollowsInThreads b a.file a.starts h.0) (ap (λ (z : Asked). thread_base z.action) g.same) h.2.followed));
+              (subst (λ (action : Action). FollowsInThreads action a.file a.starts h.0) (ap (λ (z : Asked). z.action) g.same) h.2.followed));
         },
       )
 

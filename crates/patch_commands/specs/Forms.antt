@@ -4,7 +4,7 @@ use Rattle.pun_base.specs.Shown.{DeskState}
 use Rattle.pun_base.specs.Ranges.{ends}
 use Rattle.pun_base.specs.declared.action.Action.{Action}
 use Rattle.patch_report.specs.Values.{ReportValue}
-use Rattle.site_turns.specs.Modes.{thread_action}
+use Rattle.site_turns.specs.Modes.{IsShared}
 use Rattle.rewrite_core.specs.Asked.{Asked}
 use Rattle.rewrite_core.specs.Judging.{Job}
 use Rattle.rewrite_core.specs.Rewrites.{Rewrites}
@@ -32,29 +32,36 @@ use Rattle.patch_commands.specs.declared.patch.Listed.{Listed}
 abbrev pub action_in : Form → Action
 action_in (Plain action) = action
 action_in (WithStub action) = action
-action_in (ForThreads b) = thread_action b
-action_in (ForThreadsWithStub b) = thread_action b
+action_in (ForThreads action) = action
+action_in (ForThreadsWithStub action) = action
+
+-- In the forms for threads, these can get the events of the action.
+abbrev pub IsSharedIn : Form → Type 0
+IsSharedIn (Plain action) = Unit {0}
+IsSharedIn (WithStub action) = Unit {0}
+IsSharedIn (ForThreads action) = IsShared action
+IsSharedIn (ForThreadsWithStub action) = IsShared action
 
 -- What the rewriting in a form comes to.
 abbrev pub job_in : Form → Type 0
 job_in (Plain action) = Job
 job_in (WithStub action) = LoaderJob
-job_in (ForThreads b) = ThreadJob
-job_in (ForThreadsWithStub b) = ThreadLoaderJob
+job_in (ForThreads action) = ThreadJob
+job_in (ForThreadsWithStub action) = ThreadLoaderJob
 
 -- The form itself, as `patch` and its like have it.
 abbrev pub form_in : (f : Form) → verdict.Form (job_in f)
 form_in (Plain action) = plain
 form_in (WithStub action) = with_stub
-form_in (ForThreads b) = for_threads b
-form_in (ForThreadsWithStub b) = for_threads_with_stub b
+form_in (ForThreads action) = for_threads action
+form_in (ForThreadsWithStub action) = for_threads_with_stub action
 
 -- The mode of a form's report.
 abbrev pub mode_in : Form → Mode
 mode_in (Plain action) = mode.Plain
 mode_in (WithStub action) = mode.Plain
-mode_in (ForThreads b) = mode.Threaded
-mode_in (ForThreadsWithStub b) = mode.Threaded
+mode_in (ForThreads action) = mode.Threaded
+mode_in (ForThreadsWithStub action) = mode.Threaded
 
 -- Patching in a form.
 abbrev pub writing_in : (f : Form) → Patching → Writing (job_in f)
@@ -77,5 +84,5 @@ ToldAs {E = E} told Is (Err e) = (error : E) × (e ≡ told error) × Is (Err er
 abbrev pub RewritesIn : Form → Asked → (out : List ℕ) → DeskState → DeskState → Result ReportValue Failed → Type 0
 RewritesIn (Plain action) a out s t = ToldAs (rewrite_failed out) (Rewrites a out s t)
 RewritesIn (WithStub action) a out s t = ToldAs (loader_failed out) (loader.Rewrites a out s t)
-RewritesIn (ForThreads b) a out s t = ToldAs (rewrite_failed out) (ReportsThreads a out s t)
-RewritesIn (ForThreadsWithStub b) a out s t = ToldAs (loader_failed out) (thread_loader.LoadsThreads a out s t)
+RewritesIn (ForThreads action) a out s t = ToldAs (rewrite_failed out) (ReportsThreads a out s t)
+RewritesIn (ForThreadsWithStub action) a out s t = ToldAs (loader_failed out) (thread_loader.LoadsThreads a out s t)

@@ -2,21 +2,19 @@
 -- s and t are what the desk shows before and after, k and l what the sink shows.
 use Rattle.std.specs.Prelude.{◌≡◌, ℕ, List, [], ◌∷◌, Some, Ok}
 use Rattle.pun_base.specs.Shown.{Files, DeskState, SinkState}
+use Rattle.pun_base.specs.declared.action.Action.{Action}
 use Rattle.pun_base.specs.declared.action.Action.TheVariants.{Count}
-use Rattle.pun_base.specs.declared.action.Base.{Base}
-use Rattle.pun_base.specs.declared.action.Base.TheVariants as base
 use Rattle.patch_report.specs.Grammar.{IsReport}
 use Rattle.patch_report.specs.Values.{ReportValue}
-use Rattle.site_turns.specs.Modes.{thread_action}
 use Rattle.guest_threads.specs.ThreadRewriting.{ThreadJob, Judges, IsFollowedInThreads, file_of}
 use Rattle.thread_loader.specs.Followed.{ThreadLoaderJob, IsLoaderFollowedInThreads}
 use Rattle.thread_loader.specs.Rewriting as loader
-use Rattle.command_words.specs.Words.{Names, ThreadNames}
+use Rattle.command_words.specs.Words.{ThreadNames}
 use Rattle.command_io.specs.Refusals.{Rewrite}
 use Rattle.command_io.specs.Summary.{summary_text, done_status}
 use Rattle.command_io.specs.Inputs.{Inputs, WhereTold}
 use Rattle.command_io.specs.Writing.{Verdict, Outputs, Writing, IsInputVerdict, Writes}
-use Rattle.command_io.specs.Verdict.{Patching, patching, Form, IsJudgedAs, starts_of, Rewriting, OfTexts, HoldsBytes}
+use Rattle.command_io.specs.Verdict.{Patching, Form, IsJudgedAs, starts_of, Rewriting, OfTexts, HoldsBytes}
 use Rattle.patch_commands.specs.Answers.{IsDone, listed_inputs, TextsFollowed, form_writing, PatchesIn}
 use Rattle.patch_commands.specs.LoadAnswers.{refusal_told}
 use Rattle.command_io.specs.declared.report_mode.Mode.TheVariants.{Threaded}
@@ -43,9 +41,10 @@ abbrev pub threads_outputs : ThreadNames → Outputs ThreadJob
 threads_outputs n = (n.out, file_of) ∷ []
 
 -- What is promised of FILE's bytes, the addresses of STARTS and the job: with any number of threads, in each run that meets the premises, the
--- patched file runs as the original does, and each counter tells how often its site was run, or each byte whether it was.
-abbrev pub FollowsInThreads : Base → List ℕ → List ℕ → ThreadJob → Type 0
-FollowsInThreads b file starts job = IsFollowedInThreads b file starts (file_of job) job.private job.rows
+-- patched file runs as the original does, and each counter tells how often its site was run where the action's condition held, or each byte
+-- whether it was.
+abbrev pub FollowsInThreads : Action → List ℕ → List ℕ → ThreadJob → Type 0
+FollowsInThreads action file starts job = IsFollowedInThreads action file starts (file_of job) job.private job.rows
 
 -- `threads`, with what it is given.
 abbrev pub threads_writing : ThreadPatching → Writing ThreadJob
@@ -56,7 +55,7 @@ threads_writing p = record {
   text = λ job. summary_text job.rows;
   status = λ job. done_status job.rows;
   IsOwn = IsDone;
-  Promises = TextsFollowed (FollowsInThreads base.Count);
+  Promises = TextsFollowed (FollowsInThreads Count);
 }
 
 -- There is one verdict at most.
@@ -77,7 +76,7 @@ pub record FilesFollowedInThreads (n : ThreadNames) (old new : Files) : Type 0 w
   -- the addresses that the text of STARTS lists
   pub list : List ℕ
   pub listed : starts_of starts ≡ Ok list
-  pub followed : FollowsInThreads base.Count file list job
+  pub followed : FollowsInThreads Count file list job
 
 -- What `threads` does, with what it is given.
 pub record PatchesThreads (p : ThreadPatching) (s t : DeskState) (k l : SinkState) (status : ℕ) : Type 0 where
@@ -87,62 +86,58 @@ pub record PatchesThreads (p : ThreadPatching) (s t : DeskState) (k l : SinkStat
 
 -- ---- with a report
 
--- What a report tells of a job: what each event does, and the private range and the rows of the job. It is one that a text tells.
-pub record IsOfJob (b : Base) (job : ThreadJob) (report : ReportValue) : Type 0 where
+-- What a report tells of a job: its action, and the private range and the rows of the job. It is one that a text tells.
+pub record IsOfJob (action : Action) (job : ThreadJob) (report : ReportValue) : Type 0 where
   pub told : IsReport report
-  pub action : report.body.action ≡ thread_action b
+  pub action_is : report.body.action ≡ action
   pub private : report.body.private ≡ (job.private.lo, job.private.hi)
   pub rows : report.body.rows ≡ job.rows
 
 -- What is promised with a report: the report is of the job, and all else is as without one.
-pub record FollowsReported (b : Base) (file starts : List ℕ) (job : ThreadJob) : Type 0 where
-  pub of_job : IsOfJob b job job.report
-  pub followed : FollowsInThreads b file starts job
+pub record FollowsReported (action : Action) (file starts : List ℕ) (job : ThreadJob) : Type 0 where
+  pub of_job : IsOfJob action job job.report
+  pub followed : FollowsInThreads action file starts job
 
--- The form of `threads` with a report, where each event does this: the report is in the mode of threads.
-abbrev pub for_threads : Base → Form ThreadJob
-for_threads b = record {
+-- The form of `threads` with a report, with an action: the report is in the mode of threads.
+abbrev pub for_threads : Action → Form ThreadJob
+for_threads action = record {
   Judged = IsJudgedAs Rewrite Judges;
   file = file_of;
   mode = Threaded;
   report = λ job. job.report;
-  Follows = FollowsReported b;
+  Follows = FollowsReported action;
 }
 
--- What `threads` is given with a report: each event does this.
-abbrev pub reported_patching : Names → Base → List (ℕ × ℕ) → Patching
-reported_patching n b reserves = patching n (thread_action b) reserves
-
 -- `threads` with a report, with what it is given.
-abbrev pub reported_writing : Base → Patching → Writing ThreadJob
-reported_writing b p = form_writing (for_threads b) p
+abbrev pub reported_writing : Action → Patching → Writing ThreadJob
+reported_writing action p = form_writing (for_threads action) p
 
 -- What `threads` does with a report, with what it is given.
-abbrev pub PatchesReported : Base → Patching → DeskState → DeskState → SinkState → SinkState → ℕ → Type 0
-PatchesReported b p s t k l status = PatchesIn (for_threads b) p s t k l status
+abbrev pub PatchesReported : Action → Patching → DeskState → DeskState → SinkState → SinkState → ℕ → Type 0
+PatchesReported action p s t k l status = PatchesIn (for_threads action) p s t k l status
 
 -- ---- in the loader form, with a report
 
 -- What is promised in the loader form: the report is of the job; the stub leads to the original's entry, and from there all is as in the other
 -- form.
-pub record FollowsLoaded (b : Base) (file starts : List ℕ) (job : ThreadLoaderJob) : Type 0 where
-  pub of_job : IsOfJob b job.job job.job.report
-  pub followed : IsLoaderFollowedInThreads b file starts job
+pub record FollowsLoaded (action : Action) (file starts : List ℕ) (job : ThreadLoaderJob) : Type 0 where
+  pub of_job : IsOfJob action job.job job.job.report
+  pub followed : IsLoaderFollowedInThreads action file starts job
 
 -- The loader form of `threads`: a stub in the patched file maps the pages for code, and goes to where the original starts.
-abbrev pub for_threads_with_stub : Base → Form ThreadLoaderJob
-for_threads_with_stub b = record {
+abbrev pub for_threads_with_stub : Action → Form ThreadLoaderJob
+for_threads_with_stub action = record {
   Judged = IsJudgedAs refusal_told loader.Judges;
   file = loader.file_of;
   mode = Threaded;
   report = λ job. job.job.report;
-  Follows = FollowsLoaded b;
+  Follows = FollowsLoaded action;
 }
 
 -- `threads` in the loader form, with what it is given.
-abbrev pub threads_loaded_writing : Base → Patching → Writing ThreadLoaderJob
-threads_loaded_writing b p = form_writing (for_threads_with_stub b) p
+abbrev pub threads_loaded_writing : Action → Patching → Writing ThreadLoaderJob
+threads_loaded_writing action p = form_writing (for_threads_with_stub action) p
 
 -- What `threads` does in the loader form, with what it is given.
-abbrev pub LoadsThreads : Base → Patching → DeskState → DeskState → SinkState → SinkState → ℕ → Type 0
-LoadsThreads b p s t k l status = PatchesIn (for_threads_with_stub b) p s t k l status
+abbrev pub LoadsThreads : Action → Patching → DeskState → DeskState → SinkState → SinkState → ℕ → Type 0
+LoadsThreads action p s t k l status = PatchesIn (for_threads_with_stub action) p s t k l status

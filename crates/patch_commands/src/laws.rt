@@ -1,5 +1,5 @@
 //! Laws of what is judged of inputs.
-ghost use Rattle.pun_base.specs.declared.action.Base.{Base};
+ghost use Rattle.pun_base.specs.declared.action.Action.{Action};
 ghost use Rattle.command_io.specs.Verdict.{plain};
 ghost use Rattle.patch_commands.specs.Answers.{HasOneVerdict};
 ghost use Rattle.patch_commands.specs.LoadAnswers.{with_stub};
@@ -11,7 +11,7 @@ pub fn one_verdict()
     ensures patch { HasOneVerdict plain }
     ensures load { HasOneVerdict with_stub }
     ensures threads { ThreadsHaveOneVerdict }
-    ensures threads_reported { (b : Base) → HasOneVerdict (for_threads b) }
-    ensures threads_loaded { (b : Base) → HasOneVerdict (for_threads_with_stub b) }
+    ensures threads_reported { (action : Action) → HasOneVerdict (for_threads action) }
+    ensures threads_loaded { (action : Action) → HasOneVerdict (for_threads_with_stub action) }
     ensures unpatch { UnpatchHasOneVerdict }
 {}

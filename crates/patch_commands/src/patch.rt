@@ -10,7 +10,7 @@ ghost use Rattle.command_io.specs.Verdict.{patching};
 ghost use Rattle.patch_commands.specs.Answers.{listed_inputs, patch_writing};
 ghost use Rattle.command_io.specs.Failing.{Gathers, seen_as, told_of};
 ghost use Rattle.command_io.specs.Works.{Carries, Works};
-ghost use Rattle.patch_commands.specs.Forms.{action_in, asked_of, patching_of, writing_in, RewritesIn};
+ghost use Rattle.patch_commands.specs.Forms.{action_in, asked_of, patching_of, writing_in, IsSharedIn, RewritesIn};
 ghost use Rattle.patch_commands.specs.Patching.{patch_texts, file_and_lists, ReadsLists, TellsSummary, WritesReport};
 
 use crate::patching::{Form, Given};
@@ -79,6 +79,7 @@ pub(crate) fn patch_in_form<'a, D: Desk>(
     desk: &mut D,
 ) -> Result<Told, Failure<'a>>
     requires action { IsAction (action_in given.now.form) }
+    requires shared { IsSharedIn given.now.form }
     requires nothing { (D.seen desk.old).writing ≡ None }
     ensures { Carries (writing_in given.now.form (patching_of given.now)) (D.seen desk.old)
         (D.seen desk.new) (seen_as told_of result) }
@@ -119,6 +120,7 @@ fn rewrite_inputs<'a, D: Desk>(
     desk: &mut D,
 ) -> Result<Told, Failure<'a>>
     requires action { IsAction (action_in given.now.form) }
+    requires shared { IsSharedIn given.now.form }
     requires nothing { (D.seen desk.old).writing ≡ None }
     ensures { Works (writing_in given.now.form (patching_of given.now)) (patch_texts inputs)
         (D.seen desk.old) (D.seen desk.new) (seen_as told_of result) }
@@ -144,6 +146,7 @@ fn rewrite_listed<'a, D: Desk>(
     requires sites_ascend { IsStrictlyIncreasing listed.now.sites.items }
     requires few_sites { length listed.now.sites.items ≤ most_sites }
     requires action { IsAction (action_in given.now.form) }
+    requires shared { IsSharedIn given.now.form }
     requires nothing { (D.seen desk.old).writing ≡ None }
     ensures bytes { (k : ℕ) → slice_index listed.now.file.items k < 256 }
     ensures rewrites { RewritesIn given.now.form (asked_of given.now listed.now)
@@ -176,14 +179,14 @@ fn rewrite_listed<'a, D: Desk>(
                 Err(error) => Err(loader_failure(error, out)),
             }
         }
-        Form::ForThreads(base) => {
-            match rewrite_threads_reported(alloc, file, starts, sites, base, reserves, out, desk) {
+        Form::ForThreads(action) => {
+            match rewrite_threads_reported(alloc, file, starts, sites, action, reserves, out, desk) {
                 Ok(report) => Ok(report),
                 Err(error) => Err(rewrite_failure(error, out)),
             }
         }
-        Form::ForThreadsWithStub(base) => {
-            match rewrite_threads_loader(alloc, file, starts, sites, base, reserves, out, desk) {
+        Form::ForThreadsWithStub(action) => {
+            match rewrite_threads_loader(alloc, file, starts, sites, action, reserves, out, desk) {
                 Ok(report) => Ok(report),
                 Err(error) => Err(loader_failure(error, out)),
             }

@@ -4,17 +4,17 @@ ghost use Rattle.patch_commands.specs.Forms.{mode_in};
 
 use command_io::report_mode::Mode;
 use command_words::words::Names;
-use pun_base::action::{Action, Base};
+use pun_base::action::Action;
 use pun_base::range::Range;
 
-/// A form of the patched file, where each event does this: the kernel maps the pages for code, or a stub does; or the same
-/// of a file for a guest of several threads.
+/// A form of the patched file, with an action: the kernel maps the pages for code, or a stub does; or the same of a file
+/// for a guest of several threads.
 #[derive(Clone, Copy)]
 pub(crate) enum Form {
     Plain(Action),
     WithStub(Action),
-    ForThreads(Base),
-    ForThreadsWithStub(Base),
+    ForThreads(Action),
+    ForThreadsWithStub(Action),
 }
 
 impl Form {

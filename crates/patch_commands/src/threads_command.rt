@@ -1,8 +1,11 @@
 //! The command `threads`, without a report and with one, and in the loader form.
 ghost use Rattle.std.specs.Prelude.{◌≡◌, None, map};
+ghost use Rattle.pun_base.specs.Actions.{IsAction};
 ghost use Rattle.pun_base.specs.Ranges.{ends};
+ghost use Rattle.site_turns.specs.Modes.{IsShared};
 ghost use Rattle.command_words.specs.Named.{names_of, thread_names_of};
-ghost use Rattle.patch_commands.specs.ThreadsAnswers.{reported_patching, reported_writing, thread_patching, threads_loaded_writing, threads_writing};
+ghost use Rattle.patch_commands.specs.ThreadsAnswers.{reported_writing, thread_patching, threads_loaded_writing, threads_writing};
+ghost use Rattle.command_io.specs.Verdict.{patching};
 ghost use Rattle.command_io.specs.Failing.{seen_as, told_of};
 ghost use Rattle.command_io.specs.Works.{Works, Carries};
 ghost use Rattle.patch_commands.specs.Patching.{patch_texts};
@@ -13,7 +16,7 @@ use command_io::ends::{Failure, Told};
 use command_io::failures::rewrite_failure;
 use command_words::words::{Names, ThreadNames};
 use guest_threads::rewriting::rewrite_threads;
-use pun_base::action::Base;
+use pun_base::action::Action;
 use pun_base::desk::Desk;
 use pun_base::range::Range;
 use std::alloc::Global;
@@ -75,16 +78,18 @@ fn rewrite_inputs<'a, D: Desk>(
 pub fn patch_reported<'a, D: Desk>(
     alloc: Global,
     names: &Names<'a>,
-    base: Base,
+    action: Action,
     reserves: &[Range],
     desk: &mut D,
 ) -> Result<Told, Failure<'a>>
-    requires { (D.seen desk.old).writing ≡ None }
-    ensures { Carries (reported_writing base (reported_patching (names_of names.now) base
+    requires action { IsAction action }
+    requires shared { IsShared action }
+    requires nothing { (D.seen desk.old).writing ≡ None }
+    ensures { Carries (reported_writing action (patching (names_of names.now) action
         (map ends reserves.now))) (D.seen desk.old) (D.seen desk.new) (seen_as told_of result) }
 {
     let given = Given {
-        form: Form::ForThreads(base),
+        form: Form::ForThreads(action),
         names,
         reserves,
     };
@@ -97,16 +102,18 @@ pub fn patch_reported<'a, D: Desk>(
 pub fn patch_loaded<'a, D: Desk>(
     alloc: Global,
     names: &Names<'a>,
-    base: Base,
+    action: Action,
     reserves: &[Range],
     desk: &mut D,
 ) -> Result<Told, Failure<'a>>
-    requires { (D.seen desk.old).writing ≡ None }
-    ensures { Carries (threads_loaded_writing base (reported_patching (names_of names.now) base
+    requires action { IsAction action }
+    requires shared { IsShared action }
+    requires nothing { (D.seen desk.old).writing ≡ None }
+    ensures { Carries (threads_loaded_writing action (patching (names_of names.now) action
         (map ends reserves.now))) (D.seen desk.old) (D.seen desk.new) (seen_as told_of result) }
 {
     let given = Given {
-        form: Form::ForThreadsWithStub(base),
+        form: Form::ForThreadsWithStub(action),
         names,
         reserves,
     };

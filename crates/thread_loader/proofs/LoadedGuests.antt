@@ -11,7 +11,7 @@ use Rattle.patch_report.specs.declared.origin.Version.TheVariants.{Two}
 use Rattle.patch_report.specs.Values.{ReportValue, body_of, written}
 use Rattle.patch_report.specs.Grammar.{IsBody, IsReport, OriginFits}
 use Rattle.image_step.specs.Quiet.{IsStartPair}
-use Rattle.site_turns.specs.Modes.{thread_rules, thread_base}
+use Rattle.site_turns.specs.Modes.{thread_rules}
 use Rattle.site_turns.specs.PlannedState.{PlannedState}
 use Rattle.site_turns.specs.Planning.{Turns}
 use Rattle.site_turns.specs.PlanLaws.{report_under}
@@ -83,12 +83,12 @@ module _ (a : Asked) (t : Turns) (p : PlannedState) (call : IsCallBy IsSharedPla
     loaded = with_loader (job a t p call x.groups) w.loader
 
     -- its file follows the original
-    followed : IsLoaderFollowedInThreads (thread_base a.action) a.file a.starts loaded
+    followed : IsLoaderFollowedInThreads a.action a.file a.starts loaded
     followed =
         let j = job a t p call x.groups in
         let g = w.laid.are_groups in
         let th = shown_threaded a t p call x.groups g (bare_image j.emit) (bare_shows j.emit (writes_job a t p call x.groups g)) in
-        let r = threading_for (thread_base a.action) a.file a.starts loaded in
+        let r = threading_for a.action a.file a.starts loaded in
         record {
           loads = w.loads;
           sound = th.sound;
@@ -106,7 +106,7 @@ module _ (a : Asked) (t : Turns) (p : PlannedState) (call : IsCallBy IsSharedPla
     pub reported : (report : ReportValue) (origin : Origin) → origin ≡ origin_of a.file → OriginFits origin
         → report ≡ written (told_of a.action x) origin → LoadsThreads a name s u (Ok report)
     reported report origin o fits r =
-        let told : told_of a.action x ≡ report_under (thread_rules (thread_base a.action)) (request_of a) t x.groups = same_told ∙ told_plan a t p call x.groups w.laid.are_groups in
+        let told : told_of a.action x ≡ report_under (thread_rules a.action) (request_of a) t x.groups = same_told ∙ told_plan a t p call x.groups w.laid.are_groups in
         let same : report ≡ loaded.job.report = r ∙ (λ i. written (told i) (o i)) in (
           loaded,
           loader.judged IsThreadJobFor writing_of IsReported a name s u call.starts p (job a t p call) (is_job a t p call) (λ groups. refl) x w,

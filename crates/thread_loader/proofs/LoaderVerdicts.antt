@@ -1,5 +1,5 @@
 -- An input is judged in one way at most, in the loader form for threads.
-use Rattle.site_turns.specs.Modes.{thread_rules, thread_base}
+use Rattle.site_turns.specs.Modes.{thread_rules}
 use Rattle.rewrite_core.specs.Laws.{AreJudgedOnce}
 use Rattle.rewrite_loader.proofs.LoaderVerdicts.{loader_verdict_once}
 use Rattle.guest_threads.specs.ThreadRewriting.{IsThreadJobFor, writing_of}
@@ -8,4 +8,4 @@ use Rattle.thread_loader.specs.Rewriting.{Judges}
 
 -- of two verdicts the first is the second
 pub judged_once : AreJudgedOnce Judges
-judged_once = loader_verdict_once IsThreadJobFor writing_of (λ q. thread_rules (thread_base q.action)) job_turned job_once
+judged_once = loader_verdict_once IsThreadJobFor writing_of (λ q. thread_rules q.action) job_turned job_once

@@ -4,7 +4,6 @@ use Rattle.pun_base.specs.Shown.{DeskState}
 use Rattle.pun_base.specs.Desk.{Fills}
 use Rattle.patch_report.specs.Grammar.{IsReport}
 use Rattle.patch_report.specs.Values.{ReportValue}
-use Rattle.site_turns.specs.Modes.{thread_base}
 use Rattle.rewrite_core.specs.Asked.{Asked}
 use Rattle.rewrite_loader.specs.declared.error.LoaderError.{LoaderError}
 use Rattle.rewrite_loader.specs.Judging.{file_by, JudgesLoaderBy}
@@ -30,7 +29,7 @@ pub record IsReported (a : Asked) (name : List ℕ) (s t : DeskState) (report : 
   pub private_is : report.body.private ≡ (j.job.private.lo, j.job.private.hi)
   pub rows_are : report.body.rows ≡ j.job.rows
   pub holds : Fills name (file_of j) s t (Ok tt)
-  pub followed : IsLoaderFollowedInThreads (thread_base a.action) a.file a.starts j
+  pub followed : IsLoaderFollowedInThreads a.action a.file a.starts j
 
 -- What each answer of `rewrite_threads_loader` says.
 abbrev pub LoadsThreads : Asked → List ℕ → DeskState → DeskState → Result ReportValue LoaderError → Type 0

@@ -1,19 +1,22 @@
 use Rattle.std.proofs.Common.{◌≡◌, ℕ, List, map, string_bytes, refl, ap, ◌∙◌, subst}
 use Rattle.pun_base.specs.Shown.{DeskState, SinkState}
 use Rattle.pun_base.specs.Ranges.{ends}
+use Rattle.pun_base.specs.declared.action.Action.{Action}
+use Rattle.pun_base.specs.declared.action.Action.TheVariants.{Cover, Count, Ring, When}
+use Rattle.site_turns.specs.Modes.{IsShared}
 use Rattle.command_words.specs.Named.{names_of, check_names_of, step_names_of, thread_names_of, unpatch_names_of}
 use Rattle.command_words.specs.Words.{Command, Patch, Step, Gen, Load, Threads, ThreadsReported, ThreadsLoaded, Unpatch, command_of}
 use Rattle.command_io.specs.Failing.{seen_as, told_of}
 use Rattle.command_io.specs.Verdict.{patching}
 use Rattle.patch_commands.specs.LoadAnswers.{with_stub}
-use Rattle.patch_commands.specs.ThreadsAnswers.{for_threads, for_threads_with_stub, thread_patching, reported_patching}
+use Rattle.patch_commands.specs.ThreadsAnswers.{for_threads, for_threads_with_stub, thread_patching}
 use Rattle.commands.specs.Commands.{Does}
 use Rattle.commands.proofs.PatchRuns.{form_ended, patch_ended}
 use Rattle.commands.proofs.ThreadsRuns.{threads_ended}
 use Rattle.commands.proofs.GenRuns.{gen_ran}
 use Rattle.commands.proofs.InspectingRuns.{check_ran, step_ran}
 use Rattle.commands.proofs.PatchReversal.{unpatch_ended}
-use Rattle.command_words.proofs.CommandForms.{known_of}
+use Rattle.command_words.proofs.CommandForms.{IsThreadAction, known_of}
 use Rattle.commands.proofs.LostWords.{words_lost}
 use Rattle.commands.proofs.run.run.Goals as goal
 
@@ -21,6 +24,13 @@ use Rattle.commands.proofs.run.run.Goals as goal
 of_words : (words : List (List ℕ)) (x : Command) (s t : DeskState) (k l : SinkState) (status : ℕ) → x ≡ command_of words → Does x s t k l status
     → Does (command_of words) s t k l status
 of_words words x s t k l status q d = subst (λ (y : Command). Does y s t k l status) q d
+
+-- threads can get the events of an action that isn't a ring
+shared : (a : Action) → IsThreadAction a → IsShared a
+shared Cover h = refl
+shared Count h = refl
+shared (Ring len) h = absurd (h.1 len refl)
+shared (When b list) h = refl
 
 pub patch-requires-clause-action : goal.patch-requires-clause-action
 patch-requires-clause-action g c =
@@ -92,30 +102,52 @@ returns-in-Ok-Threads-clause-does g c =
     (threads_ended (thread_patching n pairs) _ _ _ _ (seen_as told_of c.patch_threads.result) _
     c.patch_threads.ensures.rest c.patch_threads.ensures.ends c.tell-in-Ok-Threads.ensures.printed)
 
+pub patch_reported-requires-clause-action : goal.patch_reported-requires-clause-action
+patch_reported-requires-clause-action g c =
+    (known_of (map string_bytes c.args.words.now) (ThreadsReported (names_of c.in-Ok-ThreadsReported.names) c.in-Ok-ThreadsReported.action (map ends c.in-Ok-ThreadsReported.reserves.items))
+    (rw c.in-Ok-ThreadsReported.field-0-is at c.in-Ok-ThreadsReported.ensures)).1.0
+
+pub patch_reported-requires-clause-shared : goal.patch_reported-requires-clause-shared
+patch_reported-requires-clause-shared g c =
+    shared c.in-Ok-ThreadsReported.action
+    (known_of (map string_bytes c.args.words.now) (ThreadsReported (names_of c.in-Ok-ThreadsReported.names) c.in-Ok-ThreadsReported.action (map ends c.in-Ok-ThreadsReported.reserves.items))
+    (rw c.in-Ok-ThreadsReported.field-0-is at c.in-Ok-ThreadsReported.ensures)).1
+
 pub returns-in-Ok-ThreadsReported-clause-does : goal.returns-in-Ok-ThreadsReported-clause-does
 returns-in-Ok-ThreadsReported-clause-does g c =
     let words = map string_bytes c.args.words.now in
     let n = names_of c.in-Ok-ThreadsReported.names in
-    let b = c.in-Ok-ThreadsReported.base in
+    let a = c.in-Ok-ThreadsReported.action in
     let pairs = map ends c.deref-in-Ok-ThreadsReported.result.now in
-    let q : ThreadsReported n b (map ends c.in-Ok-ThreadsReported.reserves.items) ≡ command_of words =
+    let q : ThreadsReported n a (map ends c.in-Ok-ThreadsReported.reserves.items) ≡ command_of words =
     rw c.in-Ok-ThreadsReported.field-0-is at c.in-Ok-ThreadsReported.ensures in
-    let r : ThreadsReported n b pairs ≡ command_of words = ap (λ rs. ThreadsReported n b (map ends rs)) c.deref-in-Ok-ThreadsReported.ensures.value ∙ q in
-    of_words words (ThreadsReported n b pairs) _ _ _ _ _ r
-    (form_ended (for_threads b) (reported_patching n b pairs) (known_of words (ThreadsReported n b pairs) r) _ _ _ _ (seen_as told_of c.patch_reported.result) _
+    let r : ThreadsReported n a pairs ≡ command_of words = ap (λ rs. ThreadsReported n a (map ends rs)) c.deref-in-Ok-ThreadsReported.ensures.value ∙ q in
+    of_words words (ThreadsReported n a pairs) _ _ _ _ _ r
+    (form_ended (for_threads a) (patching n a pairs) (known_of words (ThreadsReported n a pairs) r).0 _ _ _ _ (seen_as told_of c.patch_reported.result) _
     c.patch_reported.ensures.rest c.patch_reported.ensures.ends c.tell-in-Ok-ThreadsReported.ensures.printed)
+
+pub patch_loaded-requires-clause-action : goal.patch_loaded-requires-clause-action
+patch_loaded-requires-clause-action g c =
+    (known_of (map string_bytes c.args.words.now) (ThreadsLoaded (names_of c.in-Ok-ThreadsLoaded.names) c.in-Ok-ThreadsLoaded.action (map ends c.in-Ok-ThreadsLoaded.reserves.items))
+    (rw c.in-Ok-ThreadsLoaded.field-0-is at c.in-Ok-ThreadsLoaded.ensures)).1.0
+
+pub patch_loaded-requires-clause-shared : goal.patch_loaded-requires-clause-shared
+patch_loaded-requires-clause-shared g c =
+    shared c.in-Ok-ThreadsLoaded.action
+    (known_of (map string_bytes c.args.words.now) (ThreadsLoaded (names_of c.in-Ok-ThreadsLoaded.names) c.in-Ok-ThreadsLoaded.action (map ends c.in-Ok-ThreadsLoaded.reserves.items))
+    (rw c.in-Ok-ThreadsLoaded.field-0-is at c.in-Ok-ThreadsLoaded.ensures)).1
 
 pub returns-in-Ok-ThreadsLoaded-clause-does : goal.returns-in-Ok-ThreadsLoaded-clause-does
 returns-in-Ok-ThreadsLoaded-clause-does g c =
     let words = map string_bytes c.args.words.now in
     let n = names_of c.in-Ok-ThreadsLoaded.names in
-    let b = c.in-Ok-ThreadsLoaded.base in
+    let a = c.in-Ok-ThreadsLoaded.action in
     let pairs = map ends c.deref-in-Ok-ThreadsLoaded.result.now in
-    let q : ThreadsLoaded n b (map ends c.in-Ok-ThreadsLoaded.reserves.items) ≡ command_of words =
+    let q : ThreadsLoaded n a (map ends c.in-Ok-ThreadsLoaded.reserves.items) ≡ command_of words =
     rw c.in-Ok-ThreadsLoaded.field-0-is at c.in-Ok-ThreadsLoaded.ensures in
-    let r : ThreadsLoaded n b pairs ≡ command_of words = ap (λ rs. ThreadsLoaded n b (map ends rs)) c.deref-in-Ok-ThreadsLoaded.ensures.value ∙ q in
-    of_words words (ThreadsLoaded n b pairs) _ _ _ _ _ r
-    (form_ended (for_threads_with_stub b) (reported_patching n b pairs) (known_of words (ThreadsLoaded n b pairs) r) _ _ _ _
+    let r : ThreadsLoaded n a pairs ≡ command_of words = ap (λ rs. ThreadsLoaded n a (map ends rs)) c.deref-in-Ok-ThreadsLoaded.ensures.value ∙ q in
+    of_words words (ThreadsLoaded n a pairs) _ _ _ _ _ r
+    (form_ended (for_threads_with_stub a) (patching n a pairs) (known_of words (ThreadsLoaded n a pairs) r).0 _ _ _ _
     (seen_as told_of c.patch_loaded.result) _
     c.patch_loaded.ensures.rest c.patch_loaded.ensures.ends c.tell-in-Ok-ThreadsLoaded.ensures.printed)
 

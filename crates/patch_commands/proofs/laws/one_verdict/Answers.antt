@@ -16,10 +16,10 @@ pub returns-clause-threads : goal.returns-clause-threads
 returns-clause-threads c = one_threads_verdict
 
 pub returns-clause-threads_reported : goal.returns-clause-threads_reported
-returns-clause-threads_reported c b = one_verdict (for_threads b) (λ p. one_for_threads b)
+returns-clause-threads_reported c action = one_verdict (for_threads action) (λ p. one_for_threads action)
 
 pub returns-clause-threads_loaded : goal.returns-clause-threads_loaded
-returns-clause-threads_loaded c b = one_verdict (for_threads_with_stub b) (λ p. one_for_threads_with_stub b)
+returns-clause-threads_loaded c action = one_verdict (for_threads_with_stub action) (λ p. one_for_threads_with_stub action)
 
 pub returns-clause-unpatch : goal.returns-clause-unpatch
 returns-clause-unpatch c = one_unpatch_verdict

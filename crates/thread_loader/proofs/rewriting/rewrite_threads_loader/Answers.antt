@@ -1,13 +1,8 @@
-use Rattle.std.proofs.Common.{rules, Ok, sym, ap, ◌∙◌, subst}
-use Rattle.pun_base.specs.declared.action.Action.{Action}
-use Rattle.patch_report.specs.declared.origin.Version.TheVariants.{Two}
-use Rattle.patch_report.specs.Values.{written}
-use Rattle.patch_report.specs.Grammar.{IsBody}
+use Rattle.std.proofs.Common.{rules, Ok}
 use Rattle.rewrite_core.specs.declared.rewrite.RewriteError.TheVariants as rewrite
 use Rattle.rewrite_core.specs.Asked.{Asked}
 use Rattle.rewrite_core.proofs.PlannedCalls.{by_error, of_input}
 use Rattle.rewrite_loader.specs.declared.error.LoaderError.TheVariants.{Rewrite}
-use Rattle.rewrite_loader.proofs.CallAnswers.{told_of}
 use Rattle.guest_threads.specs.ThreadCalls.{sharing}
 use Rattle.guest_threads.proofs.RewriteAnswers.{writable}
 use Rattle.thread_loader.specs.Rewriting.{LoadsThreads}
@@ -20,7 +15,7 @@ plan_thread_file-requires-clause-order g c =
 
 pub returns-in_err-planned-clause-rewrites : goal.returns-in_err-planned-clause-rewrites
 returns-in_err-planned-clause-rewrites g c =
-    let a = sharing c.args.base c.in_ok-elf.elf.bytes c.args.starts.now c.args.sites.now c.args.reserves.now in
+    let a = sharing c.args.action c.in_ok-elf.elf.bytes c.args.starts.now c.args.sites.now c.args.reserves.now in
     of_input (λ (z : Asked). LoadsThreads z c.args.name.now
     (g.D.Desk.seen c.args.desk.now) (g.D.Desk.seen c.args.desk.now) c.from_residual-in_err-planned.result)
     (record a { file = c.args.file.now }) c.in_ok-elf.elf.bytes c.in_ok-elf.ensures.file.0
@@ -29,12 +24,12 @@ returns-in_err-planned-clause-rewrites g c =
 
 pub write_loader-requires-clause-writable : goal.write_loader-requires-clause-writable
 write_loader-requires-clause-writable g c =
-    let a = sharing c.args.base c.in_ok-elf.elf.bytes c.args.starts.now c.args.sites.now c.args.reserves.now in
+    let a = sharing c.args.action c.in_ok-elf.elf.bytes c.args.starts.now c.args.sites.now c.args.reserves.now in
     writable a c.in_ok-planned.ensures.0 c.in_ok-planned.planned c.in_ok-planned.ensures.1
 
 pub returns-in_err-loaded-clause-rewrites : goal.returns-in_err-loaded-clause-rewrites
 returns-in_err-loaded-clause-rewrites g c =
-    let a = sharing c.args.base c.in_ok-elf.elf.bytes c.args.starts.now c.args.sites.now c.args.reserves.now in
+    let a = sharing c.args.action c.in_ok-elf.elf.bytes c.args.starts.now c.args.sites.now c.args.reserves.now in
     of_input (λ (z : Asked). LoadsThreads z c.args.name.now
     (g.D.Desk.seen c.args.desk.now) (g.D.Desk.seen c.write_loader.new.desk) c.from_residual-in_err-loaded.result)
     (record a { file = c.args.file.now }) c.in_ok-elf.elf.bytes c.in_ok-elf.ensures.file.0
@@ -44,17 +39,16 @@ returns-in_err-loaded-clause-rewrites g c =
 
 pub into_report-requires : goal.into_report-requires
 into_report-requires g c =
-    let a = sharing c.args.base c.in_ok-elf.elf.bytes c.args.starts.now c.args.sites.now c.args.reserves.now in
+    let a = sharing c.args.action c.in_ok-elf.elf.bytes c.args.starts.now c.args.sites.now c.args.reserves.now in
     record {
       origin = c.origin_of-origin.ensures.fits;
-      body = subst (λ (z : Action). IsBody Two (told_of z c.in_ok-loaded.loaded)) (sym c.action-action.ensures)
-          (can_report a c.in_ok-planned.ensures.0 c.in_ok-planned.planned c.in_ok-planned.ensures.1 c.args.name.now _ _ c.in_ok-loaded.loaded
-          c.in_ok-loaded.ensures.writes);
+      body = can_report a c.in_ok-planned.ensures.0 c.in_ok-planned.planned c.in_ok-planned.ensures.1 c.args.name.now _ _ c.in_ok-loaded.loaded
+          c.in_ok-loaded.ensures.writes;
     }
 
 pub returns-in_err-report-clause-rewrites : goal.returns-in_err-report-clause-rewrites
 returns-in_err-report-clause-rewrites g c =
-    let a = sharing c.args.base c.in_ok-elf.elf.bytes c.args.starts.now c.args.sites.now c.args.reserves.now in
+    let a = sharing c.args.action c.in_ok-elf.elf.bytes c.args.starts.now c.args.sites.now c.args.reserves.now in
     of_input (λ (z : Asked). LoadsThreads z c.args.name.now
     (g.D.Desk.seen c.args.desk.now) (g.D.Desk.seen c.write_loader.new.desk) c.from_residual-in_err-report.result)
     (record a { file = c.args.file.now }) c.in_ok-elf.elf.bytes c.in_ok-elf.ensures.file.0
@@ -64,11 +58,10 @@ returns-in_err-report-clause-rewrites g c =
 
 pub returns-clause-rewrites : goal.returns-clause-rewrites
 returns-clause-rewrites g c =
-    let a = sharing c.args.base c.in_ok-elf.elf.bytes c.args.starts.now c.args.sites.now c.args.reserves.now in
+    let a = sharing c.args.action c.in_ok-elf.elf.bytes c.args.starts.now c.args.sites.now c.args.reserves.now in
     of_input (λ (z : Asked). LoadsThreads z c.args.name.now
     (g.D.Desk.seen c.args.desk.now) (g.D.Desk.seen c.write_loader.new.desk) (Ok c.in_ok-report.report))
     (record a { file = c.args.file.now }) c.in_ok-elf.elf.bytes c.in_ok-elf.ensures.file.0
     (reported a c.in_ok-planned.ensures.0 c.in_ok-planned.planned c.in_ok-planned.ensures.1 c.args.name.now _ _ c.in_ok-loaded.loaded
     c.in_ok-loaded.ensures.writes c.in_ok-report.report c.origin_of-origin.result c.origin_of-origin.ensures.value
-    c.origin_of-origin.ensures.fits
-    (c.in_ok-report.ensures ∙ ap (λ (z : Action). written (told_of z c.in_ok-loaded.loaded) c.origin_of-origin.result) c.action-action.ensures))
+    c.origin_of-origin.ensures.fits c.in_ok-report.ensures)

@@ -124,10 +124,10 @@ UNSOUND: list[tuple[str, Files, str]] = [
 ]
 
 # Sound patches for threads: by T2, whose site stands right before its victim, and by T3, whose site's jump leads to a
-# second one at 0x40100C, inside the victim at 0x40100A. The victims' code has no event.
-BEHIND, NEAR = (
+# second one at 0x40100C, inside the victim at 0x40100A. The victims' code has no event. And one by B1, whose event stands at 0x21000.
+BEHIND, NEAR, ALONE = (
     {**files_in(f"rows/threads_{name}/before"), **files_in(f"rows/threads_{name}/after")}
-    for name in ("victim_behind_the_site", "near_victim")
+    for name in ("victim_behind_the_site", "near_victim", "report_of_one_mov")
 )
 # where OUT has the code of the first one's site, and that of the second one's victim
 OF_BEHIND, OF_NEAR = 5 * PAGE + 5, 4 * PAGE + 0x90F
@@ -162,6 +162,7 @@ UNSOUND_IN_THREADS: list[tuple[str, Files, str]] = [
     ("another byte of the victim's code", in_threads(NEAR, {OF_NEAR + 1: b"\x80"}), "0040f910 4"),
     ("the victim has an event", in_threads(NEAR, {}, ("0040100a plain", "0040100a event")), "00401000 6"),
     ("the action is to cover, and the code counts", in_threads(NEAR, {}, ("action count", "action cover")), "00021011 4"),
+    ("the action has a condition, and the code none", in_threads(ALONE, {}, ("action count", "action count when rdi == 5")), "0002100c 4"),
     ("the action is neither to count nor to cover", in_threads(NEAR, {}, ("action count", "action ring:1")), "00020000 6"),
 ]
 

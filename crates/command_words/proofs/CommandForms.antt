@@ -157,7 +157,7 @@ known_threads (file ∷ starts ∷ sites ∷ out ∷ words) = in_form (record { 
         (bytes_eq-Decides n.out n.starts) (bytes_eq-Decides n.out n.sites)
 
     by_apart : (n : Names) (r : List (ℕ × ℕ)) (b : Bool) → (b ≡ true → n.out ≡ n.report → ⊥) → IsKnown (if b then ThreadsReported n Count r else Usage)
-    by_apart n r true f = (f refl, tt, λ len q. cc)
+    by_apart n r true f = (f refl, (tt, λ len q. cc))
     by_apart n r false f = tt
 
     reported : (n : Names) (reserves : Option (List (ℕ × ℕ))) → IsKnown (reported_with n reserves)

@@ -104,13 +104,15 @@ returns-in-Ok-Threads-clause-does g c =
 
 pub patch_reported-requires-clause-action : goal.patch_reported-requires-clause-action
 patch_reported-requires-clause-action g c =
-    (known_of (map string_bytes c.args.words.now) (ThreadsReported (names_of c.in-Ok-ThreadsReported.names) c.in-Ok-ThreadsReported.action (map ends c.in-Ok-ThreadsReported.reserves.items))
+    (known_of (map string_bytes c.args.words.now)
+    (ThreadsReported (names_of c.in-Ok-ThreadsReported.names) c.in-Ok-ThreadsReported.action (map ends c.in-Ok-ThreadsReported.reserves.items))
     (rw c.in-Ok-ThreadsReported.field-0-is at c.in-Ok-ThreadsReported.ensures)).1.0
 
 pub patch_reported-requires-clause-shared : goal.patch_reported-requires-clause-shared
 patch_reported-requires-clause-shared g c =
     shared c.in-Ok-ThreadsReported.action
-    (known_of (map string_bytes c.args.words.now) (ThreadsReported (names_of c.in-Ok-ThreadsReported.names) c.in-Ok-ThreadsReported.action (map ends c.in-Ok-ThreadsReported.reserves.items))
+    (known_of (map string_bytes c.args.words.now)
+    (ThreadsReported (names_of c.in-Ok-ThreadsReported.names) c.in-Ok-ThreadsReported.action (map ends c.in-Ok-ThreadsReported.reserves.items))
     (rw c.in-Ok-ThreadsReported.field-0-is at c.in-Ok-ThreadsReported.ensures)).1
 
 pub returns-in-Ok-ThreadsReported-clause-does : goal.returns-in-Ok-ThreadsReported-clause-does
@@ -128,13 +130,15 @@ returns-in-Ok-ThreadsReported-clause-does g c =
 
 pub patch_loaded-requires-clause-action : goal.patch_loaded-requires-clause-action
 patch_loaded-requires-clause-action g c =
-    (known_of (map string_bytes c.args.words.now) (ThreadsLoaded (names_of c.in-Ok-ThreadsLoaded.names) c.in-Ok-ThreadsLoaded.action (map ends c.in-Ok-ThreadsLoaded.reserves.items))
+    (known_of (map string_bytes c.args.words.now)
+    (ThreadsLoaded (names_of c.in-Ok-ThreadsLoaded.names) c.in-Ok-ThreadsLoaded.action (map ends c.in-Ok-ThreadsLoaded.reserves.items))
     (rw c.in-Ok-ThreadsLoaded.field-0-is at c.in-Ok-ThreadsLoaded.ensures)).1.0
 
 pub patch_loaded-requires-clause-shared : goal.patch_loaded-requires-clause-shared
 patch_loaded-requires-clause-shared g c =
     shared c.in-Ok-ThreadsLoaded.action
-    (known_of (map string_bytes c.args.words.now) (ThreadsLoaded (names_of c.in-Ok-ThreadsLoaded.names) c.in-Ok-ThreadsLoaded.action (map ends c.in-Ok-ThreadsLoaded.reserves.items))
+    (known_of (map string_bytes c.args.words.now)
+    (ThreadsLoaded (names_of c.in-Ok-ThreadsLoaded.names) c.in-Ok-ThreadsLoaded.action (map ends c.in-Ok-ThreadsLoaded.reserves.items))
     (rw c.in-Ok-ThreadsLoaded.field-0-is at c.in-Ok-ThreadsLoaded.ensures)).1
 
 pub returns-in-Ok-ThreadsLoaded-clause-does : goal.returns-in-Ok-ThreadsLoaded-clause-does

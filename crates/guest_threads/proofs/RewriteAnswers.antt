@@ -1,5 +1,5 @@
 -- What a call of `rewrite_threads` or `rewrite_threads_reported` knows once the sites are planned, and what its answers then say.
-use Rattle.std.proofs.Common.{◌≡◌, ℕ, ◌^◌, ◌<◌, List, map, length, None, Result, Ok, Err, refl, sym, ap, ◌∙◌, subst, arith}
+use Rattle.std.proofs.Common.{◌≡◌, ℕ, ◌^◌, ◌<◌, List, map, length, None, Result, Ok, Err, refl, sym, ap, ◌∙◌, subst}
 use Rattle.pun_base.specs.Memory.{Bytes}
 use Rattle.pun_base.specs.Shown.{DeskState}
 use Rattle.pun_base.specs.Actions.{IsAction}
@@ -10,7 +10,6 @@ use Rattle.elf_read.specs.Refusals.{refusal}
 use Rattle.elf_emit.specs.Layout.{layout}
 use Rattle.elf_emit.specs.Laws.{IsJob, Shows}
 use Rattle.elf_emit.proofs.JobImages.{file_shows}
-use Rattle.elf_emit.proofs.StayingSegments.{all_map}
 use Rattle.patch_report.specs.declared.origin.Origin.{Origin}
 use Rattle.patch_report.specs.declared.origin.Version.TheVariants.{Two}
 use Rattle.patch_report.specs.Values.{ReportValue, body_of, row_value, written}
@@ -24,7 +23,7 @@ use Rattle.site_turns.specs.PlannedState.{PlannedState}
 use Rattle.site_turns.specs.Planning.{Turns, scene_under, end_under}
 use Rattle.site_turns.specs.PlanLaws.{AreGroups, CanBeWritten, report_under}
 use Rattle.site_turns.proofs.PlannedJobs.{writing_is_job}
-use Rattle.site_turns.proofs.CodeEnds.{IsFitting}
+use Rattle.site_turns.proofs.CodeEnds.{fitting_end_low}
 use Rattle.site_turns.proofs.PlannedReports.{turned_is_report}
 use Rattle.site_turns.proofs.LoadedJobs.{five_lead}
 use Rattle.rewrite_core.specs.Asked.{Asked, IsInOrder, request_of}
@@ -32,7 +31,7 @@ use Rattle.rewrite_core.specs.declared.patching.Patch.{Patch}
 use Rattle.rewrite_core.specs.Origins.{origin_of}
 use Rattle.rewrite_core.specs.declared.rewrite.RewriteError.{RewriteError}
 use Rattle.rewrite_core.specs.declared.rewrite.RewriteError.TheVariants as rewrite
-use Rattle.rewrite_core.specs.Patching.{IsCallBy, IsPlaced, IsUnwritten, IsWritable, PlansBy, WritesPatch}
+use Rattle.rewrite_core.specs.Patching.{IsCallBy, IsUnwritten, IsWritable, PlansBy, WritesPatch}
 use Rattle.rewrite_core.proofs.PlannedCalls.{request_with, told_of, planned_for, unplanned, unwritten, untold}
 use Rattle.rewrite_core.proofs.WrittenPlans.{job_pages}
 use Rattle.guest_threads.specs.declared.rewriting.ThreadReport.{ThreadReport}
@@ -68,8 +67,7 @@ module _ (a : Asked) (t : Turns) (p : PlannedState) (call : IsCallBy IsSharedPla
     size = call.size;
     asked = call.asked;
     can = can_write;
-    placed = all_map IsFitting IsPlaced p.built (λ b f. let l = f.low in record { some = f.some; low = omega (arith, l) })
-        (fitting (request_of a) t p call.asked h.planned);
+    placed = fitting_end_low p.built (fitting (request_of a) t p call.asked h.planned);
   }
 
   -- the job of the plan, by its groups

@@ -20,7 +20,6 @@ use Rattle.elf_emit.specs.declared.runs.Page.{Page}
 use Rattle.elf_emit.specs.Job.{Job}
 use Rattle.elf_emit.specs.Emits.{range_of, pages_of}
 use Rattle.elf_emit.specs.Layout.{runs_of}
-use Rattle.elf_emit.proofs.StayingSegments.{all_map}
 use Rattle.elf_emit.proofs.JobConditions.{all_contained}
 use Rattle.site_turns.specs.PlannedState.{PlannedState}
 use Rattle.site_turns.specs.PrivateRange as turns
@@ -29,10 +28,10 @@ use Rattle.site_turns.specs.Planning.{Request, taken_at_first}
 use Rattle.site_turns.specs.PlanLaws.{job_for, AreGroups}
 use Rattle.site_turns.proofs.CodePages.{loaded_taken, taken_left, nothing}
 use Rattle.site_turns.proofs.LeadingPlans.{free_untaken}
-use Rattle.site_turns.proofs.CodeEnds.{IsFitting, built_fits}
+use Rattle.site_turns.proofs.CodeEnds.{built_fits, fitting_end_low}
 use Rattle.loader_form.specs.Laid.{stub_of, IsApart, IsLaid}
 use Rattle.loader_form.specs.LoaderState.{LoaderState}
-use Rattle.loader_form.specs.Lay.{code_extent, taken_after, run_count, stub_count, laid_of, EndsLow, IsLoader, PlannedEndsLow, LaidForIsLaid}
+use Rattle.loader_form.specs.Lay.{code_extent, taken_after, run_count, stub_count, laid_of, IsLoader, PlannedEndsLow, LaidForIsLaid}
 use Rattle.loader_form.proofs.StubLengths.{side, stub_length}
 
 -- what the second of two joined lists takes, both take
@@ -146,4 +145,4 @@ laid_for q p groups l G h = is_laid q p groups G l h
 
 -- the code of what was planned has bytes, and ends among addresses of 32 bits
 pub planned_ends_low : PlannedEndsLow
-planned_ends_low q t p a h = all_map IsFitting EndsLow p.built (λ b f. let l = f.low in record { some = f.some; low = omega (arith, l) }) (built_fits q t p a h)
+planned_ends_low q t p a h = fitting_end_low p.built (built_fits q t p a h)

@@ -1,5 +1,5 @@
 -- Where the stub and the save page are laid: at the least free pages after the turns. Theorems cite it.
-use Rattle.std.specs.Prelude.{◌≡◌, ◌⊎◌, ◌↔◌, ℕ, ◌+◌, ◌*◌, ◌^◌, ◌≤◌, ◌<◌, List, ◌∷◌, ◌++◌, length, map, Some, None, Result, Ok, Err}
+use Rattle.std.specs.Prelude.{◌≡◌, ◌⊎◌, ◌↔◌, ℕ, ◌+◌, ◌*◌, ◌≤◌, List, ◌∷◌, ◌++◌, length, map, Some, None, Result, Ok, Err}
 use Rattle.std.specs.Int.{div_ceil}
 use Rattle.std.specs.List.{AllByRecursion}
 use Rattle.pun_base.specs.declared.range.Range.{Range}
@@ -12,7 +12,7 @@ use Rattle.page_group.specs.Grouping.{GroupsState}
 use Rattle.elf_emit.specs.declared.built.Built.{Built}
 use Rattle.elf_emit.specs.Emits.{pages_of}
 use Rattle.elf_emit.specs.Layout.{runs_of}
-use Rattle.site_turns.specs.PlannedState.{PlannedState}
+use Rattle.site_turns.specs.PlannedState.{EndsLow, PlannedState}
 use Rattle.site_turns.specs.PrivateRange.{taken_first}
 use Rattle.site_turns.specs.Planning.{Request, Turns, IsPlanned}
 use Rattle.site_turns.specs.PlanLaws.{IsAsked, job_for, AreGroups}
@@ -24,11 +24,6 @@ use Rattle.loader_form.specs.Laid.{Laid, IsLaid}
 -- The addresses of a trampoline's code.
 abbrev pub code_extent : Built → Extent
 code_extent b = record { lo = b.place; hi = b.place + length b.code.bytes }
-
--- A trampoline's code has bytes, and ends among addresses of 32 bits.
-pub record EndsLow (b : Built) : Type 0 where
-  pub some : 1 ≤ length b.code.bytes
-  pub low : b.place + length b.code.bytes < 2 ^ 32
 
 -- What is taken after the turns: the private range, the code, where the original is loaded, and what is reserved.
 abbrev pub taken_after : List ℕ → List Range → PlannedState → List Extent

@@ -2,7 +2,8 @@
 ghost use Rattle.std.specs.Prelude.{◌≡◌, ◌≤◌, ◌++◌, map, IfOk, OnOk};
 ghost use Rattle.std.specs.List.{AllByRecursion};
 ghost use Rattle.address_space.specs.Free.{extent_of};
-ghost use Rattle.loader_form.specs.Lay.{code_extent, EndsLow, taken_after, run_count, stub_count, FitSame, Lays};
+ghost use Rattle.site_turns.specs.PlannedState.{EndsLow};
+ghost use Rattle.loader_form.specs.Lay.{code_extent, taken_after, run_count, stub_count, FitSame, Lays};
 
 use crate::error::LoadError;
 use crate::loader::Loader;

@@ -36,6 +36,7 @@ use Rattle.site_turns.specs.PlannedState.{PlannedState}
 use Rattle.site_turns.specs.Planning.{Request, Turns, IsRequestRefused}
 use Rattle.site_turns.specs.PlanLaws.{AreGroups, job_for, writes_of}
 use Rattle.site_turns.proofs.PlannedJobs.{planned_can_be_written}
+use Rattle.site_turns.proofs.CodeEnds.{built_fits, fitting_end_low}
 use Rattle.rewrite_core.specs.declared.patching.Patch.{Patch}
 use Rattle.rewrite_core.specs.declared.rewrite.RewriteError.{RewriteError}
 use Rattle.rewrite_core.specs.declared.rewrite.RewriteError.TheVariants as rewrite
@@ -46,7 +47,6 @@ use Rattle.rewrite_core.specs.Judging.{HasStarts, IsJobFor, Job, JudgesBy, job_o
 use Rattle.rewrite_core.specs.Origins.{origin_of}
 use Rattle.rewrite_core.specs.Patching.{IsCall, IsPatchable, IsPatchFor, IsUnwritten, IsWritable, EmitsPlanned, PlansBy}
 use Rattle.rewrite_core.specs.Rewrites.{IsRewritten, Rewrites, RewritesBy}
-use Rattle.rewrite_core.proofs.PlacedCode.{built_placed}
 use Rattle.rewrite_core.proofs.WrittenPlans.{emit_asked, report_is, is_report, file_followed}
 
 -- what is asked by the values of a call
@@ -215,7 +215,7 @@ module _ (a : Asked) (t : Turns) (p : PlannedState) (call : IsCall a t p) where
     size = call.size;
     asked = call.asked;
     can = planned_can_be_written (request_of a) t p call.asked call.planned;
-    placed = built_placed (request_of a) t p call.asked call.planned;
+    placed = fitting_end_low p.built (built_fits (request_of a) t p call.asked call.planned);
   }
 
   -- the job of the plan, by its groups

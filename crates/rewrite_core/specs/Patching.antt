@@ -1,14 +1,13 @@
 -- What is written of what was planned, as the code has it: patches, calls and plans of an input. Theorems cite it.
-use Rattle.std.specs.Prelude.{◌≡◌, ◌⊎◌, ℕ, List, ◌+◌, ◌^◌, ◌<◌, ◌≤◌, length, map, Result, Ok, Err}
+use Rattle.std.specs.Prelude.{◌≡◌, ◌⊎◌, ℕ, List, ◌^◌, ◌<◌, length, map, Result, Ok, Err}
 use Rattle.std.specs.List.{AllByRecursion}
 use Rattle.pun_base.specs.Shown.{DeskState}
 use Rattle.pun_base.specs.Actions.{IsAction}
 use Rattle.page_group.specs.Grouping.{GroupsState}
 use Rattle.page_group.specs.Pages.{AreDisjoint}
-use Rattle.elf_emit.specs.declared.built.Built.{Built}
 use Rattle.elf_emit.specs.declared.emit.EmitError.{EmitError}
 use Rattle.elf_emit.specs.Emits.{range_of, emit_job, Emits}
-use Rattle.site_turns.specs.PlannedState.{PlannedState}
+use Rattle.site_turns.specs.PlannedState.{EndsLow, PlannedState}
 use Rattle.site_turns.specs.Planning.{Request, Turns, IsPlanned}
 use Rattle.site_turns.specs.PlanLaws.{writes_of, AreGroups, CanBeWritten, IsAsked}
 use Rattle.rewrite_core.specs.declared.patching.Patch.{Patch}
@@ -18,14 +17,9 @@ use Rattle.rewrite_core.specs.declared.rewrite.RewriteError.{RewriteError}
 use Rattle.rewrite_core.specs.declared.rewrite.RewriteError.TheVariants as rewrite
 use Rattle.rewrite_core.specs.Judging.{HasStarts, IsPlanRefused}
 
--- A piece of code has bytes, and ends among addresses of 32 bits.
-pub record IsPlaced (b : Built) : Type 0 where
-  pub some : 1 ≤ length b.code.bytes
-  pub low : b.place + length b.code.bytes < 2 ^ 32
-
--- Each piece of the planned code is placed, and no two of them meet.
+-- Each piece of the planned code has bytes and ends among addresses of 32 bits, and no two of them meet.
 pub record IsPatchable (p : PlannedState) : Type 0 where
-  pub placed : AllByRecursion IsPlaced p.built
+  pub placed : AllByRecursion EndsLow p.built
   pub disjoint : AreDisjoint (map range_of p.built)
 
 -- The patch of what was planned: its private range, rows and code, the writes of all rows, and the
@@ -45,7 +39,7 @@ pub record IsWritable (file : List ℕ) (p : PlannedState) : Type 0 where
   pub size : length request.file < 2 ^ 63
   pub asked : IsAsked request
   pub can : CanBeWritten request p
-  pub placed : AllByRecursion IsPlaced p.built
+  pub placed : AllByRecursion EndsLow p.built
 
 -- What the writing of a file with these groups says.
 abbrev pub EmitsPlanned : List ℕ → PlannedState → GroupsState → List ℕ → DeskState → DeskState → Result (Unit {0}) EmitError → Type 0

@@ -1,13 +1,13 @@
 //! What is written of what was planned, and its report.
 ghost use Rattle.std.specs.Prelude.{◌≡◌, map, IfOk};
 ghost use Rattle.std.specs.List.{AllByRecursion};
-ghost use Rattle.pun_base.specs.Ranges.{ends};
-ghost use Rattle.page_group.specs.Pages.{ends_of, AreDisjoint};
+ghost use Rattle.page_group.specs.Pages.{AreDisjoint};
 ghost use Rattle.page_group.specs.Grouping.{IsGrouping};
 ghost use Rattle.elf_emit.specs.Emits.{range_of};
 ghost use Rattle.patch_report.specs.Grammar.{IsReport};
 ghost use Rattle.patch_report.specs.Values.{body_of, written};
-ghost use Rattle.rewrite_core.specs.Patching.{IsPlaced, IsPatchable, IsPatchFor};
+ghost use Rattle.site_turns.specs.PlannedState.{EndsLow};
+ghost use Rattle.rewrite_core.specs.Patching.{IsPatchable, IsPatchFor};
 
 use elf_emit::built::Built;
 use page_group::groups::{Groups, group_owned};
@@ -18,7 +18,7 @@ use pun_base::action::Action;
 use pun_base::plan::Write;
 use pun_base::range::Range;
 use site_turns::copying::copied_writes;
-use site_turns::planned::Planned;
+use site_turns::planned::{Planned, code_ranges};
 use std::alloc::{AllocError, Global};
 
 /// What was planned, the writes of all rows, and the groups of the code.
@@ -31,33 +31,9 @@ pub struct Patch {
     pub groups: Groups,
 }
 
-/// The addresses of a piece of code.
-fn code_range(piece: &Built) -> Range
-    requires { IsPlaced piece.now }
-    ensures { ends result ≡ range_of piece.now }
-{
-    let len = piece.code.bytes.as_slice().len() as u32;
-    Range {
-        lo: piece.place,
-        hi: piece.place + len,
-    }
-}
-
-/// The addresses of each piece of code.
-fn code_ranges(alloc: Global, built: &[Built]) -> Result<Vec<Range>, AllocError>
-    requires { AllByRecursion IsPlaced built.now }
-    ensures { IfOk result (λ v. ends_of v.items ≡ map range_of built.now) }
-{
-    let mut ranges = Vec::with_capacity(alloc, built.len())?;
-    for piece in built {
-        ranges.push(code_range(piece))?;
-    }
-    Ok(ranges)
-}
-
 /// The groups of the code's pages.
 pub fn code_groups(alloc: Global, built: &[Built]) -> Result<Groups, AllocError>
-    requires placed { AllByRecursion IsPlaced built.now }
+    requires placed { AllByRecursion EndsLow built.now }
     requires disjoint { AreDisjoint (map range_of built.now) }
     ensures pieces { IfOk result (λ groups. groups.pieces ≡ map range_of built.now) }
     ensures grouping { IfOk result (λ groups. IsGrouping groups.pieces groups.homes) }

@@ -1,6 +1,5 @@
 -- What `write_loader` is asked gives what it asks of grouping, laying and emitting, and what it answers.
 use Rattle.std.proofs.Common.{◌≡◌, inl, inr, ℕ, List, map, Result, Ok, Err, sym, ap, ◌∙◌, subst}
-use Rattle.std.specs.List.{AllByRecursion}
 use Rattle.pun_base.specs.Shown.{DeskState}
 use Rattle.pun_base.specs.Desk.{Stays}
 use Rattle.pun_base.proofs.CallFrames.{stays_same, stays_filled}
@@ -13,14 +12,13 @@ use Rattle.elf_emit.specs.declared.built.Built.{Built}
 use Rattle.elf_emit.specs.declared.emit.EmitError.{EmitError}
 use Rattle.elf_emit.specs.declared.emit.EmitError.TheVariants as emit
 use Rattle.elf_emit.specs.Emits.{EmitsFrame, range_of}
-use Rattle.elf_emit.proofs.StayingSegments.{all_map}
 use Rattle.site_turns.specs.PlannedState.{PlannedState}
 use Rattle.site_turns.specs.Planning.{Request}
 use Rattle.site_turns.specs.PlanLaws.{AreGroups}
-use Rattle.rewrite_core.specs.Patching.{IsPlaced, IsPatchable, IsWritable}
+use Rattle.rewrite_core.specs.Patching.{IsPatchable, IsWritable}
 use Rattle.rewrite_core.proofs.PlannedCalls.{groupable}
 use Rattle.loader_form.specs.LoaderState.{LoaderState}
-use Rattle.loader_form.specs.Lay.{EndsLow, taken_after, run_count, IsLoader}
+use Rattle.loader_form.specs.Lay.{taken_after, run_count, IsLoader}
 use Rattle.loader_form.specs.Loading.{IsLoading}
 
 -- code that was planned, as it is borrowed, can be grouped
@@ -31,10 +29,6 @@ may_group_built file p built e x = subst (λ (z : List Built). IsPatchable (reco
 pub same_groups : (p : PlannedState) (groups : GroupsState) (built : List Built) → built ≡ p.built → groups.pieces ≡ map range_of built
     → IsGrouping groups.pieces groups.homes → AreGroups p groups
 same_groups p groups built e h g = (h ∙ ap (map range_of) e, g)
-
--- code that is placed ends among addresses of 32 bits
-pub ends_low : (file : List ℕ) (p : PlannedState) → IsWritable file p → AllByRecursion EndsLow p.built
-ends_low file p x = all_map IsPlaced EndsLow p.built (λ b h. record { some = h.some; low = h.low }) x.placed
 
 -- what can be written and was laid is what `emit_loader` asks
 pub loading : (file : List ℕ) (reserves : List Range) (p : PlannedState) (groups : GroupsState) (l : LoaderState) → IsWritable file p → AreGroups p groups

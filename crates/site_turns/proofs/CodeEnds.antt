@@ -3,6 +3,7 @@ use Rattle.std.proofs.Common.{◌≡◌, ℕ, ◌+◌, ◌-◌, ◌≤◌, true,
 use Rattle.std.specs.List.{AllByRecursion}
 use Rattle.pun_base.specs.Ranges.{is_within}
 use Rattle.elf_emit.specs.declared.built.Built.{Built}
+use Rattle.elf_emit.proofs.StayingSegments.{all_map}
 use Rattle.scheme_search.proofs.OneJumpBytes.{within_true}
 use Rattle.start_entries.specs.Standing.{AreEntries}
 use Rattle.image_check.specs.Reports.{Line}
@@ -10,7 +11,7 @@ use Rattle.site_turns.specs.Modes.{TurnRules, event_rules}
 use Rattle.site_turns.specs.Folded.{Done, IsNewlyTaken, done_by, in_code, code_size}
 use Rattle.site_turns.specs.Laws.{SchemeLeads}
 use Rattle.site_turns.specs.Planning.{Request, Turns, AreTurnsUnder, IsPlanned, scene_under, end_under}
-use Rattle.site_turns.specs.PlannedState.{PlannedState}
+use Rattle.site_turns.specs.PlannedState.{EndsLow, PlannedState}
 use Rattle.site_turns.specs.PlanLaws.{IsAsked}
 use Rattle.site_turns.specs.States.{Scene}
 use Rattle.site_turns.proofs.LoadedJobs.{five_lead}
@@ -26,6 +27,10 @@ pub record Fits (place : ℕ) (code : List ℕ) : Type 0 where
 -- the code of a piece has bytes, and ends so
 abbrev pub IsFitting : Built → Type 0
 IsFitting b = Fits b.place b.code.bytes
+
+-- such code ends among addresses of 32 bits
+pub fitting_end_low : (bs : List Built) → AllByRecursion IsFitting bs → AllByRecursion EndsLow bs
+fitting_end_low bs = all_map IsFitting EndsLow bs (λ b f. let l = f.low in record { some = f.some; low = omega (arith, l) })
 
 module _ (g : Scene) (d : Done) (A : AreEntries g.image g.entries) where
   -- a trampoline's code is taken, byte by byte

@@ -1,9 +1,14 @@
 //! What was planned.
-ghost use Rattle.std.specs.Prelude.{◌≡◌};
+ghost use Rattle.std.specs.Prelude.{◌≡◌, map, IfOk};
+ghost use Rattle.std.specs.List.{AllByRecursion};
+ghost use Rattle.page_group.specs.Pages.{ends_of};
+ghost use Rattle.elf_emit.specs.Emits.{range_of};
+ghost use Rattle.site_turns.specs.PlannedState.{EndsLow};
 
 use elf_emit::built::Built;
 use patch_report::row::ReportRow;
 use pun_base::range::Range;
+use std::alloc::{AllocError, Global};
 use std::marker::Model;
 
 /// The private range, a row for each site in turn order, and the code of each trampoline in the
@@ -69,4 +74,16 @@ impl Planned {
         } = self;
         (private, rows, built)
     }
+}
+
+/// The addresses of each piece of code.
+pub fn code_ranges(alloc: Global, built: &[Built]) -> Result<Vec<Range>, AllocError>
+    requires { AllByRecursion EndsLow built.now }
+    ensures { IfOk result (λ ranges. ends_of ranges.items ≡ map range_of built.now) }
+{
+    let mut ranges = Vec::with_capacity(alloc, built.len())?;
+    for piece in built {
+        ranges.push(piece.range())?;
+    }
+    Ok(ranges)
 }

@@ -21,14 +21,14 @@ use Rattle.page_group.specs.Grouping.{GroupsState, IsGrouping}
 use Rattle.elf_emit.specs.Emits.{EmitsFrame, range_of}
 use Rattle.start_entries.specs.declared.entry.StartEntry.{StartEntry}
 use Rattle.start_entries.specs.Laws.{IsBuilt}
-use Rattle.site_turns.specs.PlannedState.{PlannedState}
+use Rattle.site_turns.specs.PlannedState.{EndsLow, PlannedState}
 use Rattle.site_turns.specs.Planning.{Request, Turns, IsPlanned}
 use Rattle.site_turns.specs.PlanLaws.{IsAsked, job_for}
 use Rattle.site_turns.proofs.PlannedJobs.{planned_can_be_written, planned_is_job}
 use Rattle.loader_form.specs.LoaderState.{LoaderState}
 use Rattle.loader_form.specs.declared.error.LoadError.{LoadError}
 use Rattle.loader_form.specs.Laid.{loader_frame, file_of}
-use Rattle.loader_form.specs.Lay.{EndsLow, taken_after, run_count, IsLoader, laid_of}
+use Rattle.loader_form.specs.Lay.{taken_after, run_count, IsLoader, laid_of}
 use Rattle.loader_form.specs.Loading.{load_job, IsLoading}
 use Rattle.loader_form.specs.Answers.{IsStubStart}
 use Rattle.loader_form.proofs.LaidPages.{planned_ends_low, laid_for}

@@ -1,13 +1,8 @@
 //! Stubs of so many runs, places that are left for them, and the file of one displaced instruction, worked out by hand.
-ghost use Rattle.std.specs.Prelude.{◌≡◌, ◌<◌, ◌≤◌, None, map, IfOk};
-ghost use Rattle.std.specs.List.{AllByRecursion};
-ghost use Rattle.pun_base.specs.Ranges.{ends};
+ghost use Rattle.std.specs.Prelude.{◌≡◌, ◌<◌, ◌≤◌, None};
 ghost use Rattle.page_group.specs.Pages.{ends_of, AreDisjoint};
-ghost use Rattle.elf_emit.specs.Emits.{range_of};
-ghost use Rattle.loader_form.specs.Lay.{EndsLow};
 ghost use Rattle.turn_tests.specs.LoaderFiles.{Writes};
 
-use elf_emit::built::Built;
 use elf_read::elf::read_elf;
 use elf_read::writing::plain_file;
 use loader_form::emit::emit_loader;
@@ -20,6 +15,7 @@ use pun_base::desk::Desk;
 use pun_base::memory_desk::MemDesk;
 use pun_base::range::Range;
 use site_turns::plan::plan_all;
+use site_turns::planned::code_ranges;
 use start_list::starts::{Starts, ascend};
 use std::alloc::{AllocError, Global};
 use std::test::Fail;
@@ -139,30 +135,6 @@ fn no_place(rt: HostRuntime) -> Result<(), Fail> {
     Ok(())
 }
 
-/// The addresses of a piece of code.
-fn range_of(piece: &Built) -> Range
-    requires { EndsLow piece.now }
-    ensures { ends result ≡ range_of piece.now }
-{
-    let len = piece.code.bytes.as_slice().len() as u32;
-    Range {
-        lo: piece.place,
-        hi: piece.place + len,
-    }
-}
-
-/// The addresses of each piece of code.
-fn ranges_of(alloc: Global, built: &[Built]) -> Result<Vec<Range>, AllocError>
-    requires { AllByRecursion EndsLow built.now }
-    ensures { IfOk result (λ v. ends_of v.items ≡ map range_of built.now) }
-{
-    let mut ranges = Vec::with_capacity(alloc, built.len())?;
-    for piece in built {
-        ranges.push(range_of(piece))?;
-    }
-    Ok(ranges)
-}
-
 /// The instructions of the file whose first one is displaced.
 const STARTS: [u32; 3] = [0x40_1000, 0x40_1005, 0x40_1006];
 
@@ -198,7 +170,7 @@ pub(crate) fn loaded<D: Desk>(
     let Ok(planned) = plan_all(alloc, &elf, &list, sites, Action::Cover, reserves) else {
         return None;
     };
-    let Ok(ranges) = ranges_of(alloc, planned.built()) else {
+    let Ok(ranges) = code_ranges(alloc, planned.built()) else {
         return None;
     };
     let Ok(groups) = group(alloc, &ranges) else {

@@ -8,7 +8,7 @@ use Rattle.loader_form.specs.Loading.{load_job}
 use Rattle.rewrite_loader.specs.declared.error.LoaderError.TheVariants.{Rewrite}
 use Rattle.rewrite_loader.specs.Causes.{load_error}
 use Rattle.rewrite_loader.specs.Writing.{WritesLoader}
-use Rattle.rewrite_loader.proofs.WrittenLoaders.{may_group_built, same_groups, ends_low, loading, emitted_stays}
+use Rattle.rewrite_loader.proofs.WrittenLoaders.{may_group_built, same_groups, loading, emitted_stays}
 use Rattle.rewrite_loader.proofs.writing.write_loader.Goals as goal
 
 pub code_groups-requires-clause-placed : goal.code_groups-requires-clause-placed
@@ -22,7 +22,7 @@ returns-in_err-groups-clause-writes g c =
     by_error (WritesLoader _ _ c.args.planned c.args.name.now _ _) _ (Rewrite rewrite.Memory) c.from_residual.ensures.1 (inl (refl, refl))
 
 pub lay-requires : goal.lay-requires
-lay-requires g c = ends_low _ c.args.planned c.requires.writable
+lay-requires g c = c.requires.writable.placed
 
 pub returns-in_err-loader-clause-writes : goal.returns-in_err-loader-clause-writes
 returns-in_err-loader-clause-writes g c =

@@ -450,7 +450,7 @@ written_loads = layout_loads row_job.emit job_is table_fits
 -- the row's written file follows the original, for threads
 followed : IsFollowedInThreads Count row_file row_starts row_written row_private (row_value ∷ [])
 followed =
-    let h = threaded q turns planned asked_is planned_is groups refl job_is (image_of row_written) (file_shows row_job.emit job_is table_fits) in
+    let h = threaded q turns planned asked_is planned_is groups tt refl job_is (image_of row_written) (file_shows row_job.emit job_is table_fits) in
     record { entry = h.entry table_fits; sound = h.sound; followed = h.followed; out = h.out; followed_with = h.followed_with; out_with = h.out_with }
 
 -- the row's entries are those of what its file loads

@@ -1,21 +1,14 @@
 -- Whether the bytes of code are loaded, R-X, where the original loads none.
-use Rattle.std.proofs.Common.{◌≡◌, ℕ, zero, suc, ◌+◌, ◌<◌, Bool, true, false, cond, eqb, List, [], ◌∷◌, length, slice_index, Option, Some, None, refl, subst, arith}
-use Rattle.std.proofs.lemmas.Bool.{and_parts, eqb-true, false≢true}
+use Rattle.std.proofs.Common.{◌≡◌, ℕ, zero, suc, ◌+◌, ◌<◌, Bool, true, false, cond, List, [], ◌∷◌, length, slice_index, Option, Some, None, refl, subst, arith}
+use Rattle.std.proofs.lemmas.Bool.{false≢true}
 use Rattle.pun_base.specs.Memory.{Cell, Bytes}
 use Rattle.patch_report.proofs.ListPlaces.{some_is}
-use Rattle.image_check.specs.CodeParts.{holds_code}
+use Rattle.image_check.proofs.CodeRule.{held}
 use Rattle.thread_check.specs.LineParts.{is_new_code, first_broken}
 
 -- a byte is loaded, R-X
 abbrev pub IsHeld : Option Cell → ℕ → Type 0
 IsHeld d b = d ≡ Some (record { byte = b; perms = 5 })
-
--- a byte that is held, R-X
-held : (d : Option Cell) (b : ℕ) → holds_code d b ≡ true → IsHeld d b
-held None b h = absurd (false≢true h)
-held (Some d) b h =
-    let p = and_parts (eqb d.byte b) (eqb d.perms 5) h in
-    λ i. Some (record { byte = eqb-true d.byte b p.0 i; perms = eqb-true d.perms 5 p.1 i })
 
 -- a byte that passes the test is held where the original has none
 new_held : (o d : Option Cell) (b : ℕ) → is_new_code o d b ≡ true → IsHeld d b × (o ≡ None)

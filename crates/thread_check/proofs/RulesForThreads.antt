@@ -1,12 +1,10 @@
 -- Where no rule for threads fails, the patched image is sound for threads.
-use Rattle.std.proofs.Common.{◌≡◌, ◌≢◌, ◌⊎◌, inl, inr, ℕ, ◌+◌, ◌*◌, ◌-◌, ◌<◌, ◌≤◌, Bool, true, false, not, ◌&&◌, eqb, leb, ltb, List, [], length, slice_index, Option, Some, None, refl, sym, ap, ap₂, ◌∙◌, subst, arith}
+use Rattle.std.proofs.Common.{◌≡◌, ◌≢◌, ◌⊎◌, inl, inr, ℕ, ◌+◌, ◌*◌, ◌-◌, ◌<◌, ◌≤◌, Bool, true, false, not, ◌&&◌, eqb, leb, ltb, List, length, slice_index, Option, Some, None, refl, sym, ap, ap₂, ◌∙◌, subst, arith}
 use Rattle.std.specs.Prelude.{Contains, slice_get}
 use Rattle.std.specs.Option.{is_some, option_map, option_to_list}
 use Rattle.std.specs.List.{list_any, count_by}
 use Rattle.std.proofs.lemmas.Bool.{cases_eq, cases_lt, cases_order, and_from, or_right, eqb-true, eq-eqb, le-leb, lt-ltb, true_from_ne_false, false_from_ne_true, false≢true, true≢false}
 use Rattle.pun_base.specs.Memory.{Cell}
-use Rattle.pun_base.specs.declared.action.Action.{Action}
-use Rattle.pun_base.specs.declared.action.Action.TheVariants.{Cover, Count, Ring, When}
 use Rattle.pun_base.specs.Actions.{private_len}
 use Rattle.pun_base.specs.declared.action.Base.{Base}
 use Rattle.cpu_state.specs.Bytes.{Stands}
@@ -32,20 +30,23 @@ use Rattle.image_check.proofs.LoadedCode.{loaded_fixed}
 use Rattle.image_check.proofs.FixedJumps.{any_found}
 use Rattle.image_check.proofs.CodeAtStarts.{found_address}
 use Rattle.image_check.proofs.ReportLines.{number_low}
-use Rattle.site_turns.specs.Modes.{can_in_threads, thread_base, IsShared, thread_event_of}
+use Rattle.site_turns.specs.Modes.{can_in_threads, thread_base, thread_when, is_shared, IsShared, thread_event_of}
 use Rattle.site_turns.proofs.PlanForms.{entry_here}
 use Rattle.site_turns.proofs.CodeSizes.{one_standing}
+use Rattle.thread_runs.specs.Building.{when_of}
 use Rattle.thread_runs.specs.ThreadCode.{mark_at, mark_len, code_if}
 use Rattle.thread_runs.specs.Threading.{ThreadSite, Threading, next_of, ByTwoJumps, IsThreadSite, is_code_of, IsThreadSound}
 use Rattle.thread_runs.proofs.ThreadsTheorem.{threads_followed, threads_followed_with}
+use Rattle.thread_runs.proofs.ThreadTrampolines.{listed_few}
 use Rattle.thread_runs.proofs.WorkSize.{told}
-use Rattle.guest_threads.specs.FromTurns.{site_of}
+use Rattle.guest_threads.specs.FromTurns.{site_with, site_of}
 use Rattle.guest_threads.proofs.LinesAfterTurns.{room_for}
 use Rattle.guest_threads.proofs.ThreadSoundness.{one_of, event_some, mark_in}
 use Rattle.thread_check.specs.ThreadRules.{moved_from, moved_at, is_marked, shares_at, ThreadLeads, ThreadLineFails, ThreadEntryFails, thread_coding, ThreadCodeFails, ThreadSiteFails, IsThreadCaseSound}
 use Rattle.thread_check.specs.ThreadSoundness.{threading_of, ThreadCaseIsFollowed}
 use Rattle.thread_check.proofs.LinesOfRows.{IsOwn, is_numbered, number_once}
 use Rattle.thread_check.proofs.LandingJumps.{leads_unless}
+use Rattle.thread_check.proofs.BuiltCode.{asked}
 
 -- an entry that can be displaced where threads share memory has a known form
 known_form : (o : Option Insn) (len a : ℕ) → is_some (can_by o len a) ≡ true → is_some o ≡ true
@@ -57,12 +58,11 @@ some_of : (o : Option ℕ) (k : ℕ) → is_some (option_map (λ n. n + k) o) �
 some_of None k h = absurd (false≢true h)
 some_of (Some n) k h = (n, refl)
 
--- threads can get the events of the action
-is_shared : (a : Action) → ((IsShared a → ⊥) → ⊥) → IsShared a
-is_shared Cover n = refl
-is_shared Count n = refl
-is_shared (Ring len) n = absurd (n (λ e. cc))
-is_shared (When b list) n = absurd (n (λ e. cc))
+-- the code of a trampoline whose instruction has these fields and ends before an address
+abbrev pub code_to : Case → Line → Fields → ℕ → List ℕ
+code_to c l f next =
+    code_if (thread_event_of (thread_base c.report.action) l.tramp.event) (when_of (thread_when c.report.action)) c.report.private.0 l.number f next
+    l.tramp.place
 
 -- a trampoline's instruction: it is listed and alone, stands in the original, and can be displaced where threads share memory
 pub record Enters (c : Case) (l : Line) : Type 0 where
@@ -138,6 +138,9 @@ module _ (c : Case) (A : AreEntries c.original c.listed) (T : IsTold c.report) (
 
   abbrev R : Threading
   R = threading_of c
+
+  abbrev base : Base
+  base = thread_base c.report.action
 
   -- the rules, one by one
   rule_1 : (x : ℕ) → ByteFails c x → ⊥
@@ -232,14 +235,14 @@ module _ (c : Case) (A : AreEntries c.original c.listed) (T : IsTold c.report) (
   code_low i l e h = code_ends c B l (length (code_with c l e.fields)) (i, h) (λ x. code_on_page i l e x h)
 
   -- what a trampoline's event marks is in the private range
-  room : (l : Line) → In (lines c.report) l → mark_at (thread_base c.report.action) c.report.private.0 l.number + mark_len (thread_base c.report.action) ≤ c.report.private.1
+  room : (l : Line) → In (lines c.report) l → mark_at base c.report.private.0 l.number + mark_len base ≤ c.report.private.1
   room l h =
-      let shared : IsShared c.report.action = is_shared c.report.action (λ n. rule_6 c.report.private.0 (inr (refl, n))) in
+      let shared : IsShared c.report.action =
+      true_from_ne_false (is_shared c.report.action) (λ f. rule_6 c.report.private.0 (inr (refl, λ s. true≢false (sym s ∙ f)))) in
       let below = number_low c.report l B h in
       elim (cases_lt c.report.private.1 (c.report.private.0 + private_len c.report.action (length c.report.rows))) [
         | inl k ↦ absurd (rule_6 c.report.private.0 (inl (inr (inr (refl, k)))))
-        | inr k ↦ room_for (thread_base c.report.action) c.report.private.0 c.report.private.1 (length c.report.rows) l.number
-            (subst (λ (a : Action). c.report.private.0 + private_len a (length c.report.rows) ≤ c.report.private.1) (sym shared) k) below
+        | inr k ↦ room_for c.report.action c.report.private.0 c.report.private.1 (length c.report.rows) l.number shared k below
       ]
 
   -- a site and the trampoline of which it comes
@@ -248,24 +251,24 @@ module _ (c : Case) (A : AreEntries c.original c.listed) (T : IsTold c.report) (
     in_lines : In (lines c.report) line
     entry : StartEntry
     at : entry_at c.listed line.tramp.start ≡ Some entry
-    is : record { number = line.number; entry = entry; place = line.tramp.place; event = (thread_event_of (thread_base c.report.action) line.tramp.event); when = [] } ≡ s
+    is : site_with c.report.action line entry ≡ s
 
   -- each site is that of a trampoline
   of_site : (s : ThreadSite) → Contains R.sites s → Of s
   of_site s k =
-      let q = from_flat (site_of (thread_base c.report.action) c.listed) (lines c.report) s (place_of R.sites s k) in
-      let o = one_of (λ (e : StartEntry). record { number = q.0.number; entry = e; place = q.0.tramp.place; event = (thread_event_of (thread_base c.report.action) q.0.tramp.event); when = [] }) (entry_at c.listed q.0.tramp.start) s q.2 in
+      let q = from_flat (site_of c.report.action c.listed) (lines c.report) s (place_of R.sites s k) in
+      let o = one_of (site_with c.report.action q.0) (entry_at c.listed q.0.tramp.start) s q.2 in
       record { line = q.0; in_lines = q.1; entry = o.0; at = o.1; is = o.2 }
 
   -- the code of a trampoline, by its entry
   code_is : (l : Line) (e : Enters c l)
-      → code_if (thread_event_of (thread_base c.report.action) l.tramp.event) [] c.report.private.0 l.number e.fields (e.entry.addr + e.entry.len) l.tramp.place ≡ code_with c l e.fields
+      → code_to c l e.fields (e.entry.addr + e.entry.len) ≡ code_with c l e.fields
   code_is l e =
       let a = e.addr in
       let n = e.len in
       let low = e.low in
       let next : e.entry.addr + e.entry.len ≡ next_after l.tramp.start e.fields = omega (arith, a, n, low) in
-      ap (λ z. code_if (thread_event_of (thread_base c.report.action) l.tramp.event) [] c.report.private.0 l.number e.fields z l.tramp.place) next
+      ap (code_to c l e.fields) next
 
   -- two jumps to a trampoline's place are two of the patched image, whose second stands at no new address
   by_two : (a x place : ℕ) → a ≡ x → ThreadLeads c x place → JumpsTo c.patched a place ⊎ ByTwoJumps R a place
@@ -283,11 +286,11 @@ module _ (c : Case) (A : AreEntries c.original c.listed) (T : IsTold c.report) (
       not_new false y e = refl
 
   -- the site of a trampoline is a patched one
-  site_sound : (l : Line) (h : In (lines c.report) l) → IsThreadSite R (record { number = l.number; entry = (enters l h).entry; place = l.tramp.place; event = (thread_event_of (thread_base c.report.action) l.tramp.event); when = [] })
+  site_sound : (l : Line) (h : In (lines c.report) l) → IsThreadSite R (site_with c.report.action l (enters l h).entry)
   site_sound l h =
       let e = enters l h in
       let same = code_is l e in
-      let code = code_if (thread_event_of (thread_base c.report.action) l.tramp.event) [] c.report.private.0 l.number e.fields (e.entry.addr + e.entry.len) l.tramp.place in
+      let code = code_to c l e.fields (e.entry.addr + e.entry.len) in
       let n : length code ≡ length (code_with c l e.fields) = ap length same in
       let low : l.tramp.place + length code ≤ 0x7FFF1000 = (let k = code_low h.0 l e h.1 in omega (arith, n, k)) in
       let cells : (k : ℕ) → k < length code → c.patched (l.tramp.place + k) ≡ Some (record { byte = slice_index code k; perms = 5 }) =
@@ -306,7 +309,7 @@ module _ (c : Case) (A : AreEntries c.original c.listed) (T : IsTold c.report) (
         size = e.size;
         displaced = e.displaced;
         jump = by_two e.entry.addr l.tramp.start l.tramp.place e.addr (leads l h);
-        few = record { asked = tt; few = omega arith };
+        few = record { asked = asked c.report.action B.action; few = listed_few (thread_when c.report.action) };
         code = loaded_fixed c.patched l.tramp.place code (omega (arith, low)) cells;
         new = λ x lo hi.
             let hi' : x < l.tramp.place + length (code_with c l e.fields) = omega (arith, hi, n) in
@@ -319,10 +322,10 @@ module _ (c : Case) (A : AreEntries c.original c.listed) (T : IsTold c.report) (
       new_if o q e f = ap₂ (λ x (y : Option Cell). x && not (is_some y)) e f
 
   -- the site of a trampoline has the entry that is found at the start
-  same_site : (s : ThreadSite) (o : Of s) → record { number = o.line.number; entry = (enters o.line o.in_lines).entry; place = o.line.tramp.place; event = (thread_event_of (thread_base c.report.action) o.line.tramp.event); when = [] } ≡ s
+  same_site : (s : ThreadSite) (o : Of s) → site_with c.report.action o.line (enters o.line o.in_lines).entry ≡ s
   same_site s o =
       let e : (enters o.line o.in_lines).entry ≡ o.entry = some_is (enters o.line o.in_lines).entry o.entry (sym (enters o.line o.in_lines).at ∙ o.at) in
-      ap (λ (z : StartEntry). (let t : ThreadSite = record { number = o.line.number; entry = z; place = o.line.tramp.place; event = (thread_event_of (thread_base c.report.action) o.line.tramp.event); when = [] } in t)) e ∙ o.is
+      ap (site_with c.report.action o.line) e ∙ o.is
 
   -- each site is a patched one
   sites : (s : ThreadSite) → Contains R.sites s → IsThreadSite R s
@@ -333,7 +336,7 @@ module _ (c : Case) (A : AreEntries c.original c.listed) (T : IsTold c.report) (
   one_line s t o p e =
       let l : o.line ≡ p.line = some_is o.line p.line (sym o.in_lines.1 ∙ ap (slice_get (lines c.report)) e ∙ p.in_lines.1) in
       let n : o.entry ≡ p.entry = some_is o.entry p.entry (sym o.at ∙ ap (λ (z : Line). entry_at c.listed z.tramp.start) l ∙ p.at) in
-      sym o.is ∙ (λ i. record { number = (l i).number; entry = n i; place = (l i).tramp.place; event = (thread_event_of (thread_base c.report.action) (l i).tramp.event); when = [] }) ∙ p.is
+      sym o.is ∙ (λ i. site_with c.report.action (l i) (n i)) ∙ p.is
 
   -- each start has one site
   once : (s t : ThreadSite) → Contains R.sites s → Contains R.sites t → s.entry.addr ≡ t.entry.addr → s ≡ t
@@ -346,11 +349,11 @@ module _ (c : Case) (A : AreEntries c.original c.listed) (T : IsTold c.report) (
 
   -- a site with an event comes of a trampoline with one
   with_event : (s : ThreadSite) (o : Of s) → is_some s.event ≡ true → o.line.tramp.event ≡ true
-  with_event s o u = event_some (thread_base c.report.action) o.line.tramp.event (ap (λ (z : ThreadSite). is_some z.event) o.is ∙ u)
+  with_event s o u = event_some base o.line.tramp.event (ap (λ (z : ThreadSite). is_some z.event) o.is ∙ u)
 
   -- that event is by the report's action
-  event_is : (s : ThreadSite) → Contains R.sites s → is_some s.event ≡ true → s.event ≡ Some (thread_base c.report.action)
-  event_is s h u = let o = of_site s h in sym (ap (λ (z : ThreadSite). z.event) o.is) ∙ ap (thread_event_of (thread_base c.report.action)) (with_event s o u)
+  event_is : (s : ThreadSite) → Contains R.sites s → is_some s.event ≡ true → s.event ≡ Some base
+  event_is s h u = let o = of_site s h in sym (ap (λ (z : ThreadSite). z.event) o.is) ∙ ap (thread_event_of base) (with_event s o u)
 
   -- each number has one site
   numbers : (s t : ThreadSite) → Contains R.sites s → Contains R.sites t → is_some s.event ≡ true → is_some t.event ≡ true → s.number ≡ t.number → s ≡ t
@@ -373,7 +376,7 @@ module _ (c : Case) (A : AreEntries c.original c.listed) (T : IsTold c.report) (
       let same : h.fields ≡ e.fields = one_standing c.original e.entry.addr h.fields e.fields h.spelled e.spelled
       (subst (λ (z : ThreadSite). Stands c.original z.entry.addr (spelling h.fields)) (sym site) h.stands) e.stands in
       let first : code_if s.event s.when c.report.private.0 s.number h.fields (next_of s) s.place
-      ≡ code_if (thread_event_of (thread_base c.report.action) l.tramp.event) [] c.report.private.0 l.number e.fields (e.entry.addr + e.entry.len) l.tramp.place =
+      ≡ code_to c l e.fields (e.entry.addr + e.entry.len) =
       (λ i. code_if (sym site i).event (sym site i).when c.report.private.0 (sym site i).number (same i) (next_of (sym site i)) (sym site i).place) in
       let code = first ∙ code_is l e in
       let p : s.place ≡ l.tramp.place = ap (λ (z : ThreadSite). z.place) (sym site) in
@@ -401,9 +404,10 @@ module _ (c : Case) (A : AreEntries c.original c.listed) (T : IsTold c.report) (
       owned w =
           let o = owned_at c rule_2 x w in
           let at : entry_at c.listed o.line.tramp.start ≡ Some o.entry = ap (entry_at c.listed) o.start ∙ entry_here c.original c.listed o.entry A o.in_list in
-          let s : ThreadSite = record { number = o.line.number; entry = o.entry; place = o.line.tramp.place; event = (thread_event_of (thread_base c.report.action) o.line.tramp.event); when = [] } in
-          let k : In (site_of (thread_base c.report.action) c.listed o.line) s = (0, ap (λ (q : Option StartEntry). slice_get (option_to_list (option_map (λ (e : StartEntry). record { number = o.line.number; entry = e; place = o.line.tramp.place; event = (thread_event_of (thread_base c.report.action) o.line.tramp.event); when = [] }) q)) 0) at) in
-          let i = in_flat (site_of (thread_base c.report.action) c.listed) (lines c.report) o.line s o.in_lines k in
+          let s : ThreadSite = site_with c.report.action o.line o.entry in
+          let k : In (site_of c.report.action c.listed o.line) s =
+          (0, ap (λ (q : Option StartEntry). slice_get (option_to_list (option_map (site_with c.report.action o.line) q)) 0) at) in
+          let i = in_flat (site_of c.report.action c.listed) (lines c.report) o.line s o.in_lines k in
           any_at (λ (s : ThreadSite). leb s.entry.addr x && ltb x (s.entry.addr + s.entry.len)) R.sites i.0 s i.1
           (and_from (leb o.entry.addr x) (ltb x (o.entry.addr + o.entry.len)) (le-leb o.entry.addr x o.above) (lt-ltb x (o.entry.addr + o.entry.len) o.below))
 
@@ -411,9 +415,9 @@ module _ (c : Case) (A : AreEntries c.original c.listed) (T : IsTold c.report) (
   room_of : (s : ThreadSite) → Contains R.sites s → (b : Base) → s.event ≡ Some b → mark_at b c.report.private.0 s.number + mark_len b ≤ c.report.private.1
   room_of s k b v =
       let o = of_site s k in
-      let kind : thread_base c.report.action ≡ b = some_is (thread_base c.report.action) b (sym (event_is s k (ap is_some v)) ∙ v) in
+      let kind : base ≡ b = some_is base b (sym (event_is s k (ap is_some v)) ∙ v) in
       subst (λ (z : Base). mark_at z c.report.private.0 s.number + mark_len z ≤ c.report.private.1) kind
-      (subst (λ (z : ThreadSite). mark_at (thread_base c.report.action) c.report.private.0 z.number + mark_len (thread_base c.report.action) ≤ c.report.private.1) o.is (room o.line o.in_lines))
+      (subst (λ (z : ThreadSite). mark_at base c.report.private.0 z.number + mark_len base ≤ c.report.private.1) o.is (room o.line o.in_lines))
 
   -- the patched image is sound for threads
   pub case_sound : IsThreadSound R

@@ -6,9 +6,6 @@ use Rattle.std.specs.List.{list_any}
 use Rattle.std.proofs.lemmas.Bool.{cases_order, and_parts, and_from, or_cases, or_right, eqb-true, leb-true, ltb-true, le-leb, lt-ltb, false_from_ne_true, false≢true, true≢false}
 use Rattle.std.proofs.lemmas.Option.{slice_get-map}
 use Rattle.pun_base.specs.Memory.{Cell}
-use Rattle.site_turns.specs.Modes.{IsShared}
-use Rattle.pun_base.specs.declared.action.Action.{Action}
-use Rattle.pun_base.specs.declared.action.Action.TheVariants.{Cover, Count, Ring, When}
 use Rattle.length_decode.specs.Spelling.{Fields}
 use Rattle.insn_form.specs.declared.form.Insn.{Insn}
 use Rattle.insn_form.specs.Displacing.{displaced_len}
@@ -18,7 +15,9 @@ use Rattle.start_entries.specs.Finding.{entry_at}
 use Rattle.start_entries.specs.Leading.{Leads}
 use Rattle.start_entries.specs.Standing.{AreEntries}
 use Rattle.patch_report.specs.Grammar.{IsTold}
-use Rattle.patch_report.proofs.ListPlaces.{In, some_is, found, contains_at, place_of, counted_twice, all_in}
+use Rattle.patch_report.proofs.ListPlaces.{In, found, contains_at, place_of, counted_twice, all_in}
+use Rattle.image_check.specs.declared.placed_code.PlacedCode.{PlacedCode}
+use Rattle.image_check.specs.CodeParts.{in_code}
 use Rattle.image_check.specs.Parts.{line_of}
 use Rattle.image_check.specs.Reports.{Line, lines, times_started, in_private, on_page}
 use Rattle.image_check.specs.Rules.{Case, HasCodeWith, LiesInWith, HoldsCode, is_expected, is_unexpected, displaced_by, displaced_from, displaced_at, EntryFails}
@@ -26,15 +25,15 @@ use Rattle.image_check.specs.declared.rule.Rule.TheVariants as rule
 use Rattle.image_check.specs.declared.verdict.Verdict.{Verdict}
 use Rattle.image_check.specs.declared.verdict.Verdict.TheVariants.{Yes, No}
 use Rattle.image_check.specs.Verdict.{FailsBy, IsLeastOf}
-use Rattle.image_check.proofs.CodeRule.{two_places, held_back}
+use Rattle.image_check.proofs.CodeRule.{two_places, held_back, mapped}
 use Rattle.image_check.proofs.LeadingBytes.{leads_or_not}
 use Rattle.image_check.proofs.NearCounts.{any_moved, count_moved}
+use Rattle.site_turns.specs.Modes.{is_shared, IsShared}
 use Rattle.site_turns.proofs.CodeSizes.{one_standing}
-use Rattle.thread_check.specs.declared.places.ThreadCode.{ThreadCode}
 use Rattle.thread_check.specs.ThreadRules.{moved_from, ThreadLineFails, ThreadEntryFails, thread_coding, ThreadCodeFails, ThreadFails}
 use Rattle.thread_check.specs.ThreadVerdict.{IsThreadVerdict}
 use Rattle.thread_check.specs.ThreadSoundness.{IsThreadCaseFollowed}
-use Rattle.thread_check.specs.LineParts.{is_new_code, IsSoundLine, IsBrokenLine, IsLineFailure, IsSoundCode, in_code, first_overlap, AreSoundLines, IsLinesVerdict, IsSoundImage, ImageFails, IsImageVerdict, first_failure, is_shared, whole}
+use Rattle.thread_check.specs.LineParts.{is_new_code, IsSoundLine, IsBrokenLine, IsLineFailure, IsSoundCode, first_overlap, AreSoundLines, IsLinesVerdict, IsSoundImage, ImageFails, IsImageVerdict, first_failure, whole}
 use Rattle.thread_check.proofs.LandingJumps.{leads_too, leads_for}
 use Rattle.thread_check.proofs.HeldCode.{IsHeld, each_held, one_broken}
 use Rattle.thread_check.proofs.PlacesApart.{HaveBytes, in_one, in_two}
@@ -44,11 +43,6 @@ use Rattle.thread_check.proofs.RulesForThreads.{thread_case_is_followed}
 one_code : (c : Case) (l : Line) (f g : List ℕ) → HasCodeWith (thread_coding c.report) c l f → HasCodeWith (thread_coding c.report) c l g → f ≡ g
 one_code c l f g h k =
     h.is ∙ ap (λ (x : Fields). thread_coding c.report l x) (one_standing c.original l.tramp.start h.fields k.fields h.spelled k.spelled h.stands k.stands) ∙ sym k.is
-
--- what maps to a trampoline is one with its code
-mapped : (o : Option ThreadCode) (l : Line) → option_map (λ (p : ThreadCode). line_of p.line) o ≡ Some l → (p : ThreadCode) × (o ≡ Some p) × (line_of p.line ≡ l)
-mapped None l e = absurd cc
-mapped (Some p) l e = (p, refl, some_is (line_of p.line) l e)
 
 -- an original byte, or that there is none, by a test that fails
 by_cell : (o d : Option Cell) (b : ℕ) → is_new_code o d b ≡ false → (IsHeld d b → ⊥) ⊎ (is_some o ≡ true)
@@ -106,13 +100,13 @@ module _ (c : Case) (M : IsSoundImage c) where
         ],
       )
 
-  module _ (sorted : List ThreadCode) (L : AreSoundLines c sorted) where
-    abbrev codes : List ThreadCode
+  module _ (sorted : List PlacedCode) (L : AreSoundLines c sorted) where
+    abbrev codes : List PlacedCode
     codes = L.codes
 
     -- the trampoline at an index, with its code
     record At (i : ℕ) (l : Line) : Type 0 where
-      code : ThreadCode
+      code : PlacedCode
       is : slice_get codes i ≡ Some code
       line : line_of code.line ≡ l
       sound : IsSoundLine c l code.bytes
@@ -120,7 +114,7 @@ module _ (c : Case) (M : IsSoundImage c) where
     -- each trampoline of the report has its code
     at_index : (i : ℕ) (l : Line) → slice_get (lines c.report) i ≡ Some l → At i l
     at_index i l h =
-        let m = mapped (slice_get codes i) l (sym (slice_get-map (λ (p : ThreadCode). line_of p.line) codes i)
+        let m = mapped (slice_get codes i) l (sym (slice_get-map (λ (p : PlacedCode). line_of p.line) codes i)
         ∙ ap (λ (z : List Line). slice_get z i) L.lines_are ∙ h) in
         record {
           code = m.0;
@@ -130,10 +124,10 @@ module _ (c : Case) (M : IsSoundImage c) where
         }
 
     -- a code at an index is that of a trampoline of the report
-    of_index : (i : ℕ) (p : ThreadCode) → slice_get codes i ≡ Some p → slice_get (lines c.report) i ≡ Some (line_of p.line)
+    of_index : (i : ℕ) (p : PlacedCode) → slice_get codes i ≡ Some p → slice_get (lines c.report) i ≡ Some (line_of p.line)
     of_index i p e =
-        sym (ap (λ (z : List Line). slice_get z i) L.lines_are) ∙ slice_get-map (λ (p : ThreadCode). line_of p.line) codes i
-        ∙ ap (option_map (λ (p : ThreadCode). line_of p.line)) e
+        sym (ap (λ (z : List Line). slice_get z i) L.lines_are) ∙ slice_get-map (λ (p : PlacedCode). line_of p.line) codes i
+        ∙ ap (option_map (λ (p : PlacedCode). line_of p.line)) e
 
     -- an address that lies in the code of a trampoline is in its code
     lies : (i x : ℕ) (at : LiesInWith (thread_coding c.report) c i x) → (q : At i at.line) → in_code x q.code ≡ true
@@ -149,8 +143,8 @@ module _ (c : Case) (M : IsSoundImage c) where
 
     -- no code is empty
     have_bytes : HaveBytes sorted
-    have_bytes = false_from_ne_true (list_any (λ (p : ThreadCode). eqb (length p.bytes) 0) sorted) (λ t.
-        let f = found (λ (p : ThreadCode). eqb (length p.bytes) 0) codes (sym (any_moved (λ (p : ThreadCode). eqb (length p.bytes) 0) codes sorted L.moved) ∙ t) in
+    have_bytes = false_from_ne_true (list_any (λ (p : PlacedCode). eqb (length p.bytes) 0) sorted) (λ t.
+        let f = found (λ (p : PlacedCode). eqb (length p.bytes) 0) codes (sym (any_moved (λ (p : PlacedCode). eqb (length p.bytes) 0) codes sorted L.moved) ∙ t) in
         let n = eqb-true (length f.is.bytes) 0 f.passes in
         let k = (all_in (IsSoundCode c) codes f.is L.each (f.place, f.at)).code_is.some in
         absurd (omega (arith, n, k)))
@@ -166,7 +160,7 @@ module _ (c : Case) (M : IsSoundImage c) where
         let other = lies_in t.second t.other t.at_second t.other_passes in
         (t.first, one, inr (inl (t.second, (λ e. absurd (omega (arith, e, below))), other)))
       where
-        lies_in : (i : ℕ) (p : ThreadCode) → slice_get codes i ≡ Some p → in_code x p ≡ true → LiesInWith (thread_coding c.report) c i x
+        lies_in : (i : ℕ) (p : PlacedCode) → slice_get codes i ≡ Some p → in_code x p ≡ true → LiesInWith (thread_coding c.report) c i x
         lies_in i p e t =
             let q = and_parts (leb p.line.tramp.place x) (ltb x (p.line.tramp.place + length p.bytes)) t in
             record {
@@ -297,20 +291,6 @@ image_verdict c None None None (Some x) entry h i j k l = inr (inr (inr (inl (re
 image_verdict c None None None None (Some x) h i j k l = inr (inr (inr (inr (refl, l.0))))
 image_verdict c None None None None None h i j k l = record { bytes = h; writes = i; entries = l; ranges = j; sites = k }
 
--- threads can get the events of an action or can't
-shared_is : (a : Action) → is_shared a ≡ true → IsShared a
-shared_is Count h = refl
-shared_is Cover h = refl
-shared_is (Ring len) h = absurd cc
-shared_is (When b list) h = absurd cc
-
--- where they can't, it is another action
-not_shared : (a : Action) → is_shared a ≡ false → IsShared a → ⊥
-not_shared Count h s = absurd cc
-not_shared Cover h s = absurd cc
-not_shared (Ring len) h s = absurd cc
-not_shared (When b list) h s = absurd cc
-
 -- the verdict of all parts is the verdict
 pub whole_verdict : (c : Case) (low : ℕ) (v w : Verdict) → low ≡ c.report.private.0 → IsImageVerdict c v → IsLinesVerdict c w
     → IsThreadVerdict c (whole (is_shared c.report.action) low v w)
@@ -318,8 +298,8 @@ whole_verdict c low (No addr rule) w e h k = image_fails c addr rule h
 whole_verdict c low Yes w e h k = by_action (is_shared c.report.action) refl
   where
     by_action : (b : Bool) → is_shared c.report.action ≡ b → IsThreadVerdict c (whole b low Yes w)
-    by_action true f = verdict_of c h (shared_is c.report.action f) w k
-    by_action false f = inr (inr (inr (inr (inr (refl, inr (e, not_shared c.report.action f))))))
+    by_action true f = verdict_of c h f w k
+    by_action false f = inr (inr (inr (inr (inr (refl, inr (e, λ s. true≢false (sym s ∙ f)))))))
 
 -- where the verdict is Yes, the patched file is followed
 pub yes_followed : (c : Case) (v : Verdict) → AreEntries c.original c.listed → IsTold c.report → IsThreadVerdict c v → v ≡ Yes → IsThreadCaseFollowed c

@@ -1,18 +1,16 @@
 -- What the checker keeps of a report's trampolines, and when each is sound. Contracts of private functions alone cite it.
-use Rattle.std.specs.Prelude.{◌≡◌, ◌⊎◌, ℕ, ◌+◌, ◌<◌, Bool, true, false, ◌&&◌, nat_le, nat_lt, if◌then◌else◌, List, [], ◌∷◌, map, length, Option, Some, None, is_some, Contains}
+use Rattle.std.specs.Prelude.{◌≡◌, ◌⊎◌, ℕ, ◌+◌, ◌<◌, Bool, true, false, nat_lt, if◌then◌else◌, List, [], ◌∷◌, map, length, Option, Some, None, is_some, Contains}
 use Rattle.std.specs.List.{AllByRecursion}
 use Rattle.std.specs.List.Sorted.{IsPermutation, IsNonDecreasingBy}
 use Rattle.pun_base.specs.Memory.{Cell, Bytes}
-use Rattle.pun_base.specs.declared.action.Action.{Action}
-use Rattle.pun_base.specs.declared.action.Action.TheVariants.{Cover, Count, Ring, When}
 use Rattle.start_entries.specs.Leading.{JumpsTo}
 use Rattle.image_check.specs.CodeParts.{holds_code}
 use Rattle.image_check.specs.Parts.{line_of}
 use Rattle.image_check.specs.Reports.{Line, lines}
 use Rattle.image_check.specs.Rules.{Case, HasCodeWith, ByteFails, WriteFails, EntryFails, RangeFails, SiteFails}
+use Rattle.image_check.specs.declared.placed_code.PlacedCode.{PlacedCode}
 use Rattle.image_check.specs.declared.verdict.Verdict.{Verdict}
 use Rattle.image_check.specs.declared.verdict.Verdict.TheVariants.{Yes, No}
-use Rattle.thread_check.specs.declared.places.ThreadCode.{ThreadCode}
 use Rattle.thread_check.specs.ThreadRules.{moved_at, shares_at, ThreadLineFails, thread_coding}
 
 -- This byte is loaded, R-X, where the original loads none.
@@ -73,22 +71,18 @@ IsLineFailure c l (No addr rule) =
     ((rule ≡ 3) × (addr ≡ l.tramp.start) × ThreadLineFails c l.tramp.start l) ⊎ ((rule ≡ 4) × IsBrokenLine c l addr)
 
 -- A trampoline with its code is sound.
-abbrev pub IsSoundCode : Case → ThreadCode → Type 0
+abbrev pub IsSoundCode : Case → PlacedCode → Type 0
 IsSoundCode c p = IsSoundLine c (line_of p.line) p.bytes
 
--- An address is in a trampoline's code.
-abbrev pub in_code : ℕ → ThreadCode → Bool
-in_code x p = nat_le p.line.tramp.place x && nat_lt x (p.line.tramp.place + length p.bytes)
-
 -- The first place below the end of the code before it.
-abbrev pub first_overlap : ℕ → List ThreadCode → Option ℕ
+abbrev pub first_overlap : ℕ → List PlacedCode → Option ℕ
 first_overlap reached [] = None
 first_overlap reached (p ∷ ps) =
     if nat_lt p.line.tramp.place reached then Some p.line.tramp.place else first_overlap (p.line.tramp.place + length p.bytes) ps
 
 -- All trampolines of a report, each sound, with their codes also sorted by place.
-pub record AreSoundLines (c : Case) (sorted : List ThreadCode) : Type 0 where
-  pub codes : List ThreadCode
+pub record AreSoundLines (c : Case) (sorted : List PlacedCode) : Type 0 where
+  pub codes : List PlacedCode
   pub lines_are : map (λ p. line_of p.line) codes ≡ lines c.report
   pub each : AllByRecursion (IsSoundCode c) codes
   pub moved : IsPermutation codes sorted
@@ -97,10 +91,10 @@ pub record AreSoundLines (c : Case) (sorted : List ThreadCode) : Type 0 where
 -- What the trampolines of a report show: each is sound, and codes don't meet; or one isn't sound, or
 -- two codes meet at an address.
 abbrev pub IsLinesVerdict : Case → Verdict → Type 0
-IsLinesVerdict c Yes = (sorted : List ThreadCode) × AreSoundLines c sorted × (first_overlap 0 sorted ≡ None)
+IsLinesVerdict c Yes = (sorted : List PlacedCode) × AreSoundLines c sorted × (first_overlap 0 sorted ≡ None)
 IsLinesVerdict c (No addr rule) =
     ((l : Line) × Contains (lines c.report) l × IsLineFailure c l (No addr rule))
-    ⊎ ((rule ≡ 4) × ((sorted : List ThreadCode) × AreSoundLines c sorted × (first_overlap 0 sorted ≡ Some addr)))
+    ⊎ ((rule ≡ 4) × ((sorted : List PlacedCode) × AreSoundLines c sorted × (first_overlap 0 sorted ≡ Some addr)))
 
 -- Rules 1, 2, 3, 5 and 6 of any patched image hold everywhere.
 pub record IsSoundImage (c : Case) : Type 0 where
@@ -129,13 +123,6 @@ first_failure None None (Some x) site entry = No x 5
 first_failure None None None (Some x) entry = No x 6
 first_failure None None None None (Some x) = No x 3
 first_failure None None None None None = Yes
-
--- Threads can get the events of an action: it is to cover or to count.
-abbrev pub is_shared : Action → Bool
-is_shared Count = true
-is_shared Cover = true
-is_shared (Ring len) = false
-is_shared (When b list) = false
 
 -- The verdict of these: of the rules of any patched file, of whether threads can get the events of the
 -- action, where the private range begins at an address, and of the trampolines.

@@ -15,7 +15,7 @@ use image_check::flat::ReportLine;
 use image_check::jumps::jump_at;
 use image_check::verdict::Verdict;
 use patch_report::report::Report;
-use site_turns::mode::{thread_base, thread_event_of};
+use site_turns::mode::{thread_base, thread_event_of, thread_when};
 use site_turns::start_insn::insn_at;
 use start_entries::starts::Starts;
 use thread_runs::thread_trampoline;
@@ -35,10 +35,11 @@ fn code_of(orig: &Elf<'_>, starts: &Starts, report: &Report, line: &ReportLine) 
     if at.entry.shared {
         return None;
     }
+    let action = report.action();
     let private = report.private().lo;
     match thread_trampoline(
-        thread_event_of(thread_base(report.action()), line.tramp.event),
-        None,
+        thread_event_of(thread_base(action), line.tramp.event),
+        thread_when(action),
         at.insn,
         at.bytes,
         at.entry.addr,

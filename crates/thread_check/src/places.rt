@@ -1,31 +1,11 @@
-//! Code of trampolines by place.
-ghost use Rattle.std.specs.Prelude.{◌≡◌, IfOk};
-ghost use Rattle.std.specs.List.Sorted.{IsPermutation, IsNonDecreasingBy};
+//! Codes of trampolines that meet.
+ghost use Rattle.std.specs.Prelude.{◌≡◌};
 ghost use Rattle.thread_check.specs.LineParts as parts;
 
-use code_bytes::code::CodeBytes;
-use image_check::flat::ReportLine;
-use std::alloc::AllocError;
-
-/// A trampoline with its code.
-#[derive(Debug, PartialEq, Eq, Drop)]
-pub struct ThreadCode {
-    pub line: ReportLine,
-    pub bytes: CodeBytes,
-}
-
-/// Code sorted by place.
-pub(crate) fn by_place(codes: Vec<ThreadCode>) -> Result<Vec<ThreadCode>, AllocError>
-    ensures moved { IfOk result (λ v. IsPermutation codes.items v.items) }
-    ensures rises { IfOk result (λ v. IsNonDecreasingBy (λ p. p.line.tramp.place) v.items) }
-{
-    let mut sorted = codes;
-    sorted.sort_by_key(|code| code.line.tramp.place)?;
-    Ok(sorted)
-}
+use image_check::placed_code::PlacedCode;
 
 /// The first place, of code sorted by place, below the end of the code before it.
-pub(crate) fn first_overlap(codes: &[ThreadCode]) -> Option<u64>
+pub(crate) fn first_overlap(codes: &[PlacedCode]) -> Option<u64>
     ensures { result ≡ parts.first_overlap 0 codes.now }
 {
     let mut left = codes;

@@ -9,14 +9,16 @@ ghost use Rattle.thread_check.specs.ThreadSoundness.{IsThreadCaseFollowed};
 ghost use Rattle.thread_check.specs.ThreadVerdict.{IsThreadVerdict};
 
 use crate::line_rule::judge;
-use crate::places::{ThreadCode, by_place, first_overlap};
+use crate::places::first_overlap;
 use elf_read::elf::Elf;
 use image_check::checked::Checked;
 use image_check::flat::lines_of;
+use image_check::placed::by_place;
+use image_check::placed_code::PlacedCode;
 use image_check::rule::Rule;
 use image_check::verdict::Verdict;
 use patch_report::report::Report;
-use pun_base::action::Action;
+use site_turns::mode::is_shared;
 use start_entries::starts::Starts;
 use std::alloc::{AllocError, Global};
 
@@ -78,7 +80,10 @@ fn judge_lines(
     let mut codes = Vec::new(alloc);
     for line in lines.as_slice() {
         match judge(orig, patched, starts, report, line) {
-            Ok(bytes) => codes.push(ThreadCode { line: *line, bytes })?,
+            Ok(bytes) => {
+                let _fits = bytes.as_slice();
+                codes.push(PlacedCode { line: *line, bytes })?;
+            }
             Err(verdict) => return Ok(verdict),
         }
     }
@@ -86,16 +91,6 @@ fn judge_lines(
     match first_overlap(&sorted) {
         None => Ok(Verdict::Yes),
         Some(addr) => Ok(Verdict::No { addr, rule: 4 }),
-    }
-}
-
-/// Whether threads can get the events of an action: it is to cover or to count.
-fn is_shared(action: Action) -> bool
-    ensures { result ≡ parts.is_shared action }
-{
-    match action {
-        Action::Cover | Action::Count => true,
-        Action::Ring { .. } | Action::When { .. } => false,
     }
 }
 
@@ -118,8 +113,8 @@ fn whole(shared: bool, low: u64, image: Verdict, lines: Verdict) -> Verdict
 
 /// Judges a file that is patched for threads by the six rules for threads. The starts are those of
 /// the original. Where the verdict is Yes, the patched file starts where the original does, and runs
-/// with any number of threads as the original does, and counts or covers. Where it is No, the rule fails
-/// at the address.
+/// with any number of threads as the original does, and counts or covers, under a condition where the report
+/// tells one. Where it is No, the rule fails at the address.
 pub fn check_threads(
     alloc: Global,
     orig: &Elf<'_>,

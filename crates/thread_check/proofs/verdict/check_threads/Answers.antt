@@ -3,7 +3,8 @@ use Rattle.image_check.specs.Rules.{Case}
 use Rattle.image_check.specs.Verdict.{case_of}
 use Rattle.image_check.specs.declared.verdict.Verdict.{Verdict}
 use Rattle.image_check.proofs.CodeAtStarts.{entries_built}
-use Rattle.thread_check.specs.LineParts.{IsImageVerdict, is_shared, whole}
+use Rattle.site_turns.specs.Modes.{is_shared}
+use Rattle.thread_check.specs.LineParts.{IsImageVerdict, whole}
 use Rattle.thread_check.specs.ThreadVerdict.{IsThreadVerdict}
 use Rattle.thread_check.proofs.VerdictsOfLines.{whole_verdict, yes_followed}
 use Rattle.thread_check.proofs.verdict.check_threads.Goals as goal

@@ -5,7 +5,7 @@ use Rattle.patch_report.proofs.LongerFronts.{mapped_more}
 use Rattle.image_check.specs.Reports.{Line}
 use Rattle.image_check.specs.Parts.{line_of}
 use Rattle.image_check.specs.Verdict.{case_of}
-use Rattle.thread_check.specs.declared.places.ThreadCode.{ThreadCode}
+use Rattle.image_check.specs.declared.placed_code.PlacedCode.{PlacedCode}
 use Rattle.thread_check.specs.LineParts.{IsSoundCode}
 use Rattle.thread_check.proofs.BuiltCode.{line_low, line_settles}
 use Rattle.thread_check.proofs.verdict.judge_lines.Goals as goal
@@ -23,11 +23,11 @@ returns-in-Err c =
 
 pub loop-line-preserved : goal.loop-line-preserved
 loop-line-preserved c =
-    let f : ThreadCode → Line = λ p. line_of p.line in
-    let P : ThreadCode → Type 0 = IsSoundCode (case_of c.args.orig.now.bytes c.args.patched.now.bytes c.args.starts.now c.args.report.now.body) in (
+    let f : PlacedCode → Line = λ p. line_of p.line in
+    let P : PlacedCode → Type 0 = IsSoundCode (case_of c.args.orig.now.bytes c.args.patched.now.bytes c.args.starts.now c.args.report.now.body) in (
       mapped_more f line_of c.loop-line.codes.items c.push.new.self.items _ c.as_slice-line-items.result.now c.loop-line.line-index
           (record { number = 0; tramp = record { place = 0; start = 0; event = false } }) c.loop-line-test.true
           c.in_ok-push-in-Ok.ensures.items c.loop-line.invariant.0 refl,
-      subst (λ (z : List ThreadCode). AllByRecursion P z) (sym c.in_ok-push-in-Ok.ensures.items)
+      subst (λ (z : List PlacedCode). AllByRecursion P z) (sym c.in_ok-push-in-Ok.ensures.items)
           (all_appended P c.loop-line.codes.items _ c.loop-line.invariant.1 (c.in-Ok.ensures, tt)),
     )

@@ -3,9 +3,6 @@ use Rattle.std.proofs.Common.{◌≡◌, inl, inr, ℕ, ◌+◌, ◌<◌, false,
 use Rattle.std.specs.Option.{is_some, option_map}
 use Rattle.std.proofs.lemmas.Option.{slice_get-map, slice_get-get_or}
 use Rattle.pun_base.specs.Memory.{Bytes}
-use Rattle.pun_base.specs.Actions.{IsAction}
-use Rattle.pun_base.specs.declared.action.Action.{Action}
-use Rattle.pun_base.specs.declared.action.Action.TheVariants.{Cover, Count, Ring, When}
 use Rattle.pun_base.specs.declared.action.Base.{Base}
 use Rattle.pun_base.specs.declared.action.Comparison.{Comparison}
 use Rattle.cpu_state.specs.Bytes.{Stands}
@@ -35,7 +32,7 @@ use Rattle.image_check.proofs.ReportLines.{number_low, place_low}
 use Rattle.site_turns.specs.StartInsns.{form_from, form_at, IsInsnAt}
 use Rattle.site_turns.proofs.TrampolineCodes.{taken_len, taken_spelled}
 use Rattle.site_turns.specs.Modes.{thread_base, thread_when, thread_event_of}
-use Rattle.thread_runs.specs.Building.{when_of, CanBeAsked, size_if}
+use Rattle.thread_runs.specs.Building.{when_of, size_if}
 use Rattle.thread_runs.specs.ThreadCode.{event_len, event_if, thread_work, code_if}
 use Rattle.thread_runs.proofs.WorkSize.{told}
 use Rattle.thread_runs.proofs.WorkTails.{work_long}
@@ -47,13 +44,6 @@ use Rattle.thread_check.proofs.LandingJumps.{lands_too}
 mapped_from : (f : ℕ → ℕ) (o : Option ℕ) (n : ℕ) → option_map f o ≡ Some n → (k : ℕ) × (o ≡ Some k)
 mapped_from f None n h = absurd cc
 mapped_from f (Some k) n h = (k, refl)
-
--- the condition of an action that can be asked for can be asked for
-pub asked : (a : Action) → IsAction a → CanBeAsked (thread_when a)
-asked Cover h = tt
-asked Count h = tt
-asked (Ring len) h = tt
-asked (When b list) h = h
 
 -- the code that is built of what is taken of the file
 pub built : (event : Option Base) (cs : List Comparison) (c : Case) (l : Line) (file : List ℕ) (e : StartEntry) (i : Insn) (bs code : List ℕ) (private : ℕ)

@@ -37,16 +37,15 @@ use Rattle.thread_runs.specs.Building.{when_of}
 use Rattle.thread_runs.specs.ThreadCode.{mark_at, mark_len, code_if}
 use Rattle.thread_runs.specs.Threading.{ThreadSite, Threading, next_of, ByTwoJumps, IsThreadSite, is_code_of, IsThreadSound}
 use Rattle.thread_runs.proofs.ThreadsTheorem.{threads_followed, threads_followed_with}
-use Rattle.thread_runs.proofs.ThreadTrampolines.{listed_few}
 use Rattle.thread_runs.proofs.WorkSize.{told}
 use Rattle.guest_threads.specs.FromTurns.{site_with, site_of}
 use Rattle.guest_threads.proofs.LinesAfterTurns.{room_for}
+use Rattle.guest_threads.proofs.ThreadConditions.{action_few}
 use Rattle.guest_threads.proofs.ThreadSoundness.{one_of, event_some, mark_in}
 use Rattle.thread_check.specs.ThreadRules.{moved_from, moved_at, is_marked, shares_at, ThreadLeads, ThreadLineFails, ThreadEntryFails, thread_coding, ThreadCodeFails, ThreadSiteFails, IsThreadCaseSound}
 use Rattle.thread_check.specs.ThreadSoundness.{threading_of, ThreadCaseIsFollowed}
 use Rattle.thread_check.proofs.LinesOfRows.{IsOwn, is_numbered, number_once}
 use Rattle.thread_check.proofs.LandingJumps.{leads_unless}
-use Rattle.thread_check.proofs.BuiltCode.{asked}
 
 -- an entry that can be displaced where threads share memory has a known form
 known_form : (o : Option Insn) (len a : ℕ) → is_some (can_by o len a) ≡ true → is_some o ≡ true
@@ -309,7 +308,7 @@ module _ (c : Case) (A : AreEntries c.original c.listed) (T : IsTold c.report) (
         size = e.size;
         displaced = e.displaced;
         jump = by_two e.entry.addr l.tramp.start l.tramp.place e.addr (leads l h);
-        few = record { asked = asked c.report.action B.action; few = listed_few (thread_when c.report.action) };
+        few = action_few c.report.action B.action;
         code = loaded_fixed c.patched l.tramp.place code (omega (arith, low)) cells;
         new = λ x lo hi.
             let hi' : x < l.tramp.place + length (code_with c l e.fields) = omega (arith, hi, n) in

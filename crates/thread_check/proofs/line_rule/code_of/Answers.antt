@@ -4,7 +4,8 @@ use Rattle.image_check.specs.Parts.{line_of}
 use Rattle.image_check.specs.Verdict.{case_of}
 use Rattle.thread_runs.specs.Building.{when_of, CanBeAsked}
 use Rattle.thread_runs.proofs.ThreadTrampolines.{event_few, listed_few}
-use Rattle.thread_check.proofs.BuiltCode.{asked, built, not_built, not_known}
+use Rattle.guest_threads.proofs.ThreadConditions.{action_asked}
+use Rattle.thread_check.proofs.BuiltCode.{built, not_built, not_known}
 use Rattle.thread_check.proofs.line_rule.code_of.Goals as goal
 
 pub returns-in_default : goal.returns-in_default
@@ -12,7 +13,7 @@ returns-in_default c = λ p. not_known (case_of c.args.orig.now.bytes p c.args.s
 
 pub thread_trampoline-requires-clause-when : goal.thread_trampoline-requires-clause-when
 thread_trampoline-requires-clause-when c =
-    subst CanBeAsked (sym (c.thread_when.ensures ∙ ap thread_when c.action-action.ensures)) (asked c.args.report.now.body.action c.requires.low.action)
+    subst CanBeAsked (sym (c.thread_when.ensures ∙ ap thread_when c.action-action.ensures)) (action_asked c.args.report.now.body.action c.requires.low.action)
 
 pub thread_trampoline-requires-clause-place : goal.thread_trampoline-requires-clause-place
 thread_trampoline-requires-clause-place c =

@@ -4,7 +4,7 @@ use elf_read::elf::{read_elf, read_written};
 use elf_read::writing::plain_file;
 use image_check::verdict::Verdict;
 use patch_report::report::Report;
-use pun_base::action::Base;
+use pun_base::action::Action;
 use pun_base::memory_desk::MemDesk;
 use start_entries::starts::{Starts, ascend};
 use std::alloc::{AllocError, Global};
@@ -12,7 +12,7 @@ use std::test::Fail;
 use thread_check::verdict::check_threads;
 
 /// The verdict on a patched file, with one byte of it changed, of a text with these starts.
-fn verdict(
+pub(crate) fn verdict(
     alloc: Global,
     text: &[u8],
     starts: &[u32],
@@ -54,7 +54,7 @@ fn changed_bytes(rt: HostRuntime) -> Result<(), Fail> {
         &text,
         &[0x40_1000],
         &[0x40_1000],
-        Base::Count,
+        Action::Count,
         &mut desk,
     );
     let report = found.ok_or("reported")?;
@@ -96,7 +96,7 @@ fn changed_bytes_where_events_cover(rt: HostRuntime) -> Result<(), Fail> {
         &text,
         &[0x40_1000],
         &[0x40_1000],
-        Base::Cover,
+        Action::Cover,
         &mut desk,
     );
     let report = found.ok_or("reported")?;
@@ -138,7 +138,7 @@ fn sites_with_victims_are_judged(rt: HostRuntime) -> Result<(), Fail> {
             text,
             starts,
             &[0x40_1000],
-            Base::Count,
+            Action::Count,
             &mut desk,
         );
         let report = found.ok_or("reported")?;

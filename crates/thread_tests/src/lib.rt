@@ -6,6 +6,8 @@
 #[cfg(test)]
 mod checked_files;
 #[cfg(test)]
+mod conditions;
+#[cfg(test)]
 mod random_schedules;
 #[cfg(test)]
 mod rewritten_files;

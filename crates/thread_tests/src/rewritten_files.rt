@@ -1,7 +1,9 @@
 //! Files that are patched for guests of several threads.
 ghost use Rattle.std.specs.Prelude.{◌≡◌, ◌≤◌, None, length, IfSome};
 ghost use Rattle.std.specs.List.Sorted.{IsStrictlyIncreasing};
+ghost use Rattle.pun_base.specs.Actions.{IsAction};
 ghost use Rattle.pun_base.specs.Limits.{most_sites};
+ghost use Rattle.site_turns.specs.Modes.{IsShared};
 
 use elf_read::writing::plain_file;
 use guest_threads::rewriting::{
@@ -46,19 +48,21 @@ pub(crate) fn rewritten<D: Desk>(
     Some(rewrite_threads(alloc, &file, starts, sites, &[], "O", desk))
 }
 
-/// The report of such a patch whose events cover or count, if it was written.
+/// The report of such a patch with the events of an action, if it was written.
 pub(crate) fn reported<D: Desk>(
     alloc: Global,
     text: &[u8],
     starts: &[u32],
     sites: &[u32],
-    base: Base,
+    action: Action,
     desk: &mut D,
 ) -> Option<Report>
-    requires { (D.seen desk.old).writing ≡ None }
+    requires action { IsAction action }
+    requires shared { IsShared action }
+    requires nothing { (D.seen desk.old).writing ≡ None }
 {
     let file = ordered_file(alloc, text, starts, sites)?;
-    rewrite_threads_reported(alloc, &file, starts, sites, base, &[], "O", desk).ok()
+    rewrite_threads_reported(alloc, &file, starts, sites, action, &[], "O", desk).ok()
 }
 
 /// The report of such a patch in the loader form, if it was written.
@@ -167,7 +171,7 @@ fn report_of_jump_to_itself(rt: HostRuntime) -> Result<(), Fail> {
         &text,
         &[0x40_1000],
         &[0x40_1000],
-        Base::Count,
+        Action::Count,
         &mut desk,
     );
     let report = found.ok_or("reported")?;
@@ -199,7 +203,7 @@ fn cover_of_jump_to_itself(rt: HostRuntime) -> Result<(), Fail> {
         &text,
         &[0x40_1000],
         &[0x40_1000],
-        Base::Cover,
+        Action::Cover,
         &mut desk,
     );
     let report = found.ok_or("reported")?;

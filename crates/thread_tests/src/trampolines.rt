@@ -1,4 +1,8 @@
 //! Trampolines for threads that share their memory.
+ghost use Rattle.std.specs.Prelude.{◌<◌};
+ghost use Rattle.pun_base.specs.Actions.{AreComparisons, listed};
+ghost use Rattle.pun_base.specs.Limits.{most_sites};
+
 use code_bytes::code::Code;
 use guest_threads::thread_build;
 use insn_form::whole_form;
@@ -21,10 +25,10 @@ const EVENT: [u8; 32] = [
     0x25, 0x40, 0x00, 0x02, 0x00, 0x04, 0x7F, 0x9E, 0x48, 0x8B, 0x84, 0x24, 0x78, 0xFF, 0xFF, 0xFF,
 ];
 
-/// Whether the code is the event and then this work, and doesn't fall through.
-fn works(code: Option<Result<Code, NotRelocatable>>, work: &[u8]) -> bool {
+/// Whether the code is an event and then this work, and doesn't fall through.
+fn works(code: Option<Result<Code, NotRelocatable>>, event: &[u8], work: &[u8]) -> bool {
     match code {
-        Some(Ok(code)) => match code.bytes.as_slice().strip_prefix(&EVENT) {
+        Some(Ok(code)) => match code.bytes.as_slice().strip_prefix(event) {
             Some(rest) => rest == work && !code.falls,
             None => false,
         },
@@ -77,7 +81,7 @@ const ROWS: [Row; 5] = [
 #[test]
 fn codes(rt: HostRuntime) {
     for (bytes, place, work) in ROWS {
-        assert!(rt; works(built(bytes, place), work));
+        assert!(rt; works(built(bytes, place), &EVENT, work));
     }
 }
 
@@ -89,87 +93,68 @@ fn codes_that_are_not(rt: HostRuntime) {
     }
 }
 
-/// A condition on rax, which is compared where it is saved.
+/// A comparison of rax, which stands where it is saved.
 const RAX_IS_5: Comparison = Comparison {
     reg: 0,
     op: CompareOp::Eq,
     value: 5,
 };
 
-/// A condition on r9.
+/// A comparison of r9.
 const R9_IS_LOW: Comparison = Comparison {
     reg: 9,
     op: CompareOp::Lt,
     value: 256,
 };
 
-/// A condition on rsp, which no event changes.
+/// A comparison of rsp.
 const RSP_IS_HIGH: Comparison = Comparison {
     reg: 4,
     op: CompareOp::Gt,
     value: 0x1000,
 };
 
-/// The trampoline at 0x21000 of a `mov` at 0x401000 begins with these bytes, and goes on with the work of the `mov`, whose jump back is right.
-fn begins(code: Result<Code, NotRelocatable>, event: &[u8]) -> bool {
-    match code {
-        Ok(code) => match code.bytes.as_slice().strip_prefix(event) {
-            Some(rest) => match rest.strip_prefix(&[0xB8, 0x3C, 0x00, 0x00, 0x00, 0xE9]) {
-                Some(back) => back.len() == 4,
-                None => false,
-            },
-            None => false,
-        },
-        Err(_) => false,
-    }
+/// The trampoline at 0x21000 of `mov eax, 60` at 0x401000, whose event has a condition.
+fn conditional(base: Base, when: Comparisons, number: u32) -> Option<Result<Code, NotRelocatable>>
+    requires when { AreComparisons (listed when) }
+    requires number { number < most_sites }
+{
+    let bytes: &[u8] = &[0xB8, 0x3C, 0x00, 0x00, 0x00];
+    let insn = whole_form(bytes)?;
+    Some(thread_trampoline(
+        Some(base),
+        Some(when),
+        &insn,
+        bytes,
+        0x401000,
+        0x21000,
+        number,
+        0x20000,
+    ))
 }
+
+/// What counts in the trampoline of site 0, where rax is 5 and r9 is below 256.
+const COUNTING: [u8; 55] = [
+    0x48, 0x89, 0x84, 0x24, 0x78, 0xFF, 0xFF, 0xFF, 0x9F, 0x0F, 0x90, 0xC0, 0x48, 0x81, 0xBC, 0x24,
+    0x78, 0xFF, 0xFF, 0xFF, 0x05, 0x00, 0x00, 0x00, 0x75, 0x12, 0x49, 0x81, 0xF9, 0x00, 0x01, 0x00,
+    0x00, 0x73, 0x09, 0xF0, 0x48, 0xFF, 0x04, 0x25, 0x40, 0x00, 0x02, 0x00, 0x04, 0x7F, 0x9E, 0x48,
+    0x8B, 0x84, 0x24, 0x78, 0xFF, 0xFF, 0xFF,
+];
+
+/// What covers in the trampoline of site 3, where rsp is above 0x1000.
+const COVERING: [u8; 40] = [
+    0x48, 0x89, 0x84, 0x24, 0x78, 0xFF, 0xFF, 0xFF, 0x9F, 0x0F, 0x90, 0xC0, 0x48, 0x81, 0xFC, 0x00,
+    0x10, 0x00, 0x00, 0x76, 0x08, 0xC6, 0x04, 0x25, 0x43, 0x00, 0x02, 0x00, 0x01, 0x04, 0x7F, 0x9E,
+    0x48, 0x8B, 0x84, 0x24, 0x78, 0xFF, 0xFF, 0xFF,
+];
 
 #[test]
 fn codes_under_conditions(rt: HostRuntime) {
-    let bytes: &[u8] = &[0xB8, 0x3C, 0x00, 0x00, 0x00];
-    let Some(insn) = whole_form(bytes) else {
-        return;
-    };
     let both = Comparisons::Two(RAX_IS_5, R9_IS_LOW);
-    let counted = thread_trampoline(
-        Some(Base::Count),
-        Some(both),
-        &insn,
-        bytes,
-        0x401000,
-        0x21000,
-        0,
-        0x20000,
-    );
-    assert!(rt;
-        begins(
-            counted,
-            &[
-                0x48, 0x89, 0x84, 0x24, 0x78, 0xFF, 0xFF, 0xFF, 0x9F, 0x0F, 0x90, 0xC0, 0x48, 0x81,
-                0xBC, 0x24, 0x78, 0xFF, 0xFF, 0xFF, 0x05, 0x00, 0x00, 0x00, 0x75, 0x12, 0x49, 0x81,
-                0xF9, 0x00, 0x01, 0x00, 0x00, 0x73, 0x09, 0xF0, 0x48, 0xFF, 0x04, 0x25, 0x40, 0x00,
-                0x02, 0x00, 0x04, 0x7F, 0x9E, 0x48, 0x8B, 0x84, 0x24, 0x78, 0xFF, 0xFF, 0xFF,
-            ],
-        )
-    );
-    let covered = thread_trampoline(
-        Some(Base::Cover),
-        Some(Comparisons::One(RSP_IS_HIGH)),
-        &insn,
-        bytes,
-        0x401000,
-        0x21000,
-        3,
-        0x20000,
-    );
-    assert!(rt;
-        begins(
-            covered,
-            &[
-                0x48, 0x89, 0x84, 0x24, 0x78, 0xFF, 0xFF, 0xFF, 0x9F, 0x0F, 0x90, 0xC0, 0x48, 0x81,
-                0xFC, 0x00, 0x10, 0x00, 0x00, 0x76, 0x08, 0xC6, 0x04, 0x25, 0x43, 0x00, 0x02, 0x00,
-                0x01, 0x04, 0x7F, 0x9E, 0x48, 0x8B, 0x84, 0x24, 0x78, 0xFF, 0xFF, 0xFF,
-            ],
-        )
-    );
+    let counted = conditional(Base::Count, both, 0);
+    let after = [0xB8, 0x3C, 0x00, 0x00, 0x00, 0xE9, 0xC4, 0xFF, 0x3D, 0x00];
+    assert!(rt; works(counted, &COUNTING, &after));
+    let covered = conditional(Base::Cover, Comparisons::One(RSP_IS_HIGH), 3);
+    let after = [0xB8, 0x3C, 0x00, 0x00, 0x00, 0xE9, 0xD3, 0xFF, 0x3D, 0x00];
+    assert!(rt; works(covered, &COVERING, &after));
 }

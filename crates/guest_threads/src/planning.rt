@@ -5,7 +5,7 @@ ghost use Rattle.pun_base.specs.Actions.{IsAction};
 ghost use Rattle.pun_base.specs.Limits.{most_sites};
 ghost use Rattle.start_entries.specs.Laws.{IsBuilt};
 ghost use Rattle.site_turns.specs.Modes.{IsShared};
-ghost use Rattle.site_turns.specs.Planning.{Turns, IsRequestRefused};
+ghost use Rattle.site_turns.specs.Planning.{requested, Turns, IsRequestRefused};
 ghost use Rattle.guest_threads.specs.ThreadPlanning.{IsThreadPlanned, CanBuildThread, code_in};
 
 use code_bytes::code::Code;
@@ -73,20 +73,10 @@ pub fn plan_threads(
     requires action { IsAction action }
     requires shared { IsShared action }
     requires built { IsBuilt elf.now.bytes starts.now }
-    ensures planned { IfOk result (λ p. (turns : Turns) × IsThreadPlanned (record {
-      file = elf.now.bytes;
-      listed = starts.now;
-      sites = sites.now;
-      action = action;
-      reserves = reserves.now;
-    }) turns p) }
-    ensures refused { IfErr result (λ error. IsRequestRefused (record {
-      file = elf.now.bytes;
-      listed = starts.now;
-      sites = sites.now;
-      action = action;
-      reserves = reserves.now;
-    }) error) }
+    ensures planned { IfOk result (λ p. (turns : Turns) × IsThreadPlanned
+        (requested elf.now.bytes starts.now sites.now action reserves.now) turns p) }
+    ensures refused { IfErr result (λ error. IsRequestRefused
+        (requested elf.now.bytes starts.now sites.now action reserves.now) error) }
 {
     let TurnedSites { private, rows } = turn_sites(
         alloc,

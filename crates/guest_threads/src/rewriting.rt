@@ -157,13 +157,8 @@ pub fn rewrite_threads_reported<D: Desk>(
     requires action { IsAction action }
     requires shared { IsShared action }
     requires nothing { (D.seen desk.old).writing ≡ None }
-    ensures rewrites { ReportsThreads (record {
-      file = file.now;
-      starts = starts.now;
-      sites = sites.now;
-      action = action;
-      reserves = reserves.now;
-    }) name.now (D.seen desk.old) (D.seen desk.new) result }
+    ensures rewrites { ReportsThreads (sharing action file.now starts.now sites.now reserves.now)
+        name.now (D.seen desk.old) (D.seen desk.new) result }
     ensures stays { Stays (D.seen desk.old) (D.seen desk.new) }
 {
     let elf = read_elf(alloc, file)?;

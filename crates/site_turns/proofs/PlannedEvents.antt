@@ -2,7 +2,6 @@
 use Rattle.std.proofs.Common.{◌≡◌, ℕ, ◌+◌, ◌<◌, ◌≤◌, Bool, true, cond, List, [], ◌∷◌, map, length, Option, Some, None, refl, sym, ap, ◌∙◌, subst, arith}
 use Rattle.std.specs.Option.{is_some, option_map}
 use Rattle.std.specs.List.{AllByRecursion, flat_map}
-use Rattle.pun_base.specs.declared.action.Action.{Action}
 use Rattle.pun_base.specs.declared.range.Range.{Range}
 use Rattle.pun_base.specs.declared.tramp.Tramp.{Tramp}
 use Rattle.pun_base.specs.Limits.{most_sites}
@@ -92,10 +91,6 @@ all_ready r lead q t A few h =
     let s = something (code_size g l) (sized_by g.event_size l.tramp.event (entry_at g.entries l.tramp.start) led.displaced) in
     let fits = line_fits g d A l taken s.0 s.1 in
     record { number = omega (arith, n, long, few); displaced = led.displaced; size = s.0; sized = s.1; low = omega (arith, fits.0, fits.1) })
-
--- the request of a call
-abbrev pub requested : List ℕ → List StartEntry → List ℕ → Action → List Range → Request
-requested file es sites action reserves = record { file = file; listed = es; sites = sites; action = action; reserves = reserves }
 
 -- the code of an action's events can be made for all rows that were turned
 pub can_build : (s : EventSetting) (q : Request) (t : Turns) (private : Range) (rows : List ReportRow) → AreEntries (image_of q.file) q.listed

@@ -35,6 +35,11 @@ pub record Request : Type 0 where
   pub action : Action
   pub reserves : List Range
 
+-- The request of a call.
+abbrev pub requested : List ℕ → List StartEntry → List ℕ → Action → List Range → Request
+requested file listed sites action reserves =
+    record { file = file; listed = listed; sites = sites; action = action; reserves = reserves }
+
 -- The first site that isn't listed.
 abbrev pub first_unlisted : List StartEntry → List ℕ → Option ℕ
 first_unlisted es [] = None

@@ -6,7 +6,7 @@ ghost use Rattle.pun_base.specs.Limits.{most_sites};
 ghost use Rattle.elf_read.specs.Refusals.{refusal};
 ghost use Rattle.start_entries.specs.Laws.{IsBuilt};
 ghost use Rattle.site_turns.specs.Modes.{action_of, rules_of};
-ghost use Rattle.site_turns.specs.Planning.{Turns, IsTurned, IsPlanned, IsRequestRefused};
+ghost use Rattle.site_turns.specs.Planning.{requested, Turns, IsTurned, IsPlanned, IsRequestRefused};
 
 use crate::asking::{free_space, pages_for, unlisted};
 use crate::building::{EventSetting, build_all};
@@ -47,20 +47,10 @@ pub fn turn_sites(
     requires action { IsAction (action_of mode) }
     requires built { IsBuilt elf.now.bytes starts.now }
     ensures accepted { IfOk result (λ _. refusal 0x10000 elf.now.bytes ≡ None) }
-    ensures turned { IfOk result (λ p. (turns : Turns) × IsTurned (rules_of mode) (record {
-      file = elf.now.bytes;
-      listed = starts.now;
-      sites = sites.now;
-      action = action_of mode;
-      reserves = reserves.now;
-    }) turns p.private p.rows.items) }
-    ensures refused { IfErr result (λ error. IsRequestRefused (record {
-      file = elf.now.bytes;
-      listed = starts.now;
-      sites = sites.now;
-      action = action_of mode;
-      reserves = reserves.now;
-    }) error) }
+    ensures turned { IfOk result (λ p. (turns : Turns) × IsTurned (rules_of mode)
+        (requested elf.now.bytes starts.now sites.now (action_of mode) reserves.now) turns p.private p.rows.items) }
+    ensures refused { IfErr result (λ error. IsRequestRefused
+        (requested elf.now.bytes starts.now sites.now (action_of mode) reserves.now) error) }
 {
     if let Some(site) = unlisted(starts, sites) {
         return Err(TurnError::NotListed { site });
@@ -108,20 +98,10 @@ pub fn plan_all(
     requires few { length sites.now ≤ most_sites }
     requires action { IsAction action }
     requires built { IsBuilt elf.now.bytes starts.now }
-    ensures planned { IfOk result (λ p. (turns : Turns) × IsPlanned (record {
-      file = elf.now.bytes;
-      listed = starts.now;
-      sites = sites.now;
-      action = action;
-      reserves = reserves.now;
-    }) turns p) }
-    ensures refused { IfErr result (λ error. IsRequestRefused (record {
-      file = elf.now.bytes;
-      listed = starts.now;
-      sites = sites.now;
-      action = action;
-      reserves = reserves.now;
-    }) error) }
+    ensures planned { IfOk result (λ p. (turns : Turns) × IsPlanned
+        (requested elf.now.bytes starts.now sites.now action reserves.now) turns p) }
+    ensures refused { IfErr result (λ error. IsRequestRefused
+        (requested elf.now.bytes starts.now sites.now action reserves.now) error) }
 {
     let TurnedSites { private, rows } = turn_sites(
         alloc,

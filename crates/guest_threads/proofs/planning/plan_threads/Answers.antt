@@ -3,8 +3,7 @@ use Rattle.std.specs.List.{AllByRecursion}
 use Rattle.patch_report.specs.declared.row.ReportRow.{ReportRow}
 use Rattle.image_check.proofs.CodeAtStarts.{entries_built}
 use Rattle.site_turns.specs.PlannedState.{PlannedState}
-use Rattle.site_turns.specs.Planning.{Turns, lines_of, AreCodesBy}
-use Rattle.site_turns.proofs.PlannedEvents.{requested}
+use Rattle.site_turns.specs.Planning.{requested, Turns, lines_of, AreCodesBy}
 use Rattle.guest_threads.specs.declared.planning.ThreadSetting.{ThreadSetting}
 use Rattle.guest_threads.specs.ThreadPlanning.{CanBuildThread, IsThreadPlanned, code_in}
 use Rattle.guest_threads.proofs.ThreadPlans.{can_build}

@@ -4,9 +4,9 @@ use Rattle.patch_report.specs.declared.row.ReportRow.{ReportRow}
 use Rattle.image_check.proofs.CodeAtStarts.{entries_built}
 use Rattle.site_turns.specs.declared.building.EventSetting.{EventSetting}
 use Rattle.site_turns.specs.PlannedState.{PlannedState}
-use Rattle.site_turns.specs.Planning.{Turns, IsPlanned, lines_of, AreCodes}
+use Rattle.site_turns.specs.Planning.{requested, Turns, IsPlanned, lines_of, AreCodes}
 use Rattle.site_turns.specs.Turned.{CanBuild, events_case}
-use Rattle.site_turns.proofs.PlannedEvents.{requested, can_build, planned}
+use Rattle.site_turns.proofs.PlannedEvents.{can_build, planned}
 use Rattle.site_turns.proofs.plan.plan_all.Goals as goal
 
 pub build_all-requires : goal.build_all-requires

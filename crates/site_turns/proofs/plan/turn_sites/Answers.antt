@@ -1,23 +1,16 @@
-use Rattle.std.proofs.Common.{◌≡◌, ℕ, List, length, Option, Some, None, refl, sym, ap, ◌∙◌, subst, arith}
+use Rattle.std.proofs.Common.{◌≡◌, ℕ, length, Option, Some, None, refl, sym, ap, ◌∙◌, subst, arith}
 use Rattle.pun_base.specs.declared.action.Action.{Action}
-use Rattle.pun_base.specs.declared.range.Range.{Range}
 use Rattle.pun_base.specs.Least.{Least}
 use Rattle.address_space.specs.Fit.{FitsPages}
-use Rattle.start_entries.specs.declared.entry.StartEntry.{StartEntry}
 use Rattle.site_turns.specs.PrivateRange.{pages_for}
 use Rattle.site_turns.specs.Modes.{action_of}
-use Rattle.site_turns.specs.Planning.{Request, taken_at_first, private_pages}
+use Rattle.site_turns.specs.Planning.{requested, taken_at_first, private_pages}
 use Rattle.site_turns.proofs.RequestTurns.{fits_same, turns_done}
 use Rattle.site_turns.proofs.plan.turn_sites.Goals as goal
 
--- what is asked by the values of a call
-abbrev asked : List ℕ → List StartEntry → List ℕ → Action → List Range → Request
-asked file listed sites action reserves =
-    record { file = file; listed = listed; sites = sites; action = action; reserves = reserves }
-
 pub returns-in_default-least_pages-clause-refused : goal.returns-in_default-least_pages-clause-refused
 returns-in_default-least_pages-clause-refused c =
-    let q = asked c.args.elf.now.bytes c.args.starts.now c.args.sites.now (action_of c.args.mode) c.args.reserves.now in
+    let q = requested c.args.elf.now.bytes c.args.starts.now c.args.sites.now (action_of c.args.mode) c.args.reserves.now in
     let pages = c.pages_for-pages.result in
     let size : pages ≡ private_pages q = c.pages_for-pages.ensures.value ∙ ap (λ (z : Action). pages_for z (length c.args.sites.now)) c.action.ensures in (
       sym c.unlisted.ensures ∙ c.in_default.is,
@@ -29,7 +22,7 @@ returns-in_default-least_pages-clause-refused c =
 
 pub returns-clause-turned : goal.returns-clause-turned
 returns-clause-turned c =
-    let q = asked c.args.elf.now.bytes c.args.starts.now c.args.sites.now (action_of c.args.mode) c.args.reserves.now in
+    let q = requested c.args.elf.now.bytes c.args.starts.now c.args.sites.now (action_of c.args.mode) c.args.reserves.now in
     let pages = c.pages_for-pages.result in
     let some = c.pages_for-pages.ensures.some in
     let size : pages ≡ private_pages q = c.pages_for-pages.ensures.value ∙ ap (λ (z : Action). pages_for z (length c.args.sites.now)) c.action.ensures in

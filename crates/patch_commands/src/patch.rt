@@ -180,7 +180,9 @@ fn rewrite_listed<'a, D: Desk>(
             }
         }
         Form::ForThreads(action) => {
-            match rewrite_threads_reported(alloc, file, starts, sites, action, reserves, out, desk) {
+            match rewrite_threads_reported(
+                alloc, file, starts, sites, action, reserves, out, desk,
+            ) {
                 Ok(report) => Ok(report),
                 Err(error) => Err(rewrite_failure(error, out)),
             }

@@ -1,22 +1,14 @@
 -- The instructions of comparisons in an event: CMP and a short jump, and what both do.
-use Rattle.std.proofs.Common.{◌≡◌, ℕ, zero, suc, ◌+◌, ◌-◌, ◌*◌, ◌%◌, ◌^◌, ◌<◌, ◌≤◌, Bool, true, false, not, ◌&&◌, ◌||◌, eqb, cond, List, [], ◌∷◌, ◌++◌, length, length-append, Some, None, unwrap_or, refl, sym, ap, ap₂, ◌∙◌, subst, arith}
-use Rattle.std.specs.Prelude.{nat_lt, slice_index}
-use Rattle.std.specs.Int.{cast_signed, w8}
+use Rattle.std.proofs.Common.{◌≡◌, ℕ, zero, suc, ◌+◌, ◌-◌, ◌*◌, ◌%◌, ◌^◌, ◌<◌, ◌≤◌, Bool, true, false, not, cond, List, [], ◌∷◌, ◌++◌, length, length-append, Some, None, unwrap_or, refl, sym, ap, ap₂, ◌∙◌, subst, arith}
+use Rattle.std.specs.Prelude.{slice_index}
 use Rattle.std.proofs.lemmas.Bool.{and_parts, and_from, and_right}
-use Rattle.std.proofs.lemmas.Bool.Decides.{nat_tests}
-use Rattle.std.proofs.lemmas.Int.{ints}
 use Rattle.std.proofs.lemmas.List.{append_assoc}
 use Rattle.pun_base.specs.Actions.{AreComparisons}
 use Rattle.pun_base.specs.declared.action.CompareOp.{CompareOp}
-use Rattle.pun_base.specs.declared.action.CompareOp.TheVariants.{Eq, Ne, Lt, Le, Gt, Ge}
 use Rattle.pun_base.specs.declared.action.Comparison.{Comparison}
 use Rattle.cpu_alu.specs.declared.operation.Width.TheVariants.{W64}
 use Rattle.cpu_alu.specs.declared.operation.AluOp.TheVariants.{Sub}
-use Rattle.cpu_alu.specs.declared.flag_word.Flags.{Flags}
-use Rattle.cpu_alu.specs.Arithmetic.{arithmetic}
-use Rattle.cpu_alu.proofs.DifferenceFlags.{compared}
 use Rattle.cpu_state.specs.declared.state.Core.{Core}
-use Rattle.cpu_state.specs.Bytes.{advanced}
 use Rattle.length_decode.specs.declared.escape_bytes.Escape.TheVariants.{OneByte}
 use Rattle.length_decode.specs.Spelling.{Fields, IsFormed, IsInstruction, spelling}
 use Rattle.insn_form.specs.declared.form.Seg.TheVariants.{Plain}
@@ -29,13 +21,14 @@ use Rattle.insn_form.specs.declared.form.Insn.TheVariants.{Exact}
 use Rattle.insn_form.specs.Operands.{word_of, reg, place}
 use Rattle.insn_form.specs.Classes.{template}
 use Rattle.insn_form.specs.Filling.{filled, integer_of, immediate}
-use Rattle.insn_form.specs.Conditions.{is_met}
 use Rattle.insn_form.specs.Resolving.{absolute}
 use Rattle.insn_form.specs.Meaning.{effect}
 use Rattle.relocate_insn.specs.Pieces.{four}
-use Rattle.relocate_insn.proofs.PieceSteps.{absolute_word}
 use Rattle.cond_action.specs.Conditions.{compares, all_hold}
 use Rattle.cond_action.specs.Codes.{wide_prefix, compare_code, failing}
+use Rattle.trampoline.proofs.FlagEventInstructions.{AllUnder, under}
+use Rattle.trampoline.proofs.EventSteps.{goes_over}
+use Rattle.trampoline.proofs.ConditionEvents.{failing_low}
 use Rattle.thread_runs.specs.ThreadSteps.{thread_task}
 use Rattle.thread_runs.specs.ThreadCode.{compare_with, compare_len, checking_len, checking_code, slot}
 
@@ -77,17 +70,6 @@ pub record IsMade (f : Fields) (next : ℕ) (op : Op) : Type 0 where
   pub formed : IsFormed f
   pub insn : (thread_task f next).insn ≡ Exact op
 
--- something holds of each number below a bound
-abbrev AllUnder : ℕ → (ℕ → Type 0) → Type 0
-AllUnder zero P = Unit {0}
-AllUnder (suc k) P = AllUnder k (λ n. P (suc n)) × P 0
-
--- and so of one
-under : (k : ℕ) (P : ℕ → Type 0) → AllUnder k P → (n : ℕ) → n < k → P n
-under zero P all n h = absurd (omega (arith, h))
-under (suc k) P all zero h = all.1
-under (suc k) P all (suc n) h = under k (λ m. P (suc m)) all.0 n (omega (arith, h))
-
 -- CMP of each register is made so
 all_compares : (n next : ℕ) → AllUnder 16 (λ r. IsMade (compare_fields r n) next (compare_op r n))
 unfolding template filled
@@ -101,11 +83,6 @@ all_jumps d next = assumption (refl, tt)
 -- CMP of a register is made so
 pub compare_made : (r n next : ℕ) → r < 16 → IsMade (compare_fields r n) next (compare_op r n)
 compare_made r n next h = under 16 (λ z. IsMade (compare_fields z n) next (compare_op z n)) (all_compares n next) r h
-
--- the condition code of the jump behind a comparison is one of six
-failing_low : (op : CompareOp) → (2 ≤ failing op) × (failing op < 8)
-failing_low Eq = (omega arith, omega arith)
-failing_low op = (omega arith, omega arith)
 
 -- the jump behind a comparison is made so
 pub jump_made : (op : CompareOp) (d next : ℕ) → IsMade (over_fields (failing op) d) next (over_op (failing op) d next)
@@ -158,38 +135,6 @@ compare_told (suc r) n next c x = refl
 pub jump_told : (cc d next : ℕ) (c : Core) (x : ℕ) → ((effect (over_op cc d next) next c).out x).undefined ≡ 0
 unfolding effect
 jump_told cc d next c x = refl
-
--- The jump is taken exactly where the comparison fails, by the flags of a difference,
-fails_by : (op : CompareOp) (x n : ℕ) (f : Flags) → f.cf ≡ nat_lt x n → f.zf ≡ eqb x n → is_met (failing op) f ≡ not (compares op x n)
-unfolding is_met
-fails_by Eq x n f b e = ap not e
-fails_by Ne x n f b e = e ∙ grind (arith, nat_tests)
-fails_by Lt x n f b e = ap not b
-fails_by Le x n f b e = (λ j. not (b j) && not (e j)) ∙ grind (arith, nat_tests)
-fails_by Gt x n f b e = (λ j. b j || e j) ∙ grind (arith, nat_tests)
-fails_by Ge x n f b e = b ∙ grind (arith, nat_tests)
-
--- the flags of a difference
-abbrev pub flags_of : ℕ → ℕ → Flags → Flags
-flags_of x n f = (arithmetic Sub W64 (x % 2 ^ 64) n f).flags
-
--- which CMP leaves.
-pub fails : (op : CompareOp) (x n : ℕ) (f : Flags) → x < 2 ^ 64 → n < 2 ^ 31 → is_met (failing op) (flags_of x n f) ≡ not (compares op x n)
-fails op x n f h k =
-    let a : x % 2 ^ 64 % 2 ^ 64 ≡ x = omega (arith, h) in
-    let b : n % 2 ^ 64 ≡ n = omega (arith, k) in
-    let q = compared W64 (x % 2 ^ 64) n f in
-    fails_by op x n (flags_of x n f) (q.below ∙ λ j. nat_lt (a j) (b j)) (q.equal ∙ λ j. eqb (a j) (b j))
-
--- a short distance forward
-forward_word : (d : ℕ) → d < 128 → word_of (cast_signed w8 d) ≡ d
-forward_word d h = grind (arith, ints)
-
--- the address so many bytes further
-goes_over : (next d : ℕ) → next < 2 ^ 31 → d < 128 → word_of (absolute next (integer_of (d ∷ []))) ≡ next + d
-goes_over next d l h =
-    absolute_word next (integer_of (d ∷ [])) ∙ ap (λ z. advanced next z) (forward_word d h)
-    ∙ (let e : advanced next d ≡ next + d = omega arith in e)
 
 -- a target that is there where a jump is taken
 taken : (b : Bool) (t next : ℕ) → unwrap_or (cond b (Some t) None) next ≡ cond b t next

@@ -17,24 +17,18 @@ use Rattle.insn_form.specs.Machine.{Machine}
 use Rattle.insn_form.specs.Exactly.{after_op, HasOperands}
 use Rattle.relocate_insn.specs.Pieces.{four}
 use Rattle.relocate_insn.proofs.PieceSteps.{at_fixed, fixed_place}
+use Rattle.trampoline.proofs.EventPieces.{mark_fields, mark_is}
 use Rattle.thread_runs.specs.ThreadSteps.{thread_task, ThreadStepsBy}
 use Rattle.thread_runs.specs.ThreadCode.{mark_at}
 use Rattle.thread_runs.specs.Event.{AtStore, covered, IsCoverStep, CoverGoes}
 use Rattle.thread_runs.proofs.KnownCodeSteps.{IsKnown, known_fixed, known_step, known_told}
 
--- MOV byte [a], 1
-abbrev store_fields : ℕ → Fields
-store_fields a = record { prefixes = []; escape = OneByte; opcode = 0xc6; modrm = Some 0x04; sib = Some 0x25; disp = four a; imm = 1 ∷ [] }
-
+-- the operation of MOV byte [a], 1
 abbrev store_op : ℕ → Op
 store_op a = Mov W8 (Mem (at_fixed (four a))) (value.Imm 1)
 
--- its bytes are an instruction
-store_is : (a : ℕ) → IsInstruction (store_fields a)
-store_is a = record { formed = record { prefixes = refl; escape = refl; opcode = refl; known = refl; modrm = refl; operand = (refl, refl); imm = refl }; short = omega arith }
-
--- that instruction is the store
-store_insn : (a next : ℕ) → (thread_task (store_fields a) next).insn ≡ Exact (store_op a)
+-- the instruction of these bytes is the store
+store_insn : (a next : ℕ) → (thread_task (mark_fields a) next).insn ≡ Exact (store_op a)
 unfolding template filled
 store_insn a next = refl
 
@@ -48,8 +42,8 @@ module _ (p i at : ℕ) (v : Machine) (h : AtStore p i at v) where
   a = mark_at Cover p i
 
   -- the store is the next instruction
-  store_known : IsKnown v (store_fields a) (at + 8) (store_op a)
-  store_known = known_fixed v at (store_fields a) (at + 8) (store_op a) (store_is a) h.rip h.stands refl (omega (arith, h.low)) (store_insn a (at + 8)) (store_told a (at + 8) v)
+  store_known : IsKnown v (mark_fields a) (at + 8) (store_op a)
+  store_known = known_fixed v at (mark_fields a) (at + 8) (store_op a) (mark_is a) h.rip h.stands refl (omega (arith, h.low)) (store_insn a (at + 8)) (store_told a (at + 8) v)
 
   -- the state after it
   store_after : after_op v (at + 8) (store_op a) ≡ covered p i at v
@@ -63,10 +57,10 @@ module _ (p i at : ℕ) (v : Machine) (h : AtStore p i at v) where
 
 -- the step that is made at an event that covers is the store
 pub cover_step : IsCoverStep
-cover_step p i at v w h st = (known_told v (store_fields (mark_at Cover p i)) (at + 8) (store_op (mark_at Cover p i)) (store_known p i at v h) w st).1 ∙ store_after p i at v h
+cover_step p i at v w h st = (known_told v (mark_fields (mark_at Cover p i)) (at + 8) (store_op (mark_at Cover p i)) (store_known p i at v h) w st).1 ∙ store_after p i at v h
 
 -- where the byte can be written, there is this step
 pub cover_goes : CoverGoes
 cover_goes p i at v h w =
-    let f = store_fields (mark_at Cover p i) in
+    let f = mark_fields (mark_at Cover p i) in
     (f, subst (λ (z : Machine). ThreadStepsBy f v z) (store_after p i at v h) (known_step v f (at + 8) (store_op (mark_at Cover p i)) (store_known p i at v h) (store_operands p i at v h w)))

@@ -27,12 +27,14 @@ use Rattle.relocate_insn.specs.Pieces.{four}
 use Rattle.relocate_insn.proofs.PieceSteps.{at_fixed, fixed_place, pushed_word}
 use Rattle.cond_action.specs.Conditions.{compares, all_hold}
 use Rattle.cond_action.specs.Codes.{failing}
+use Rattle.trampoline.proofs.EventSteps.{flags_64}
+use Rattle.trampoline.proofs.ConditionEvents.{fails}
 use Rattle.thread_runs.specs.ThreadCode.{mark_at, mark_len, marking_len, compare_len, checking_len, slot}
 use Rattle.thread_runs.specs.Event.{Point, offset, checked, following, is_inside, IsGivingBack, Holds, IsDecided, InEvent, EventNext, IsEventStep, CanMark, EventGoes, IsSavedBack}
 use Rattle.thread_runs.specs.Event.Point.{At0, At1, At2, AtCompare, AtJump, At3, At4, At5, At6, At7}
 use Rattle.thread_runs.proofs.KnownCodeSteps.{known_step, known_told}
 use Rattle.thread_runs.proofs.EventCode.{mark_op, op_at, fields_at, insn_len, IsStraight, fit_at, long_at, ends_low, known_at}
-use Rattle.thread_runs.proofs.ComparisonCode.{below_red_zone, slot_place, compare_op, over_op, flags_of, fails, leads_over, checking_more, all_more, not_empty}
+use Rattle.thread_runs.proofs.ComparisonCode.{below_red_zone, slot_place, compare_op, over_op, leads_over, checking_more, all_more, not_empty}
 
 -- setting rax leaves each other register as it is
 reg_other : (c : Core) (r v : ℕ) → reg (with_reg c rax v) (suc r) ≡ reg c (suc r)
@@ -122,16 +124,16 @@ back c v f h a o r =
 -- the state after CMP: the flags are those of the difference, of the program's own number
 compare_state : (r n next : ℕ) (c : Core) (v : Machine) → IsProcessorCore c → n < 2 ^ 31 → place v.core below_red_zone ≡ slot c → number_at v.mem (slot c) 8 ≡ reg c rax
     → ((r : ℕ) → reg v.core (suc r) ≡ reg c (suc r))
-    → after_op v next (compare_op r n) ≡ record { core = with_flags v.core (flags_of (reg c r) n v.core.flags); rip = next; mem = v.mem; world = v.world }
+    → after_op v next (compare_op r n) ≡ record { core = with_flags v.core (flags_64 (reg c r) n v.core.flags); rip = next; mem = v.mem; world = v.world }
 unfolding effect
 compare_state zero n next c v h l s saved others =
     let q = pushed_word n l in
     let x : number_at v.mem (place v.core below_red_zone) 8 ≡ reg c 0 = ap (λ z. number_at v.mem z 8) s ∙ saved in
-    λ j. record { core = with_flags v.core (flags_of (x j) (q j) v.core.flags); rip = next; mem = v.mem; world = v.world }
+    λ j. record { core = with_flags v.core (flags_64 (x j) (q j) v.core.flags); rip = next; mem = v.mem; world = v.world }
 compare_state (suc r) n next c v h l s saved others =
     let q = pushed_word n l in
     let x = others r in
-    λ j. record { core = with_flags v.core (flags_of (x j) (q j) v.core.flags); rip = next; mem = v.mem; world = v.world }
+    λ j. record { core = with_flags v.core (flags_64 (x j) (q j) v.core.flags); rip = next; mem = v.mem; world = v.world }
 
 -- the state after the jump behind it
 jump_state : (cc d next : ℕ) (v : Machine) → next < 2 ^ 31 → d < 128
@@ -281,10 +283,10 @@ module _ (b : Base) (cs : List Comparison) (p i at : ℕ) (c : Core) (v : Machin
       subst (EventNext b cs p i at (AtCompare ds k es) c v) (sym (compare_state k.reg k.value to c v h.processor fit.1 (slot_at cs (AtCompare ds k es) c v.core h.core) h.saved others))
       (record {
         core = record {
-          flags = flags_of (reg c k.reg) k.value v.core.flags;
+          flags = flags_64 (reg c k.reg) k.value v.core.flags;
           rest = rest;
           met = fails k.op (reg c k.reg) k.value v.core.flags (h.processor.small k.reg) fit.1;
-          core = ap (λ z. with_flags z (flags_of (reg c k.reg) k.value v.core.flags)) h.core.core;
+          core = ap (λ z. with_flags z (flags_64 (reg c k.reg) k.value v.core.flags)) h.core.core;
         };
         decided = h.decided;
         rip = next_is (AtCompare ds k es) n tt;

@@ -18,7 +18,7 @@ use Rattle.insn_form.specs.Instruction.{insn_of}
 use Rattle.insn_form.specs.Displacing.{falls}
 use Rattle.relocate_insn.specs.Pieces.{four, push_code}
 use Rattle.relocate_insn.specs.Relocating.{relocated_by}
-use Rattle.cond_action.specs.Codes.{compare_code, failing}
+use Rattle.cond_action.specs.Codes.{compare_code, failing, mark_byte}
 use Rattle.trampoline.specs.Trampolines.{back_if}
 
 -- the counter of site i; p is the first address of the private range
@@ -47,13 +47,9 @@ counting_code a = 0xf0 ∷ 0x48 ∷ 0xff ∷ 0x04 ∷ 0x25 ∷ four a
 abbrev pub restoring_code : List ℕ
 restoring_code = 0x04 ∷ 0x7f ∷ 0x9e ∷ 0x48 ∷ 0x8b ∷ 0x84 ∷ 0x24 ∷ 0x78 ∷ 0xff ∷ 0xff ∷ 0xff ∷ []
 
--- MOV of 1 to the byte at an address
-abbrev pub covering_code : ℕ → List ℕ
-covering_code a = 0xc6 ∷ 0x04 ∷ 0x25 ∷ (four a ++ 1 ∷ [])
-
 -- the instruction that marks what an event of site i marks
 abbrev pub marking_code : Base → ℕ → ℕ → List ℕ
-marking_code Cover p i = covering_code (mark_at Cover p i)
+marking_code Cover p i = mark_byte (mark_at Cover p i)
 marking_code Count p i = counting_code (counter_at p i)
 
 -- how many bytes it has
@@ -91,7 +87,7 @@ saving_len b cs = 12 + checking_len cs + marking_len b + 11
 
 -- the event of site i under a condition, or under none, where it has no comparison: it covers by one store alone, or saves
 abbrev pub thread_event : Base → List Comparison → ℕ → ℕ → List ℕ
-thread_event Cover [] p i = covering_code (mark_at Cover p i)
+thread_event Cover [] p i = mark_byte (mark_at Cover p i)
 thread_event Cover (c ∷ cs) p i = saving_event Cover (c ∷ cs) p i
 thread_event Count cs p i = saving_event Count cs p i
 

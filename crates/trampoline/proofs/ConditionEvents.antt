@@ -49,15 +49,15 @@ fails_by Gt x n f b e = (λ j. b j || e j) ∙ grind (arith, nat_tests)
 fails_by Ge x n f b e = b ∙ grind (arith, nat_tests)
 
 -- which CMP leaves.
-fails : (op : CompareOp) (x n : ℕ) (f : Flags) → x < 2 ^ 64 → n < 2 ^ 31 → is_met (failing op) (flags_64 x n f) ≡ not (compares op x n)
+pub fails : (op : CompareOp) (x n : ℕ) (f : Flags) → x < 2 ^ 64 → n < 2 ^ 31 → is_met (failing op) (flags_64 x n f) ≡ not (compares op x n)
 fails op x n f h k =
     let a : x % 2 ^ 64 % 2 ^ 64 ≡ x = omega (arith, h) in
     let b : n % 2 ^ 64 ≡ n = omega (arith, k) in
     let q = compared W64 (x % 2 ^ 64) n f in
     fails_by op x n (flags_64 x n f) (q.below ∙ λ j. nat_lt (a j) (b j)) (q.equal ∙ λ j. eqb (a j) (b j))
 
--- its condition code is one of the six
-failing_low : (op : CompareOp) → (2 ≤ failing op) × (failing op < 8)
+-- the condition code of the jump behind a comparison is one of six
+pub failing_low : (op : CompareOp) → (2 ≤ failing op) × (failing op < 8)
 failing_low Eq = (omega arith, omega arith)
 failing_low op = (omega arith, omega arith)
 

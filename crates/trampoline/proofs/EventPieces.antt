@@ -34,10 +34,11 @@ use Rattle.trampoline.specs.Events.{add_one, put_slot, next_slot}
 use Rattle.trampoline.specs.Running.{BeginsWithNoJump}
 
 -- MOV byte [a], 1
-abbrev mark_fields : ℕ → Fields
+abbrev pub mark_fields : ℕ → Fields
 mark_fields a = record { prefixes = []; escape = OneByte; opcode = 0xc6; modrm = Some 0x04; sib = Some 0x25; disp = four a; imm = 1 ∷ [] }
 
-mark_is : (a : ℕ) → IsInstruction (mark_fields a)
+-- its bytes are an instruction
+pub mark_is : (a : ℕ) → IsInstruction (mark_fields a)
 mark_is a = record {
   formed = record { prefixes = refl; escape = refl; opcode = refl; known = refl; modrm = refl; operand = (refl, refl); imm = refl };
   short = omega arith;

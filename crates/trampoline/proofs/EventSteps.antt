@@ -140,7 +140,8 @@ compare_step o x f m at r n l k h c =
 forward_word : (d : ℕ) → d < 128 → word_of (cast_signed w8 d) ≡ d
 forward_word d h = grind (arith, ints)
 
-goes_over : (next d : ℕ) → next < 2 ^ 31 → d < 128 → word_of (absolute next (integer_of (d ∷ []))) ≡ next + d
+-- the address so many bytes further
+pub goes_over : (next d : ℕ) → next < 2 ^ 31 → d < 128 → word_of (absolute next (integer_of (d ∷ []))) ≡ next + d
 goes_over next d l h =
     absolute_word next (integer_of (d ∷ [])) ∙ ap (λ z. advanced next z) (forward_word d h)
     ∙ (let e : advanced next d ≡ next + d = omega arith in e)

@@ -114,12 +114,13 @@ record IsMade (p : Piece) (next : ℕ) : Type 0 where
   formed : IsFormed (fields_of p)
   insn : resolved_insn next (insn_of (fields_of p)) ≡ Exact (op_of p next)
 
--- what holds of each number below a bound holds of one
-abbrev AllUnder : ℕ → (ℕ → Type 0) → Type 0
+-- something holds of each number below a bound
+abbrev pub AllUnder : ℕ → (ℕ → Type 0) → Type 0
 AllUnder zero P = Unit {0}
 AllUnder (suc k) P = AllUnder k (λ n. P (suc n)) × P 0
 
-under : (k : ℕ) (P : ℕ → Type 0) → AllUnder k P → (n : ℕ) → n < k → P n
+-- what holds of each number below a bound holds of one
+pub under : (k : ℕ) (P : ℕ → Type 0) → AllUnder k P → (n : ℕ) → n < k → P n
 under zero P all n h = absurd (omega (arith, h))
 under (suc k) P all zero h = all.1
 under (suc k) P all (suc n) h = under k (λ m. P (suc m)) all.0 n (omega (arith, h))

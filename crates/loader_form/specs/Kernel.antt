@@ -1,19 +1,18 @@
 -- The kernel's replies to the stub's system calls, and the steps and runs of a machine that has this kernel. Theorems cite it. It is Linux
 -- for x86-64, which answers open, mmap, close and exit_group. The number of a call is in rax, its arguments are in rdi, rsi, rdx, r10, r8
 -- and r9.
-use Rattle.std.specs.Prelude.{◌≡◌, ◌⊎◌, ℕ, ◌+◌, ◌-◌, ◌^◌, ◌<◌, ◌≤◌, Bool, true, false, ◌&&◌, nat_le, nat_lt, if◌then◌else◌, List, [], ◌∷◌, ◌++◌, length, slice_index, Option, Some, None}
+use Rattle.std.specs.Prelude.{◌≡◌, ◌⊎◌, ℕ, ◌+◌, ◌-◌, ◌^◌, ◌<◌, ◌≤◌, true, false, ◌&&◌, nat_le, nat_lt, if◌then◌else◌, List, [], ◌∷◌, ◌++◌, length, slice_index, Option, Some, None}
 use Rattle.pun_base.specs.Memory.{Bytes}
 use Rattle.cpu_state.specs.declared.state.Core.{Core}
 use Rattle.cpu_state.specs.Bytes.{allows, byte_of}
 use Rattle.cpu_state.specs.Adding.{IsFree}
 use Rattle.length_decode.specs.Spelling.{Fields, spelling}
-use Rattle.insn_form.specs.declared.form.Insn.{Insn}
-use Rattle.insn_form.specs.declared.form.Insn.TheVariants.{Exact, Asked, Ending}
 use Rattle.insn_form.specs.Instruction.{insn_of}
 use Rattle.insn_form.specs.Operands.{reg, with_reg, rax, rcx, rdx}
 use Rattle.insn_form.specs.Machine.{Machine}
 use Rattle.insn_form.specs.Step.{IsAt, StepsBy, next_after}
 use Rattle.insn_form.specs.Runs.{nowhere}
+pub use Rattle.image_check.specs.Calls.{is_syscall}
 use Rattle.loader_form.specs.declared.kernel.MapAnswer.{MapAnswer}
 use Rattle.loader_form.specs.declared.kernel.MapAnswer.TheVariants as answer
 use Rattle.loader_form.specs.Stub.{path}
@@ -103,12 +102,6 @@ number_after call (answer.Failed e) number = number
 number_after Open (answer.Ok n) number = Some n
 number_after (Map place size offset) (answer.Ok n) number = number
 number_after Close (answer.Ok n) number = None
-
--- An instruction is SYSCALL.
-abbrev pub is_syscall : Insn → Bool
-is_syscall (Exact op) = false
-is_syscall (Asked form) = form.syscall
-is_syscall Ending = false
 
 -- The state after a call, even one that fails: rax has the answer, rcx the next address, r11 what
 -- the kernel leaves there.

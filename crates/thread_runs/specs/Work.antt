@@ -9,7 +9,7 @@ use Rattle.insn_form.specs.declared.form.Spot.TheVariants.{Reg}
 use Rattle.insn_form.specs.declared.form.Target.TheVariants.{Rel, Through}
 use Rattle.insn_form.specs.declared.form.Op.TheVariants.{Call}
 use Rattle.insn_form.specs.declared.form.Insn.{Insn}
-use Rattle.insn_form.specs.declared.form.Insn.TheVariants.{Exact, Asked, Ending}
+use Rattle.insn_form.specs.declared.form.Insn.TheVariants.{Exact}
 use Rattle.insn_form.specs.Operands.{reg, with_reg, rcx}
 use Rattle.insn_form.specs.Instruction.{insn_of}
 use Rattle.insn_form.specs.Displacing.{falls, goes_to}
@@ -20,6 +20,7 @@ use Rattle.thread_runs.specs.ThreadSteps.{thread_task, ThreadStepsBy, ThreadStep
 use Rattle.insn_form.specs.Alike.{AreAlike, IsAlike, writes_at, still}
 use Rattle.thread_runs.specs.ThreadCode.{thread_relocated, thread_work}
 use Rattle.trampoline.specs.Atomic.{thread_len}
+pub use Rattle.image_check.specs.Calls.{is_syscall}
 
 -- where a thread stands after its effect step: outside, where its instruction leads; at the jump
 -- back; at the jump after the PUSH of a call; or at MOV ecx after SYSCALL
@@ -35,12 +36,6 @@ left Out = 0
 left Back = 1
 left Jump = 1
 left Ecx = 2
-
--- the instruction is SYSCALL
-abbrev pub is_syscall : Insn → Bool
-is_syscall (Exact op) = false
-is_syscall (Asked form) = form.syscall
-is_syscall Ending = false
 
 -- the instruction is a call
 abbrev pub is_call : Insn → Bool

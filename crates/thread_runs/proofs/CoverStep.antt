@@ -1,10 +1,8 @@
 -- The one step of an event that covers.
-use Rattle.std.proofs.Common.{◌≡◌, ℕ, ◌+◌, [], ◌∷◌, Some, None, refl, ap, ◌∙◌, subst, arith}
+use Rattle.std.proofs.Common.{◌≡◌, ℕ, ◌+◌, [], ◌∷◌, None, refl, ap, ◌∙◌, subst, arith}
 use Rattle.pun_base.specs.declared.action.Base.TheVariants.{Cover}
 use Rattle.cpu_alu.specs.declared.operation.Width.TheVariants.{W8}
 use Rattle.cpu_state.specs.Bytes.{lacking, put_list}
-use Rattle.length_decode.specs.declared.escape_bytes.Escape.TheVariants.{OneByte}
-use Rattle.length_decode.specs.Spelling.{Fields, IsInstruction}
 use Rattle.insn_form.specs.declared.form.Spot.TheVariants.{Mem}
 use Rattle.insn_form.specs.declared.form.Value.TheVariants as value
 use Rattle.insn_form.specs.declared.form.Op.{Op}

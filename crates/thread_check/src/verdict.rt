@@ -1,7 +1,9 @@
 //! The verdict on a file that is patched for threads.
-ghost use Rattle.std.specs.Prelude.{◌≡◌, IfOk};
+ghost use Rattle.std.specs.Prelude.{◌≡◌, map, IfOk};
 ghost use Rattle.start_entries.specs.Laws.{IsBuilt};
 ghost use Rattle.image_check.specs.declared.verdict.Verdict.TheVariants.{Yes};
+ghost use Rattle.image_check.specs.Parts.{line_of};
+ghost use Rattle.image_check.specs.Reports as reports;
 ghost use Rattle.image_check.specs.Verdict.{case_of, case_in};
 ghost use Rattle.thread_check.specs.LineParts as parts;
 ghost use Rattle.thread_check.specs.LineParts.{IsLinesVerdict, IsImageVerdict};
@@ -12,7 +14,7 @@ use crate::line_rule::judge;
 use crate::places::first_overlap;
 use elf_read::elf::Elf;
 use image_check::checked::Checked;
-use image_check::flat::lines_of;
+use image_check::flat::{ReportLine, lines_of};
 use image_check::placed::by_place;
 use image_check::placed_code::PlacedCode;
 use image_check::rule::Rule;
@@ -62,23 +64,24 @@ fn judge_image(alloc: Global, checked: &Checked<'_>) -> Result<Verdict, AllocErr
     Ok(first_failure(byte, write, range, site, entry))
 }
 
-/// Judges the trampolines by rules 3 and 4, but for what follows where the other rules hold.
+/// Judges the trampolines of a report, which are these lines, by rules 3 and 4, but for what follows where the other rules hold.
 fn judge_lines(
     alloc: Global,
     orig: &Elf<'_>,
     patched: &Elf<'_>,
     starts: &Starts,
     report: &Report,
+    lines: &[ReportLine],
 ) -> Result<Verdict, AllocError>
     requires built { IsBuilt orig.now.bytes starts.now }
+    requires lines { map line_of lines.now ≡ reports.lines report.now.body }
     ensures { IfOk result (λ v. IsLinesVerdict
         (case_of orig.now.bytes patched.now.bytes starts.now report.now.body) v) }
 {
     report.keeps();
     let _accepted = orig.file();
-    let lines = lines_of(alloc, report)?;
     let mut codes = Vec::new(alloc);
-    for line in lines.as_slice() {
+    for line in lines {
         match judge(orig, patched, starts, report, line) {
             Ok(bytes) => {
                 let _fits = bytes.as_slice();
@@ -132,7 +135,8 @@ pub fn check_threads(
     let _accepted = orig.file();
     let checked = Checked::new(alloc, orig, patched, starts, report)?;
     let image = judge_image(alloc, &checked)?;
-    let lines = judge_lines(alloc, orig, patched, starts, report)?;
+    let lines = lines_of(alloc, report)?;
+    let tramps = judge_lines(alloc, orig, patched, starts, report, lines.as_slice())?;
     let low = u64::from(report.private().lo);
-    Ok(whole(is_shared(report.action()), low, image, lines))
+    Ok(whole(is_shared(report.action()), low, image, tramps))
 }

@@ -13,12 +13,12 @@ pub returns-clause-verdict : goal.returns-clause-verdict
 returns-clause-verdict c =
     let k = case_of c.args.orig.now.bytes c.args.patched.now.bytes c.args.starts.now c.args.report.now.body in
     let v = c.in_ok-image.image in
-    let w = c.in_ok-lines.lines in
+    let w = c.in_ok-tramps.tramps in
     let low = c.from-low.ensures ∙ ap (λ x. x.0) c.private.ensures in
     subst (λ (z : Verdict). IsThreadVerdict k z)
     (sym (c.whole.ensures ∙ ap (λ b. whole b c.from-low.result v w) (c.is_shared.ensures ∙ ap is_shared c.action.ensures)))
     (whole_verdict k c.from-low.result v w low (subst (λ (z : Case). IsImageVerdict z v) c.in_ok-checked.ensures c.in_ok-image.ensures)
-    c.in_ok-lines.ensures)
+    c.in_ok-tramps.ensures)
 
 pub returns-clause-followed : goal.returns-clause-followed
 returns-clause-followed c =

@@ -1,4 +1,4 @@
-use Rattle.std.proofs.Common.{List, false, map, refl, sym, ap, ◌∙◌, subst}
+use Rattle.std.proofs.Common.{List, false, refl, sym, subst}
 use Rattle.std.specs.List.{AllByRecursion}
 use Rattle.list_text.proofs.WordParts.{all_appended}
 use Rattle.patch_report.proofs.LongerFronts.{mapped_more}
@@ -12,20 +12,18 @@ use Rattle.thread_check.proofs.verdict.judge_lines.Goals as goal
 
 pub judge-requires-clause-low : goal.judge-requires-clause-low
 judge-requires-clause-low c =
-    (line_low c.args.report.now.body c.as_slice-line-items.result.now c.loop-line.line-index _ c.keeps.ensures.told
-    (ap (map line_of) c.as_slice-line-items.ensures.value ∙ c.in_ok-lines.ensures) c.loop-line-test.true).1
+    (line_low c.args.report.now.body c.args.lines.now c.loop-line.line-index _ c.keeps.ensures.told c.requires.lines c.loop-line-test.true).1
 
 pub returns-in-Err : goal.returns-in-Err
 returns-in-Err c =
     line_settles (case_of c.args.orig.now.bytes c.args.patched.now.bytes c.args.starts.now c.args.report.now.body) _ c.in-Err.verdict
-    (line_low c.args.report.now.body c.as_slice-line-items.result.now c.loop-line.line-index _ c.keeps.ensures.told
-    (ap (map line_of) c.as_slice-line-items.ensures.value ∙ c.in_ok-lines.ensures) c.loop-line-test.true).0 c.in-Err.ensures
+    (line_low c.args.report.now.body c.args.lines.now c.loop-line.line-index _ c.keeps.ensures.told c.requires.lines c.loop-line-test.true).0 c.in-Err.ensures
 
 pub loop-line-preserved : goal.loop-line-preserved
 loop-line-preserved c =
     let f : PlacedCode → Line = λ p. line_of p.line in
     let P : PlacedCode → Type 0 = IsSoundCode (case_of c.args.orig.now.bytes c.args.patched.now.bytes c.args.starts.now c.args.report.now.body) in (
-      mapped_more f line_of c.loop-line.codes.items c.push.new.self.items _ c.as_slice-line-items.result.now c.loop-line.line-index
+      mapped_more f line_of c.loop-line.codes.items c.push.new.self.items _ c.args.lines.now c.loop-line.line-index
           (record { number = 0; tramp = record { place = 0; start = 0; event = false } }) c.loop-line-test.true
           c.in_ok-push-in-Ok.ensures.items c.loop-line.invariant.0 refl,
       subst (λ (z : List PlacedCode). AllByRecursion P z) (sym c.in_ok-push-in-Ok.ensures.items)

@@ -7,5 +7,5 @@ use Rattle.thread_check.proofs.verdict.judge_lines.Given as goal
 
 abbrev pub invariant-loop-line : goal.invariant-loop-line
 invariant-loop-line l =
-    (map (λ p. line_of p.line) l.codes.items ≡ map line_of (take l.line-index l.line-items))
+    (map (λ p. line_of p.line) l.codes.items ≡ map line_of (take l.line-index l.lines))
     × AllByRecursion (IsSoundCode (case_of l.orig.bytes l.patched.bytes l.starts l.report.body)) l.codes.items

@@ -21,6 +21,9 @@
 
 enum { KNOWN_SIZE = 1 << 16, TRIES = 40, NO_CALL = 0xffff, LONGEST_TAIL = 12, IS_SHARED = 0x100, IS_THREAD = 0x10000, WAITS = 0x4000 };
 
+/* ERESTARTSYS, ERESTARTNOINTR, ERESTARTNOHAND and ERESTART_RESTARTBLOCK of the kernel. */
+enum { RESTARTS = 512, RESTARTS_ALWAYS = 513, RESTARTS_UNHANDLED = 514, RESTARTS_REST = 516 };
+
 static struct decoded *known;
 static char ending[40];
 static int keeps_evex;
@@ -103,6 +106,14 @@ static void finish_step(struct thread *it, struct user_regs_struct *after) {
     }
 }
 
+/* The stop that ends the step of a system call shows what the kernel answers itself, and no program sees, where a signal interrupted the
+   call. The call isn't over: as the thread goes on it enters the signal's handler, or where another thread has taken the signal meanwhile,
+   or it is ignored, makes the call again, and may wait in it for the other threads, which all stand still while one step is waited for. */
+static int is_interrupted(const struct user_regs_struct *after) {
+    int64_t answer = (int64_t)after->rax;
+    return answer == -RESTARTS || answer == -RESTARTS_ALWAYS || answer == -RESTARTS_UNHANDLED || answer == -RESTARTS_REST;
+}
+
 /* A thread has made its instruction, or a turn of it. */
 static void made(struct thread *it) {
     struct user_regs_struct after;
@@ -118,6 +129,10 @@ static void made(struct thread *it) {
         finish_step(it, &called);
         if (!is_over() && judge_return(it, &after))
             it->regs = after;
+        return;
+    }
+    if (is_syscall(&it->insn) && is_interrupted(&after)) {
+        step(it, 0);
         return;
     }
     put_right(it, &after);

@@ -243,13 +243,13 @@ static void stopped(pid_t tid, int status) {
         take_signal(it, WSTOPSIG(status));
 }
 
-/* Whether a stop came; with `waits` one is waited for. A thread of number 0 stands for any. */
-static int take_stop(pid_t tid, int waits) {
+/* Whether a stop came, of any thread, since where the process is killed its first thread ends last; with `waits` one is waited for. */
+static int take_stop(int waits) {
     int status;
-    pid_t found = waitpid(tid ? tid : -1, &status, __WALL | (waits ? 0 : WNOHANG));
+    pid_t found = waitpid(-1, &status, __WALL | (waits ? 0 : WNOHANG));
     if (found > 0)
         stopped(found, status);
-    else if (found < 0 && errno != ECHILD && errno != EINTR)
+    else if (found < 0 && errno != EINTR)
         die("the program can't be waited for");
     return found > 0;
 }
@@ -271,14 +271,26 @@ static int may_call(struct thread *it) {
     return 1;
 }
 
+/* Delivers the first signal that waited and isn't blocked now, as in a handler of its own number; whether there is one. */
+static int deliver_held(struct thread *it) {
+    uint64_t blocked;
+    if (ptrace(PTRACE_GETSIGMASK, it->tid, sizeof blocked, &blocked))
+        die("the blocked signals can't be read");
+    for (int at = 0; at < it->held_count; at++) {
+        siginfo_t info = it->held[at];
+        if (blocked >> (info.si_signo - 1) & 1)
+            continue;
+        memmove(it->held + at, it->held + at + 1, (--it->held_count - at) * sizeof *it->held);
+        deliver(it, &info, 0);
+        return 1;
+    }
+    return 0;
+}
+
 /* Lets a thread make its instruction. A system call that doesn't answer soon is left to itself. */
 static void make(struct thread *it) {
-    if (it->held_count && is_outside(it)) {
-        siginfo_t info = it->held[0];
-        memmove(it->held, it->held + 1, --it->held_count * sizeof *it->held);
-        deliver(it, &info, 0);
+    if (it->held_count && is_outside(it) && deliver_held(it))
         return;
-    }
     if (!decode(it)) {
         breaks(it, "is no instruction");
         return;
@@ -289,7 +301,7 @@ static void make(struct thread *it) {
     it->state = CALLS;
     step(it, 0);
     for (int tries = 0; it->state == CALLS && !is_over() && (!is_call || tries < TRIES); tries++)
-        if (!take_stop(it->tid, !is_call))
+        if (!take_stop(!is_call))
             sched_yield();
 }
 
@@ -318,7 +330,7 @@ static void run(uint64_t limit) {
         while (at < count && thread_number((last + 1 + at) % count)->state != READY)
             at++;
         if (at == count) {
-            take_stop(0, 1);
+            take_stop(1);
             continue;
         }
         last = (last + 1 + at) % count;
@@ -327,7 +339,7 @@ static void run(uint64_t limit) {
         for (at = 0; at < thread_count(); at++)
             calling |= thread_number(at)->state == CALLS || thread_number(at)->state == BORN;
         if (calling && !is_over())
-            take_stop(0, 0);
+            take_stop(0);
     }
     if (!*judged.broken && living_count())
         bring_out();

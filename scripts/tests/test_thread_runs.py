@@ -46,7 +46,7 @@ def check_kept(threads: int, deliveries: int, *words: str) -> None:
     assert (started, delivered) == (threads, deliveries) and events > 20 * (threads - 1), words
 
 
-KEEPING = [("NONE", 3, 0), ("FOUR", 5, 0), ("WRITTEN_BELOW", 3, 0), ("SIGNALS", 3, 18)]
+KEEPING = [("NONE", 3, 0), ("FOUR", 5, 0), ("WRITTEN_BELOW", 3, 0), ("SIGNALS", 3, 18), ("HELD", 3, 36)]
 
 
 @pytest.mark.parametrize("name, threads, deliveries", KEEPING)

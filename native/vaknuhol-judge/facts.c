@@ -23,6 +23,7 @@ static struct site *sites;
 static size_t count, room;
 static uint64_t private_at;
 static struct told told;
+static struct event event;
 
 /* The marks of a page's addresses; without `made` none where there are none yet. */
 static uint16_t *page_marks(uint64_t page, int made) {
@@ -86,6 +87,10 @@ const struct told *told_to_original(void) {
     return &told;
 }
 
+const struct event *every_event(void) {
+    return &event;
+}
+
 struct site *site_number(size_t number) {
     return &sites[number];
 }
@@ -95,7 +100,7 @@ size_t site_count(void) {
 }
 
 uint64_t mark_address(const struct site *site) {
-    return private_at + SCRATCH + site->number * (site->event == COUNTING ? 8 : 1);
+    return private_at + SCRATCH + site->number * event.size;
 }
 
 int original_code(uint64_t addr, uint8_t bytes[LONGEST]) {
@@ -136,7 +141,7 @@ static void add_site(struct site site) {
     set_marks(site.addr, SITE);
     set_marks(site.place + site.event, WORK);
     for (uint64_t at = 0; at < site.event; at++)
-        set_marks(site.place + at, EVENT | (site.event == COUNTING ? at < SAVED_FROM ? SAVES : HAS_SAVED : 0));
+        set_marks(site.place + at, EVENT | (event.recorded == site.event ? 0 : at < SAVED_FROM ? SAVES : HAS_SAVED));
 }
 
 /* Marks the bytes of the listed instructions, once all starts are known: one of unknown length reaches to the next start at most. */
@@ -159,6 +164,18 @@ static int by_place(const void *a, const void *b) {
     return (one > other) - (one < other);
 }
 
+/* Whether a line is one of what every event does. */
+static int is_event_line(const char *line) {
+    int at = event.comparison_count;
+    if (sscanf(line, "event %lu %lu", &event.recorded, &event.size) == 2)
+        return 1;
+    if (at == MOST_COMPARISONS || sscanf(line, "when %d %d %lu", &event.comparisons[at].reg, &event.comparisons[at].sign,
+                                         &event.comparisons[at].value) != 3)
+        return 0;
+    event.comparison_count++;
+    return 1;
+}
+
 void read_facts(const char *original, const char *facts) {
     char line[128];
     uint64_t *starts = 0, lo, hi;
@@ -178,7 +195,7 @@ void read_facts(const char *original, const char *facts) {
                 set_marks(lo, NEW);
         else if (sscanf(line, "site %lx %lx %lu %lu", &site.addr, &site.place, &site.number, &site.event) == 4)
             add_site(site);
-        else if (sscanf(line, "private %lx", &private_at) != 1 &&
+        else if (!is_event_line(line) && sscanf(line, "private %lx", &private_at) != 1 &&
                  sscanf(line, "told %lx %lu %lx", &told.headers_at, &told.header_count, &told.entry) != 3)
             die("the facts can't be read");
     }

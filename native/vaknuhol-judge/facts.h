@@ -9,10 +9,21 @@
    of an event, its first address where rax is saved, an address between save and restore; where relocated code begins; a stale byte. */
 enum mark { START = 1, KNOWN = 2, LISTED = 4, NEW = 8, SITE = 16, EVENT = 32, SAVES = 64, HAS_SAVED = 128, WORK = 256, STALE = 512 };
 
-enum { COUNTING = 32, COVERING = 8, LONGEST = 15 };
+enum { LONGEST = 15, MOST_COMPARISONS = 3 };
+
+/* What every event does: after how many of its bytes it has recorded, how many bytes it records in, and the condition under which it does:
+   registers, signs as == != < <= > >= are numbered from 0 on, and numbers. */
+struct event {
+    uint64_t recorded, size;
+    int comparison_count;
+    struct {
+        int reg, sign;
+        uint64_t value;
+    } comparisons[MOST_COMPARISONS];
+};
 
 /* A patched site: its instruction's address, its trampoline's place, its number; how many bytes its event has, where it has one; how many
-   effect steps were made of it, and how many threads ended before one. */
+   effect steps were made of it that are recorded, and how many threads ended before one. */
 struct site {
     uint64_t addr, place, number, event, effects, pending;
 };
@@ -22,8 +33,8 @@ struct told {
     uint64_t headers_at, header_count, entry;
 };
 
-/* Reads the original file and the facts, whose lines are: start ADDR; new LO HI; private ADDR; told HEADERS COUNT ENTRY; site ADDR PLACE
-   NUMBER EVENT. */
+/* Reads the original file and the facts, whose lines are: start ADDR; new LO HI; private ADDR; told HEADERS COUNT ENTRY; event RECORDED SIZE,
+   and when REG SIGN VALUE for each comparison; behind these site ADDR PLACE NUMBER EVENT. */
 void read_facts(const char *original, const char *facts);
 
 unsigned marks_of(uint64_t addr);
@@ -34,11 +45,12 @@ void clear_marks(uint64_t lo, uint64_t hi, unsigned bits);
 uint64_t first_marked(uint64_t lo, uint64_t hi, unsigned bits);
 
 const struct told *told_to_original(void);
+const struct event *every_event(void);
 
 /* The site in whose trampoline an address lies up to where its relocated code begins, or none. */
 struct site *site_at(uint64_t addr);
 
-/* The site of a number here, below the count of sites, and the address of what its event marks. */
+/* The site of a number here, below the count of sites, and the address of its record. */
 struct site *site_number(size_t number);
 size_t site_count(void);
 uint64_t mark_address(const struct site *site);

@@ -6,7 +6,7 @@
 #include <string.h>
 #include <ucontext.h>
 
-enum { BELOW_STACK = 136, SAVED = 8, RED_ZONE = 128, COUNTED_FROM = 21 };
+enum { BELOW_STACK = 136, SAVED = 8, RED_ZONE = 128 };
 
 /* An instruction and what it touched. */
 struct touched {
@@ -147,6 +147,18 @@ static void set_stale(const struct thread *thread, unsigned here, const struct t
                 clear_marks(it->accesses[at].lo, it->accesses[at].hi, STALE);
 }
 
+/* Whether an event records a thread that comes to it with these registers. */
+static int is_recorded(struct user_regs_struct regs) {
+    const struct event *event = every_event();
+    for (int at = 0; at < event->comparison_count; at++) {
+        uint64_t a = *slot(&regs, event->comparisons[at].reg), b = event->comparisons[at].value;
+        const int answers[] = { a == b, a != b, a < b, a <= b, a > b, a >= b };
+        if (!answers[event->comparisons[at].sign])
+            return 0;
+    }
+    return 1;
+}
+
 /* The projection goes on; it stands at a listed start. */
 static int goes_on(struct thread *thread, int is_kept, int is_work, uint64_t to) {
     if (is_kept)
@@ -184,7 +196,7 @@ int judge_step(struct thread *thread, struct user_regs_struct *after) {
             return breaks(thread, "is no instruction");
         const struct touched asked = touched_by(&original, thread, after);
         is_well = is_quiet(thread, &asked);
-        site->effects++;
+        site->effects += is_recorded(thread->regs);
         judged.events += site->event != 0;
     } else if (is_kept)
         is_well = is_quiet(thread, &made);
@@ -246,19 +258,24 @@ int judge_return(struct thread *thread, const struct user_regs_struct *after) {
 
 int judge_end(struct thread *thread) {
     if (marks_of(thread->insn.rip) & WORK)
-        site_at(thread->insn.rip)->pending++;
+        site_at(thread->insn.rip)->pending += is_recorded(thread->regs);
     if (!thread->clears || !leaves(thread, thread->clears, thread->clears + 4, "the end of it"))
         return !*judged.broken;
     clear_marks(thread->clears, thread->clears + 4, STALE);
     return 1;
 }
 
-/* How many threads stand at a site between what its event does and the effect step. */
+/* How many threads that are recorded stand at a site between what its event does and the effect step. Before the event's end rax is saved. */
 static uint64_t standing_at(const struct site *site) {
-    uint64_t found = 0, from = site->place + (site->event == COUNTING ? COUNTED_FROM : COVERING);
+    uint64_t found = 0, from = site->place + every_event()->recorded, end = site->place + site->event;
     for (int at = 0; at < thread_count(); at++) {
         const struct thread *thread = thread_number(at);
-        found += thread->state != GONE && from <= thread->regs.rip && thread->regs.rip <= site->place + site->event;
+        struct user_regs_struct came = thread->regs;
+        if (thread->state == GONE || came.rip < from || end < came.rip)
+            continue;
+        if (came.rip < end)
+            read_memory(thread->tid, saved_at(&came), &came.rax, SAVED);
+        found += is_recorded(came);
     }
     return found;
 }
@@ -269,10 +286,9 @@ int judge_counters(void) {
         uint64_t told = 0, made = site->effects + site->pending + standing_at(site);
         if (!site->event)
             continue;
-        if (!read_memory(living(), mark_address(site), &told, site->event == COUNTING ? 8 : 1) ||
-            told != (site->event == COUNTING ? made : made > 0)) {
-            snprintf(judged.broken, sizeof judged.broken, "the record of the site at %08lx is %lu, but %lu came by it", site->addr, told,
-                     made);
+        if (!read_memory(living(), mark_address(site), &told, every_event()->size) || told != (every_event()->size > 1 ? made : made > 0)) {
+            snprintf(judged.broken, sizeof judged.broken, "the record of the site at %08lx is %lu, but %lu came by it%s", site->addr, told,
+                     made, every_event()->comparison_count ? " with the condition met" : "");
             return 0;
         }
     }

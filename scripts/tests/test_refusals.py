@@ -81,13 +81,7 @@ PATCH: list[tuple[list[str], str]] = [
     (["lines", "--jumps", "--when", " and ".join(["rax > 0"] * 4)], "--when: 4 comparisons; a condition has at most 3"),
     (["lines", "--jumps", "--ring", "3", "--count"], "--ring: not allowed with argument --count"),
     (["lines", "--jumps", "--ring", "3", "--when", "rax > 0"], "--ring: not allowed with argument --when"),
-    *(
-        (
-            ["lines", "--jumps", "--threads", *it],
-            f"--threads: {NO_RING}; give neither --ring nor --when with it",
-        )
-        for it in (("--ring", "3"), ("--when", "rax > 0"), ("--count", "--when", "rax > 0"))
-    ),
+    (["lines", "--jumps", "--threads", "--ring", "3"], f"--threads: {NO_RING}; give no --ring with it"),
     (
         ["hlt", "--symbols", "stop"],
         "no site could be patched (NotRelocatable 1 NoPlan 0 Shared 0), so nothing is written: choose other blocks, "

@@ -36,7 +36,7 @@ CASES = (
 ACTIONS = {
     "count": ("count", "--no-threads"),
     "ring": ("ring", "64", "--own"),
-    "condition": ("count", "--when", "rdi < 1000000000", "--own"),
+    "condition": ("count", "--no-threads", "--when", "rdi < 1000000000", "--own"),
 }
 ELSEWHERE = re.compile(
     r"_dl_(early_allocate|get_origin|non_dynamic_init|find_object)|_dlfo_|__libc_setup_tls|sysmalloc|"
@@ -115,8 +115,14 @@ def test_counts_are_exact_although_handlers_come_in_between(counted) -> None:
     exact(stand_in(*ACTIONS["count"]))
 
 
-def test_cases_of_a_program_that_is_patched_for_threads_print_the_same(signals) -> None:
-    path = stand_in("count", "--threads", "--own")
+def test_counts_for_threads_where_a_condition_holds_are_exact_although_handlers_come_in_between(signals) -> None:
+    """It holds at each execution."""
+    exact(stand_in("count", "--threads", "--when", "rsp > 0 and rax >= 0"))
+
+
+@pytest.mark.parametrize("condition", [(), ("--when", "rdi < 1000000000 and rax != 5")], ids=["count", "condition"])
+def test_cases_of_a_program_that_is_patched_for_threads_print_the_same(signals, condition) -> None:
+    path = stand_in("count", "--threads", *condition, "--own")
     for case in ("counted", "faulting", "nested", "queued", "threads"):
         wanted, told = printed("./signals", case)[0], printed(path, case)[0]
         assert told == wanted, f"{case}: {told} and not {wanted}"

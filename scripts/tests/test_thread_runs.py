@@ -1,6 +1,7 @@
 """Runs of programs with threads, stepped and judged by the premises of their theorem: some that keep them, and small
 programs each of which breaks one of them."""
 import os
+import re
 import subprocess
 
 import pytest
@@ -46,11 +47,17 @@ def check_kept(threads: int, deliveries: int, *words: str) -> None:
     assert (started, delivered) == (threads, deliveries) and events > 20 * (threads - 1), words
 
 
+ACTIONS = {
+    "count": ["--count"],
+    "cover": [],
+    "count where": ["--count", "--when", "rax == 0 and rsp > 0"],
+    "cover where": ["--when", "rax != 1 and rbp < 99"],
+}
 KEEPING = [("NONE", 3, 0), ("FOUR", 5, 0), ("WRITTEN_BELOW", 3, 0), ("SIGNALS", 3, 18), ("HELD", 3, 36)]
 
 
 @pytest.mark.parametrize("name, threads, deliveries", KEEPING)
-@pytest.mark.parametrize("action", [["--count"], []], ids=["count", "cover"])
+@pytest.mark.parametrize("action", ACTIONS.values(), ids=ACTIONS)
 def test_threads_that_keep_the_premises(name, threads, deliveries, action):
     """A byte that was stale and is written may be read; handlers are entered and left outside of trampolines."""
     check_kept(threads, deliveries, *action, build(name, SOURCE)[0])
@@ -66,12 +73,15 @@ def test_threads_of_a_c_library_keep_the_premises(programs: Programs, threads):
 
 
 @pytest.mark.parametrize("name, what", BREAKING.items(), ids=BREAKING)
-def test_what_breaks_a_premise_first_is_told(name, what):
-    """By the last of three threads, at its label."""
+@pytest.mark.parametrize("action", ["count", "cover where"])
+def test_what_breaks_a_premise_first_is_told(name, what, action):
+    """By the last of three threads, at its label, whether the event saves rax to count or to compare. A condition has
+    its sites at the fronts of blocks, so what stands at the label may be displaced."""
     program, here = build(name, SOURCE)
     assert here is not None
-    line = judged("--count", program, status=1)
-    found = match(f"^{BROKEN.format(here=here[-8:], what=what)}$", line)
+    line = judged(*ACTIONS[action], program, status=1)
+    where = here[-8:] if action == "count" else "[0-9a-f]{8}"
+    found = match(f"^{BROKEN.format(here=where, what=what)}$", line)
     assert found[2] == "3" and int(found[1]) > 500, line
 
 
@@ -90,21 +100,28 @@ def test_a_long_run_is_judged_up_to_the_last_step():
     assert match(f"^{HOLD}", line)[1] == "900" and line.endswith("is right; the record ends there: --steps"), line
 
 
-def test_a_record_that_differs_from_the_steps_is_told():
-    """As of a site that the judge takes for another one."""
+OTHERS = {
+    "count": (r"(?<=\nsite )([0-9a-f]+) ([0-9a-f]+) 0 32", r"\1 \2 1 32", ""),
+    "count where": (r"(?<=\nwhen 0) 0 0", " 1 0", " with the condition met"),
+}
+
+
+@pytest.mark.parametrize("action, others", OTHERS.items(), ids=OTHERS)
+def test_a_record_that_differs_from_the_steps_is_told(action, others):
+    """As where the judge takes a site for another one, or the condition."""
     program, _ = build("NONE", SOURCE)
-    judged("--count", "--keep", "kept", program)
-    facts = read_text("kept/facts")
-    site = match(r"\nsite ([0-9a-f]+) [0-9a-f]+ 0 32", facts)
+    judged(*ACTIONS[action], "--keep", "kept", program)
+    facts, times = re.subn(others[0], others[1], read_text("kept/facts"))
+    assert times == 1, facts
     with open("facts", "w", encoding="ascii") as file:
-        file.write(facts[: site.end() - 4] + "1" + facts[site.end() - 3 :])
+        file.write(facts)
     words = ["result", program, "facts", "100000", "kept/patched"]
     subprocess.run([native_program("vaknuhol-judge"), *words], check=True)
-    form = "\ncounters the record of the site at ([0-9a-f]+) is ([0-9]+), but ([0-9]+) came by it\n"
-    told = match(form, read_text("result"))
-    assert int(told[1], 16) == int(site[1], 16) and told[2] != told[3], told
+    form = "\ncounters the record of the site at ([0-9a-f]+) is ([0-9]+), but ([0-9]+) came by it{}\n"
+    told = match(form.format(others[2]), read_text("result"))
+    assert f"\nsite {int(told[1], 16):x} " in facts and told[2] != told[3], told
 
 
 def test_a_ring_of_threads_is_refused():
     _, lines, told = replay("--threads", "--ring", "9", build("NONE", SOURCE)[0])
-    assert not lines and "no ring and no condition" in told and not os.path.exists("result"), told
+    assert not lines and "has no ring, which" in told and not os.path.exists("result"), told

@@ -20,7 +20,7 @@ COUNTED = {"*(long *)sum += i;": 4 * TIMES, "pthread_create(": 4, "pthread_join(
 PATCHED_FOR = "so it is patched for threads (--no-threads leaves that)\n"
 LAST = "threads.vak/last.record"
 MEANT = "--threads is meant for such a program\n"
-NO_RING = "--threads, which is meant for such a program, has no ring and no condition\n"
+NO_RING = "--threads, which is meant for such a program, has no ring\n"
 LOST = "several threads wrote this record, and what two do at once may be lost: "
 
 

@@ -9,7 +9,8 @@ crates/e9tool/out/e9tool of this repository, the one in PATH, or the unproved on
 
 With --threads e9tool's `threads` is called, with `form:loader` if the table would get too long: the program may have
 threads, and nothing recorded is lost. The files are PROGRAM.threads-cover.patched, or with --count
-PROGRAM.threads.patched, and so on.
+PROGRAM.threads.patched, with --when PROGRAM.threads-cover-when.patched or PROGRAM.threads-count-when.patched, and so
+on.
 
 The exit status is 0 if each chosen block is patched, 1 if some were left, and 2 if something is refused.
 """
@@ -38,8 +39,8 @@ def parse() -> argparse.Namespace:
                         help="the folder to write to, in place of PROGRAM.vak")
     words = parser.parse_args()
     words.action = action_of_words(parser, words)
-    if words.threads and (words.action.is_ring or not words.action.of_all):
-        parser.error(f"--threads: {NO_RING}; give neither --ring nor --when with it")
+    if words.threads and words.action.is_ring:
+        parser.error(f"--threads: {NO_RING}; give no --ring with it")
     if len(words.reserve) > 250:
         parser.error(f"--reserve: {len(words.reserve)} ranges; at most 250 can be given")
     return words

@@ -51,7 +51,7 @@ def parse() -> argparse.Namespace:
     words.jumps = words.jumps or not (words.functions or words.blocks or words.symbols)
     if not 1 <= words.steps <= MOST_STEPS or words.every < 1:
         parser.error(f"--steps is from 1 to {MOST_STEPS}, and --every from 1 on")
-    if words.threads and (words.action.is_ring or not words.action.of_all):
+    if words.threads and words.action.is_ring:
         parser.error(f"--threads: {NO_RING}")
     words.program = os.path.realpath(shutil.which(words.program, mode=os.F_OK) or words.program)
     return words

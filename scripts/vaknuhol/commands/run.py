@@ -68,8 +68,8 @@ def add_words(level: Level, name: str) -> None:
 
 def refuse_threads(words: argparse.Namespace) -> None:
     """What threads can't share is refused."""
-    if words.threads and (words.slots or words.when):
-        raise Refusal(f"--threads: {NO_RING}: vaknuhol cover and vaknuhol count take it, without --when")
+    if words.threads and words.slots:
+        raise Refusal(f"--threads: {NO_RING}: vaknuhol cover and vaknuhol count take it")
 
 
 def refuse_fast(words: argparse.Namespace) -> None:
@@ -100,7 +100,7 @@ def prepare_folder(folder: str) -> None:
 
 def choose_threads(words: argparse.Namespace) -> None:
     """Where the words leave it open, a program that starts threads is patched for them, as far as its record can be."""
-    if words.threads is None and not words.slots and not words.when:
+    if words.threads is None and not words.slots:
         started = started_by(words.program, words.into or folder_of(words.program))
         words.threads = bool(started)
         if started:

@@ -47,7 +47,7 @@ class Action(abc.ABC):
     """An action: its name, the part of files' names that stands for it, and the form of its data."""
     name: str
     file_part: str
-    is_ring, adds, of_all = False, False, True
+    is_ring, adds = False, False
     condition: str | None = None
     comparisons: Sequence[Comparison] = ()
     registers: frozenset[str] = frozenset()
@@ -65,7 +65,7 @@ class Counting(Action):
     """Cover or count, of all executions or of those that meet a condition: a number for each site."""
 
     def __init__(self, base: str, condition: str | None = None) -> None:
-        self.of_all, self.condition = condition is None, condition
+        self.condition = condition
         self.adds, self.typecode = base == "count", "Q" if base == "count" else "B"
         self.name, self.file_part = (base, base) if condition is None else (f"{base} when {condition}", f"{base}-when")
         texts = [] if condition is None else condition.split(AND)

@@ -3,8 +3,8 @@
 Of `prog` with the action `count` they are `prog.vak/prog.count.` with these endings: `starts`, `sites`, `patched`,
 `report`, and `blocks`, which has the hashes and for each block its first address, its end, and its site. With a ring
 they are `prog.vak/prog.ring.`, whatever its length, and with a condition `prog.vak/prog.cover-when.` or
-`prog.vak/prog.count-when.` Of a patch for threads they are `prog.vak/prog.threads.`, or where it covers
-`prog.vak/prog.threads-cover.`
+`prog.vak/prog.count-when.` Of a patch for threads they are `prog.vak/prog.threads.`, or
+`threads-cover`, `threads-cover-when` and `threads-count-when`.
 """
 import itertools
 import os
@@ -28,7 +28,7 @@ def file_part_of(action: Action, threads: bool) -> str:
     """The part of files' names that stands for an action, and for threads."""
     if not threads:
         return action.file_part
-    return "threads" if action.adds else f"threads-{action.file_part}"
+    return "threads" if action.name == "count" else f"threads-{action.file_part}"
 
 
 class RunFiles:

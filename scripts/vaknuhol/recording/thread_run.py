@@ -12,12 +12,13 @@ from vaknuhol.native import program as native_program
 from vaknuhol.outputs import write_whole
 from vaknuhol.program.listing import Listing
 from vaknuhol.program.program_file import PT_LOAD, read_bytes, read_text
+from vaknuhol.recording.event_undo import recorded_at, undo_of
 from vaknuhol.recording.original_headers import told_to_original
 from vaknuhol.recording.patch_report import Report
 from vaknuhol.recording.patching import RESERVES, find_tool, threads_action
+from vaknuhol.recording.run_file import comparisons_of
 from vaknuhol.recording.run_recorder import ENDS, NOT_RECORDED
 
-EVENT_LENGTHS = {"count": 32, "cover": 8}
 NO_EVENT = "0 0"
 COUNTED = {"yes": "the record is right", "gone": "its record can't be read any more"}
 ENDINGS = {**ENDS, "process": "there it starts a process that shares its memory, which is no thread"}
@@ -50,9 +51,11 @@ def write_facts(original: str, listing: Listing, folder: str) -> None:
     lines = [f"start {addr:x}" for addr in listing.addr]
     lines += [f"new {low:x} {high:x}" for low, high in new_ranges(original, f"{folder}/patched")]
     headers, count, entry = told_to_original(report, f"{folder}/patched")
-    lines += [f"private {report.private:x}", f"told {headers:x} {count} {entry:x}"]
-    lines += [f"site {start:x} {place:x} "
-              f"{NO_EVENT if number is None else f'{number} {EVENT_LENGTHS[report.action.name]}'}"
+    lines += [f"private {report.private:x}", f"told {headers:x} {count} {entry:x}",
+              f"event {recorded_at(report.action)} {report.action.length(1)}"]
+    lines += [f"when {register} {sign} {value}" for register, sign, value in comparisons_of(report.action)]
+    length = len(undo_of(report.action, True))
+    lines += [f"site {start:x} {place:x} {NO_EVENT if number is None else f'{number} {length}'}"
               for place, start, number in report.trampolines()]
     write_whole({f"{folder}/facts": "\n".join(lines) + "\n"})
 

@@ -16,7 +16,7 @@ from vaknuhol.recording.actions import Action
 from vaknuhol.recording.block_choice import read_original
 from vaknuhol.recording.record_file import Record
 
-NO_RING = "a patch for threads has no ring and no condition, which threads can't share"
+NO_RING = "a patch for threads has no ring, which threads can't share"
 # What goes wrong in a program with threads: the events of all actions but cover save registers in the private range.
 SHARING = "threads share what an event or a displaced call saves registers in"
 KEPT = "threads.json"
@@ -25,8 +25,8 @@ STARTING = r"pthread_create(@.*)?|thrd_create"
 
 def meant(action: Action) -> str:
     """What a user is told to do whose program has threads."""
-    if action.is_ring or not action.of_all:
-        return "--threads, which is meant for such a program, has no ring and no condition"
+    if action.is_ring:
+        return "--threads, which is meant for such a program, has no ring"
     return "--threads is meant for such a program"
 
 

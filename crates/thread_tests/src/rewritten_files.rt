@@ -12,7 +12,7 @@ use guest_threads::rewriting::{
 use patch_report::origin::Origin;
 use patch_report::report::Report;
 use patch_report::row::ReportRow;
-use pun_base::action::{Action, Base};
+use pun_base::action::Action;
 use pun_base::byte_list::ByteList;
 use pun_base::desk::Desk;
 use pun_base::memory_desk::MemDesk;
@@ -76,7 +76,7 @@ fn loaded<D: Desk>(
     requires { (D.seen desk.old).writing ≡ None }
 {
     let file = ordered_file(alloc, text, starts, sites)?;
-    rewrite_threads_loader(alloc, &file, starts, sites, Base::Count, &[], "O", desk).ok()
+    rewrite_threads_loader(alloc, &file, starts, sites, Action::Count, &[], "O", desk).ok()
 }
 
 /// The place of the only row's only trampoline, and its site's number.

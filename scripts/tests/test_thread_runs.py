@@ -47,7 +47,7 @@ def check_kept(threads: int, deliveries: int, *words: str) -> None:
     assert (started, delivered) == (threads, deliveries) and events > 20 * (threads - 1), words
 
 
-ACTIONS = {
+ACTIONS: dict[str, list[str]] = {
     "count": ["--count"],
     "cover": [],
     "count where": ["--count", "--when", "rax == 0 and rsp > 0"],

@@ -10,7 +10,8 @@ __asm__(".globl come; .type come, @function; come: adc $0x10000, %rax; ret; .siz
 static void *turns(void *sum) {
   for (long turn = 0, rax = 0; turn < TIMES; turn++, *(long *)sum += rax) {
     rax = turn;
-    __asm__ volatile("lea -128(%%rsp), %%rsp; cmp $50, %%rsi; call come; lea 128(%%rsp), %%rsp" : "+a"(rax) : "D"((long *)sum - sums), "S"(turn) : "cc", "memory");
+    __asm__ volatile("lea -128(%%rsp), %%rsp; cmp $50, %%rsi; call come; lea 128(%%rsp), %%rsp"
+                     : "+a"(rax) : "D"((long *)sum - sums), "S"(turn) : "cc", "memory");
   }
   return NULL;
 }

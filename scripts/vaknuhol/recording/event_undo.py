@@ -36,8 +36,8 @@ def recorded_at(action: Action) -> int:
 
 
 def of_threads(action: Action) -> Steps:
-    """The flags are in AH and AL where a comparison or LOCK INC has changed them; ADD has changed AL behind it, and SAHF
-    gives them back."""
+    """The flags are in AH and AL where a comparison or LOCK INC has changed them. Behind it ADD has changed AL, and
+    SAHF gives them back."""
     recorded, saved = recorded_at(action), RAX_IS_KEPT | FLAGS_CHANGED
     if recorded < SAVING:
         return COVER

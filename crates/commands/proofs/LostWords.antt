@@ -12,9 +12,9 @@ use Rattle.command_io.proofs.ReadingEnds.{Agree, inspected}
 use Rattle.inspect_commands.proofs.CheckVerdicts.{check_agrees}
 use Rattle.inspect_commands.proofs.StepVerdicts.{step_agrees}
 use Rattle.command_io.specs.Verdict.{patching}
-use Rattle.patch_commands.specs.Answers.{patch_writing, Patches}
-use Rattle.patch_commands.specs.LoadAnswers.{with_stub, load_writing, Loads}
-use Rattle.patch_commands.specs.ThreadsAnswers.{for_threads, for_threads_with_stub, thread_patching, threads_writing, PatchesThreads, reported_writing, PatchesReported, threads_loaded_writing, LoadsThreads}
+use Rattle.patch_commands.specs.Answers.{form_writing, patch_writing, Patches}
+use Rattle.patch_commands.specs.LoadAnswers.{with_stub, Loads}
+use Rattle.patch_commands.specs.ThreadsAnswers.{for_threads, for_threads_with_stub, thread_patching, threads_writing, PatchesThreads, PatchesReported, LoadsThreads}
 use Rattle.patch_commands.specs.UnpatchAnswers.{unpatch_writing}
 use Rattle.commands.specs.Reversal.{Unpatches}
 use Rattle.command_words.proofs.CommandForms.{known_of}
@@ -44,14 +44,14 @@ words_lost words (Step n count) s k e =
     inspecting_lost (step_inputs n) StepAccepts StepRefuses (StepTells count) IsStepStatus (step_agrees count) s k
 words_lost words (Gen seed blocks) s k e = record { untouched = refl; told = inr (refl, refl) }
 words_lost words (Load n action reserves) s k e =
-    let p = patching n action reserves in lost (load_writing p) (Loads p) (form_ended with_stub p (known_of words (Load n action reserves) e).0) s k
+    let p = patching n action reserves in lost (form_writing with_stub p) (Loads p) (form_ended with_stub p (known_of words (Load n action reserves) e).0) s k
 words_lost words (Threads n reserves) s k e =
     let p = thread_patching n reserves in lost (threads_writing p) (PatchesThreads p) (threads_ended p) s k
 words_lost words (ThreadsReported n action reserves) s k e =
     let p = patching n action reserves in
-    lost (reported_writing action p) (PatchesReported action p) (form_ended (for_threads action) p (known_of words (ThreadsReported n action reserves) e).0) s k
+    lost (form_writing (for_threads action) p) (PatchesReported action p) (form_ended (for_threads action) p (known_of words (ThreadsReported n action reserves) e).0) s k
 words_lost words (ThreadsLoaded n action reserves) s k e =
     let p = patching n action reserves in
-    lost (threads_loaded_writing action p) (LoadsThreads action p)
+    lost (form_writing (for_threads_with_stub action) p) (LoadsThreads action p)
     (form_ended (for_threads_with_stub action) p (known_of words (ThreadsLoaded n action reserves) e).0) s k
 words_lost words (Unpatch n) s k e = lost (unpatch_writing n) (Unpatches n) (unpatch_ended n) s k

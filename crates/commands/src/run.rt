@@ -11,8 +11,8 @@ use command_words::words::{Command, read_words};
 use inspect_commands::check::check;
 use inspect_commands::gen_command;
 use inspect_commands::step::step;
-use patch_commands::load::load;
 use patch_commands::patch::patch;
+use patch_commands::patching::Form;
 use patch_commands::{threads_command, unpatch_command};
 use pun_base::desk::Desk;
 use pun_base::sink::Sink;
@@ -39,7 +39,11 @@ pub fn run<D: Desk, K: Sink>(alloc: Global, words: &[String], desk: &mut D, out:
                 action,
                 reserves,
             },
-        ) => tell(alloc, patch(alloc, &names, action, &reserves, desk), out),
+        ) => tell(
+            alloc,
+            patch(alloc, Form::Plain(action), &names, &reserves, desk),
+            out,
+        ),
         Ok(Command::Step { names, count }) => tell(alloc, step(alloc, &names, count, desk), out),
         Ok(Command::Check(names)) => tell(alloc, check(alloc, &names, desk), out),
         Ok(Command::Gen { seed, blocks }) => tell(
@@ -53,7 +57,11 @@ pub fn run<D: Desk, K: Sink>(alloc: Global, words: &[String], desk: &mut D, out:
                 action,
                 reserves,
             },
-        ) => tell(alloc, load(alloc, &names, action, &reserves, desk), out),
+        ) => tell(
+            alloc,
+            patch(alloc, Form::WithStub(action), &names, &reserves, desk),
+            out,
+        ),
         Ok(Command::Threads { names, reserves }) => tell(
             alloc,
             threads_command::patch_threads(alloc, &names, &reserves, desk),
@@ -67,7 +75,7 @@ pub fn run<D: Desk, K: Sink>(alloc: Global, words: &[String], desk: &mut D, out:
             },
         ) => tell(
             alloc,
-            threads_command::patch_reported(alloc, &names, action, &reserves, desk),
+            patch(alloc, Form::ForThreads(action), &names, &reserves, desk),
             out,
         ),
         Ok(
@@ -78,7 +86,13 @@ pub fn run<D: Desk, K: Sink>(alloc: Global, words: &[String], desk: &mut D, out:
             },
         ) => tell(
             alloc,
-            threads_command::patch_loaded(alloc, &names, action, &reserves, desk),
+            patch(
+                alloc,
+                Form::ForThreadsWithStub(action),
+                &names,
+                &reserves,
+                desk,
+            ),
             out,
         ),
         Ok(Command::Unpatch(names)) => tell(alloc, unpatch_command::undo(alloc, &names, desk), out),

@@ -1,4 +1,4 @@
--- What the commands that write a patched file and its report do in each form of the file. Contracts of private functions alone cite it.
+-- What the commands that write a patched file and its report do in each form of the file. Theorems cite it.
 use Rattle.std.specs.Prelude.{◌≡◌, List, ℕ, map, Result, Ok, Err}
 use Rattle.pun_base.specs.Shown.{DeskState}
 use Rattle.pun_base.specs.Ranges.{ends}

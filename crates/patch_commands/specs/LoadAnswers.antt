@@ -7,10 +7,9 @@ use Rattle.rewrite_loader.specs.declared.error.LoaderError.TheVariants as loader
 use Rattle.rewrite_loader.specs.Judging.{LoaderJob, file_of, Judges}
 use Rattle.rewrite_loader.specs.Followed.{IsLoaderFollowed}
 use Rattle.command_io.specs.Refusals.{Refusal, Rewrite, Load}
-use Rattle.command_io.specs.Writing.{Writing}
 use Rattle.command_io.specs.Verdict.{Patching, Form, IsJudgedAs}
 use Rattle.command_io.specs.declared.report_mode.Mode.TheVariants.{Plain}
-use Rattle.patch_commands.specs.Answers.{form_writing, PatchesIn}
+use Rattle.patch_commands.specs.Answers.{PatchesIn}
 
 -- The refusal that an error of rewriting into the loader form is told as.
 abbrev pub refusal_told : LoaderError → Refusal
@@ -26,10 +25,6 @@ with_stub = record {
   report = λ job. job.job.report;
   Follows = λ file starts job. IsLoaderFollowed file starts job job.job.report;
 }
-
--- `load`, with what it is given.
-abbrev pub load_writing : Patching → Writing LoaderJob
-load_writing p = form_writing with_stub p
 
 -- What `load` does, with what it is given.
 abbrev pub Loads : Patching → DeskState → DeskState → SinkState → SinkState → ℕ → Type 0

@@ -15,7 +15,7 @@ use Rattle.command_io.specs.Summary.{summary_text, done_status}
 use Rattle.command_io.specs.Inputs.{Inputs, WhereTold}
 use Rattle.command_io.specs.Writing.{Verdict, Outputs, Writing, IsInputVerdict, Writes}
 use Rattle.command_io.specs.Verdict.{Patching, Form, IsJudgedAs, starts_of, Rewriting, OfTexts, HoldsBytes}
-use Rattle.patch_commands.specs.Answers.{IsDone, listed_inputs, TextsFollowed, form_writing, PatchesIn}
+use Rattle.patch_commands.specs.Answers.{IsDone, listed_inputs, TextsFollowed, PatchesIn}
 use Rattle.patch_commands.specs.LoadAnswers.{refusal_told}
 use Rattle.command_io.specs.declared.report_mode.Mode.TheVariants.{Threaded}
 
@@ -108,10 +108,6 @@ for_threads action = record {
   Follows = FollowsReported action;
 }
 
--- `threads` with a report, with what it is given.
-abbrev pub reported_writing : Action → Patching → Writing ThreadJob
-reported_writing action p = form_writing (for_threads action) p
-
 -- What `threads` does with a report, with what it is given.
 abbrev pub PatchesReported : Action → Patching → DeskState → DeskState → SinkState → SinkState → ℕ → Type 0
 PatchesReported action p s t k l status = PatchesIn (for_threads action) p s t k l status
@@ -133,10 +129,6 @@ for_threads_with_stub action = record {
   report = λ job. job.job.report;
   Follows = FollowsLoaded action;
 }
-
--- `threads` in the loader form, with what it is given.
-abbrev pub threads_loaded_writing : Action → Patching → Writing ThreadLoaderJob
-threads_loaded_writing action p = form_writing (for_threads_with_stub action) p
 
 -- What `threads` does in the loader form, with what it is given.
 abbrev pub LoadsThreads : Action → Patching → DeskState → DeskState → SinkState → SinkState → ℕ → Type 0

@@ -4,8 +4,7 @@
 #![tactic(auto)]
 
 pub mod laws;
-pub mod load;
 pub mod patch;
-mod patching;
+pub mod patching;
 pub mod threads_command;
 pub mod unpatch_command;

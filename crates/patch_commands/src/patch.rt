@@ -1,4 +1,4 @@
-//! The command `patch`, and what each command does that rewrites FILE.
+//! The commands that rewrite FILE and write a report, each a patch in a form.
 ghost use Rattle.std.specs.Prelude.{◌≡◌, ℕ, ◌<◌, ◌≤◌, None, OnOk, length, map, slice_index};
 ghost use Rattle.std.specs.List.Sorted.{IsStrictlyIncreasing};
 ghost use Rattle.pun_base.specs.Actions.{IsAction};
@@ -7,7 +7,7 @@ ghost use Rattle.pun_base.specs.Ranges.{ends};
 ghost use Rattle.patch_report.specs.Values.{row_value};
 ghost use Rattle.command_words.specs.Named.{names_of};
 ghost use Rattle.command_io.specs.Verdict.{patching};
-ghost use Rattle.patch_commands.specs.Answers.{listed_inputs, patch_writing};
+ghost use Rattle.patch_commands.specs.Answers.{listed_inputs};
 ghost use Rattle.command_io.specs.Failing.{Gathers, seen_as, told_of};
 ghost use Rattle.command_io.specs.Works.{Carries, Works};
 ghost use Rattle.patch_commands.specs.Forms.{action_in, asked_of, patching_of, writing_in, IsSharedIn, RewritesIn};
@@ -25,7 +25,6 @@ use guest_threads::rewriting::rewrite_threads_reported;
 use list_text::lists::{read_sites, read_starts};
 use patch_report::report::Report;
 use patch_report::row::ReportRow;
-use pun_base::action::Action;
 use pun_base::desk::Desk;
 use pun_base::range::Range;
 use rewrite_core::rewrite::rewrite;
@@ -49,44 +48,29 @@ pub struct Listed {
     pub sites: Vec<u32>,
 }
 
-/// Reads the inputs, and writes the patched file and its report.
+/// Reads the inputs, and writes the patched file in a form, and its report.
 ///
-/// No new code stands in the reserved ranges.
+/// Neither new code nor a stub stands in the reserved ranges.
 pub fn patch<'a, D: Desk>(
     alloc: Global,
+    form: Form,
     names: &Names<'a>,
-    action: Action,
     reserves: &[Range],
     desk: &mut D,
 ) -> Result<Told, Failure<'a>>
-    requires action { IsAction action }
+    requires action { IsAction (action_in form) }
+    requires shared { IsSharedIn form }
     requires nothing { (D.seen desk.old).writing ≡ None }
-    ensures { Carries (patch_writing (patching (names_of names.now) action (map ends reserves.now)))
-        (D.seen desk.old) (D.seen desk.new) (seen_as told_of result) }
+    ensures { Carries (writing_in form (patching (names_of names.now) (action_in form)
+        (map ends reserves.now))) (D.seen desk.old) (D.seen desk.new) (seen_as told_of result) }
 {
     let given = Given {
-        form: Form::Plain(action),
+        form,
         names,
         reserves,
     };
-    patch_in_form(alloc, &given, desk)
-}
-
-/// Reads the inputs, and writes the patched file in its form, and its report.
-pub(crate) fn patch_in_form<'a, D: Desk>(
-    alloc: Global,
-    given: &Given<'_, 'a>,
-    desk: &mut D,
-) -> Result<Told, Failure<'a>>
-    requires action { IsAction (action_in given.now.form) }
-    requires shared { IsSharedIn given.now.form }
-    requires nothing { (D.seen desk.old).writing ≡ None }
-    ensures { Carries (writing_in given.now.form (patching_of given.now)) (D.seen desk.old)
-        (D.seen desk.new) (seen_as told_of result) }
-{
-    let names = given.names;
     match read_inputs(alloc, names.file, names.starts, names.sites, desk) {
-        Ok(inputs) => rewrite_inputs(alloc, given, inputs, desk),
+        Ok(inputs) => rewrite_inputs(alloc, &given, inputs, desk),
         Err(failure) => Err(failure),
     }
 }

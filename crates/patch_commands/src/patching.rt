@@ -10,7 +10,7 @@ use pun_base::range::Range;
 /// A form of the patched file, with an action: the kernel maps the pages for code, or a stub does; or the same of a file
 /// for a guest of several threads.
 #[derive(Clone, Copy)]
-pub(crate) enum Form {
+pub enum Form {
     Plain(Action),
     WithStub(Action),
     ForThreads(Action),

@@ -1,22 +1,17 @@
-//! The command `threads`, without a report and with one, and in the loader form.
+//! The command `threads` without a report.
 ghost use Rattle.std.specs.Prelude.{◌≡◌, None, map};
-ghost use Rattle.pun_base.specs.Actions.{IsAction};
 ghost use Rattle.pun_base.specs.Ranges.{ends};
-ghost use Rattle.site_turns.specs.Modes.{IsShared};
-ghost use Rattle.command_words.specs.Named.{names_of, thread_names_of};
-ghost use Rattle.patch_commands.specs.ThreadsAnswers.{reported_writing, thread_patching, threads_loaded_writing, threads_writing};
-ghost use Rattle.command_io.specs.Verdict.{patching};
+ghost use Rattle.command_words.specs.Named.{thread_names_of};
+ghost use Rattle.patch_commands.specs.ThreadsAnswers.{thread_patching, threads_writing};
 ghost use Rattle.command_io.specs.Failing.{seen_as, told_of};
 ghost use Rattle.command_io.specs.Works.{Works, Carries};
 ghost use Rattle.patch_commands.specs.Patching.{patch_texts};
 
-use crate::patch::{Inputs, bytes_of, judge_lists, patch_in_form, read_inputs, told_summary};
-use crate::patching::{Form, Given};
+use crate::patch::{Inputs, bytes_of, judge_lists, read_inputs, told_summary};
 use command_io::ends::{Failure, Told};
 use command_io::failures::rewrite_failure;
-use command_words::words::{Names, ThreadNames};
+use command_words::words::ThreadNames;
 use guest_threads::rewriting::rewrite_threads;
-use pun_base::action::Action;
 use pun_base::desk::Desk;
 use pun_base::range::Range;
 use std::alloc::Global;
@@ -70,52 +65,4 @@ fn rewrite_inputs<'a, D: Desk>(
         Ok(report) => told_summary(alloc, report.rows.as_slice()),
         Err(error) => Err(rewrite_failure(error, names.out)),
     }
-}
-
-/// Reads the inputs, and writes the file that is patched for a guest of several threads, and its report.
-///
-/// No new code stands in the reserved ranges.
-pub fn patch_reported<'a, D: Desk>(
-    alloc: Global,
-    names: &Names<'a>,
-    action: Action,
-    reserves: &[Range],
-    desk: &mut D,
-) -> Result<Told, Failure<'a>>
-    requires action { IsAction action }
-    requires shared { IsShared action }
-    requires nothing { (D.seen desk.old).writing ≡ None }
-    ensures { Carries (reported_writing action (patching (names_of names.now) action
-        (map ends reserves.now))) (D.seen desk.old) (D.seen desk.new) (seen_as told_of result) }
-{
-    let given = Given {
-        form: Form::ForThreads(action),
-        names,
-        reserves,
-    };
-    patch_in_form(alloc, &given, desk)
-}
-
-/// Reads the inputs, and writes the loader form of the file that is patched for a guest of several threads, and its report.
-///
-/// Neither new code nor the stub stands in the reserved ranges.
-pub fn patch_loaded<'a, D: Desk>(
-    alloc: Global,
-    names: &Names<'a>,
-    action: Action,
-    reserves: &[Range],
-    desk: &mut D,
-) -> Result<Told, Failure<'a>>
-    requires action { IsAction action }
-    requires shared { IsShared action }
-    requires nothing { (D.seen desk.old).writing ≡ None }
-    ensures { Carries (threads_loaded_writing action (patching (names_of names.now) action
-        (map ends reserves.now))) (D.seen desk.old) (D.seen desk.new) (seen_as told_of result) }
-{
-    let given = Given {
-        form: Form::ForThreadsWithStub(action),
-        names,
-        reserves,
-    };
-    patch_in_form(alloc, &given, desk)
 }

@@ -74,8 +74,8 @@ returns-in-Ok-Gen-clause-does g c =
     gen_ran (map string_bytes c.args.words.now) _ _ _ _ _ (seen_as told_of c.find.result) _
     (rw c.in-Ok-Gen.field-0-is at c.in-Ok-Gen.ensures) c.find.ensures c.tell-in-Ok-Gen.ensures.printed
 
-pub load-requires-clause-action : goal.load-requires-clause-action
-load-requires-clause-action g c =
+pub patch-in-Ok-Load-requires-clause-action : goal.patch-in-Ok-Load-requires-clause-action
+patch-in-Ok-Load-requires-clause-action g c =
     let n = names_of c.in-Ok-Load.names in
     let pairs = map ends c.in-Ok-Load.reserves.items in
     (known_of (map string_bytes c.args.words.now) (Load n c.in-Ok-Load.action pairs) (rw c.in-Ok-Load.field-0-is at c.in-Ok-Load.ensures)).1
@@ -88,8 +88,8 @@ returns-in-Ok-Load-clause-does g c =
     let q : Load n c.in-Ok-Load.action (map ends c.in-Ok-Load.reserves.items) ≡ command_of words = rw c.in-Ok-Load.field-0-is at c.in-Ok-Load.ensures in
     let r : Load n c.in-Ok-Load.action pairs ≡ command_of words = ap (λ rs. Load n c.in-Ok-Load.action (map ends rs)) c.deref-in-Ok-Load.ensures.value ∙ q in
     of_words words (Load n c.in-Ok-Load.action pairs) _ _ _ _ _ r
-    (form_ended with_stub (patching n c.in-Ok-Load.action pairs) (known_of words (Load n c.in-Ok-Load.action pairs) r).0 _ _ _ _ (seen_as told_of c.load.result) _
-    c.load.ensures.rest c.load.ensures.ends c.tell-in-Ok-Load.ensures.printed)
+    (form_ended with_stub (patching n c.in-Ok-Load.action pairs) (known_of words (Load n c.in-Ok-Load.action pairs) r).0 _ _ _ _ (seen_as told_of c.patch-in-Ok-Load.result) _
+    c.patch-in-Ok-Load.ensures.rest c.patch-in-Ok-Load.ensures.ends c.tell-in-Ok-Load.ensures.printed)
 
 pub returns-in-Ok-Threads-clause-does : goal.returns-in-Ok-Threads-clause-does
 returns-in-Ok-Threads-clause-does g c =
@@ -102,14 +102,14 @@ returns-in-Ok-Threads-clause-does g c =
     (threads_ended (thread_patching n pairs) _ _ _ _ (seen_as told_of c.patch_threads.result) _
     c.patch_threads.ensures.rest c.patch_threads.ensures.ends c.tell-in-Ok-Threads.ensures.printed)
 
-pub patch_reported-requires-clause-action : goal.patch_reported-requires-clause-action
-patch_reported-requires-clause-action g c =
+pub patch-in-Ok-ThreadsReported-requires-clause-action : goal.patch-in-Ok-ThreadsReported-requires-clause-action
+patch-in-Ok-ThreadsReported-requires-clause-action g c =
     (known_of (map string_bytes c.args.words.now)
     (ThreadsReported (names_of c.in-Ok-ThreadsReported.names) c.in-Ok-ThreadsReported.action (map ends c.in-Ok-ThreadsReported.reserves.items))
     (rw c.in-Ok-ThreadsReported.field-0-is at c.in-Ok-ThreadsReported.ensures)).1.0
 
-pub patch_reported-requires-clause-shared : goal.patch_reported-requires-clause-shared
-patch_reported-requires-clause-shared g c =
+pub patch-in-Ok-ThreadsReported-requires-clause-shared : goal.patch-in-Ok-ThreadsReported-requires-clause-shared
+patch-in-Ok-ThreadsReported-requires-clause-shared g c =
     shared c.in-Ok-ThreadsReported.action
     (known_of (map string_bytes c.args.words.now)
     (ThreadsReported (names_of c.in-Ok-ThreadsReported.names) c.in-Ok-ThreadsReported.action (map ends c.in-Ok-ThreadsReported.reserves.items))
@@ -125,17 +125,17 @@ returns-in-Ok-ThreadsReported-clause-does g c =
     rw c.in-Ok-ThreadsReported.field-0-is at c.in-Ok-ThreadsReported.ensures in
     let r : ThreadsReported n a pairs ≡ command_of words = ap (λ rs. ThreadsReported n a (map ends rs)) c.deref-in-Ok-ThreadsReported.ensures.value ∙ q in
     of_words words (ThreadsReported n a pairs) _ _ _ _ _ r
-    (form_ended (for_threads a) (patching n a pairs) (known_of words (ThreadsReported n a pairs) r).0 _ _ _ _ (seen_as told_of c.patch_reported.result) _
-    c.patch_reported.ensures.rest c.patch_reported.ensures.ends c.tell-in-Ok-ThreadsReported.ensures.printed)
+    (form_ended (for_threads a) (patching n a pairs) (known_of words (ThreadsReported n a pairs) r).0 _ _ _ _ (seen_as told_of c.patch-in-Ok-ThreadsReported.result) _
+    c.patch-in-Ok-ThreadsReported.ensures.rest c.patch-in-Ok-ThreadsReported.ensures.ends c.tell-in-Ok-ThreadsReported.ensures.printed)
 
-pub patch_loaded-requires-clause-action : goal.patch_loaded-requires-clause-action
-patch_loaded-requires-clause-action g c =
+pub patch-in-Ok-ThreadsLoaded-requires-clause-action : goal.patch-in-Ok-ThreadsLoaded-requires-clause-action
+patch-in-Ok-ThreadsLoaded-requires-clause-action g c =
     (known_of (map string_bytes c.args.words.now)
     (ThreadsLoaded (names_of c.in-Ok-ThreadsLoaded.names) c.in-Ok-ThreadsLoaded.action (map ends c.in-Ok-ThreadsLoaded.reserves.items))
     (rw c.in-Ok-ThreadsLoaded.field-0-is at c.in-Ok-ThreadsLoaded.ensures)).1.0
 
-pub patch_loaded-requires-clause-shared : goal.patch_loaded-requires-clause-shared
-patch_loaded-requires-clause-shared g c =
+pub patch-in-Ok-ThreadsLoaded-requires-clause-shared : goal.patch-in-Ok-ThreadsLoaded-requires-clause-shared
+patch-in-Ok-ThreadsLoaded-requires-clause-shared g c =
     shared c.in-Ok-ThreadsLoaded.action
     (known_of (map string_bytes c.args.words.now)
     (ThreadsLoaded (names_of c.in-Ok-ThreadsLoaded.names) c.in-Ok-ThreadsLoaded.action (map ends c.in-Ok-ThreadsLoaded.reserves.items))
@@ -152,8 +152,8 @@ returns-in-Ok-ThreadsLoaded-clause-does g c =
     let r : ThreadsLoaded n a pairs ≡ command_of words = ap (λ rs. ThreadsLoaded n a (map ends rs)) c.deref-in-Ok-ThreadsLoaded.ensures.value ∙ q in
     of_words words (ThreadsLoaded n a pairs) _ _ _ _ _ r
     (form_ended (for_threads_with_stub a) (patching n a pairs) (known_of words (ThreadsLoaded n a pairs) r).0 _ _ _ _
-    (seen_as told_of c.patch_loaded.result) _
-    c.patch_loaded.ensures.rest c.patch_loaded.ensures.ends c.tell-in-Ok-ThreadsLoaded.ensures.printed)
+    (seen_as told_of c.patch-in-Ok-ThreadsLoaded.result) _
+    c.patch-in-Ok-ThreadsLoaded.ensures.rest c.patch-in-Ok-ThreadsLoaded.ensures.ends c.tell-in-Ok-ThreadsLoaded.ensures.printed)
 
 pub returns-in-Ok-Unpatch-clause-does : goal.returns-in-Ok-Unpatch-clause-does
 returns-in-Ok-Unpatch-clause-does g c =

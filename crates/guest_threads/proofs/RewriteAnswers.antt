@@ -38,7 +38,7 @@ use Rattle.guest_threads.specs.declared.rewriting.ThreadReport.{ThreadReport}
 use Rattle.guest_threads.specs.FromTurns.{IsThreaded}
 use Rattle.guest_threads.specs.ThreadCalls.{IsSharedPlanned, IsWritten, WritesThreads}
 use Rattle.guest_threads.specs.ThreadPlanning.{IsThreadPlanned}
-use Rattle.guest_threads.specs.ThreadRewriting.{ThreadJob, job_of, IsThreadJobFor, writing_of, Judges, IsFollowedInThreads, IsRewritten, IsReported, RewritesThreads, ReportsThreads}
+use Rattle.guest_threads.specs.ThreadRewriting.{ThreadJob, job_of, IsThreadJobFor, writing_of, Judges, IsFollowedInThreads, IsRewritten, TellsJob, IsReported, RewritesThreads, ReportsThreads}
 use Rattle.guest_threads.proofs.ThreadPlans as plans
 use Rattle.guest_threads.proofs.ThreadPlans.{fitting, threaded}
 
@@ -113,6 +113,15 @@ module _ (a : Asked) (t : Turns) (p : PlannedState) (call : IsCallBy IsSharedPla
         (turned_is_report (thread_rules a.action) five_lead (request_of a) t groups.homes call.asked call.action
         call.planned.planned.turned.turns call.planned.planned.turned.few pages.0 pages.1)
 
+    -- the job's report tells the job
+    pub tells : (report : ReportValue) → report ≡ (job groups).report → IsReport report → TellsJob a.action (job groups) report
+    tells report same told = record {
+      told = told;
+      action_is = ap (λ (z : ReportValue). z.body.action) same;
+      private_is = ap (λ (z : ReportValue). z.body.private) same;
+      rows_are = ap (λ (z : ReportValue). z.body.rows) same;
+    }
+
     -- memory that shows the job is sound for threads, and followed
     pub shown_threaded : (m : Bytes) → Shows (job groups).emit m
         → IsThreaded (scene_under (thread_rules a.action) (request_of a) t) (end_under (thread_rules a.action) (request_of a) t) m (job groups).emit
@@ -177,10 +186,8 @@ module _ (a : Asked) (name : List ℕ) (s u : DeskState) (patch : Patch) (w : Is
         accepted,
         record {
           report_is = same;
-          told = subst IsReport (sym r) (record { origin = fits; body = can_report });
-          action_is = ap (λ (z : ReportValue). z.body.action) same;
-          private_is = ap (λ (z : ReportValue). z.body.private) same;
-          rows_are = ap (λ (z : ReportValue). z.body.rows) same;
+          tells = tells a w.turns w.planned w.call patch.groups w.patch_for.groups report same
+              (subst IsReport (sym r) (record { origin = fits; body = can_report }));
           holds = w.emitted.1;
           followed = followed;
         },

@@ -115,16 +115,18 @@ pub record IsRewritten (a : Asked) (name : List ℕ) (s t : DeskState) (report :
 abbrev pub RewritesThreads : Asked → List ℕ → DeskState → DeskState → Result ThreadReport RewriteError → Type 0
 RewritesThreads a name s t r = RewritesBy Judges file_of IsRewritten a name s t r
 
+-- What a report tells of a job: the action, and the private range and the rows of the job. It is one that a text tells.
+pub record TellsJob (action : Action) (job : ThreadJob) (report : ReportValue) : Type 0 where
+  pub told : IsReport report
+  pub action_is : report.body.action ≡ action
+  pub private_is : report.body.private ≡ (job.private.lo, job.private.hi)
+  pub rows_are : report.body.rows ≡ job.rows
+
 -- The answer is the report of a job, and the name holds the job's file, which follows the original.
 pub record IsReported (a : Asked) (name : List ℕ) (s t : DeskState) (report : ReportValue)
     (j : ThreadJob) : Type 0 where
   pub report_is : report ≡ j.report
-  -- it is one that a text tells
-  pub told : IsReport report
-  -- it tells the action, and the job's private range and rows
-  pub action_is : report.body.action ≡ a.action
-  pub private_is : report.body.private ≡ (j.private.lo, j.private.hi)
-  pub rows_are : report.body.rows ≡ j.rows
+  pub tells : TellsJob a.action j report
   pub holds : Fills name (layout j.emit) s t (Ok tt)
   pub followed : IsFollowedInThreads a.action a.file a.starts (layout j.emit) j.private j.rows
 

@@ -1,5 +1,5 @@
 -- What the rewriting in each form comes to, by the form.
-use Rattle.std.proofs.Common.{◌≡◌, ℕ, ◌<◌, inl, List, map, slice_index, Result, Ok, Err, refl, sym, ◌∙◌, subst}
+use Rattle.std.proofs.Common.{◌≡◌, ℕ, ◌<◌, inl, List, map, slice_index, Result, Ok, Err, refl, sym, subst}
 use Rattle.pun_base.specs.Shown.{DeskState}
 use Rattle.pun_base.specs.Desk.{Fills}
 use Rattle.pun_base.specs.declared.action.Action.{Action}
@@ -14,7 +14,7 @@ use Rattle.rewrite_loader.specs.Followed.{IsLoaderFollowed}
 use Rattle.rewrite_loader.specs.Judging as loader_judging
 use Rattle.rewrite_loader.specs.Rewrites as loader_answers
 use Rattle.guest_threads.specs.ThreadRewriting as threads
-use Rattle.guest_threads.specs.ThreadRewriting.{IsFollowedInThreads}
+use Rattle.guest_threads.specs.ThreadRewriting.{ThreadJob, IsFollowedInThreads, TellsJob}
 use Rattle.thread_loader.specs.Followed.{IsLoaderFollowedInThreads}
 use Rattle.thread_loader.specs.Rewriting as thread_loader
 use Rattle.command_io.specs.Writing.{Verdict, Accepted}
@@ -25,7 +25,7 @@ use Rattle.command_io.specs.Failing.{Failed, Answer}
 use Rattle.command_io.specs.Works.{IsOnly, Works}
 use Rattle.command_io.proofs.WholeCommands.{works_as}
 use Rattle.patch_commands.specs.LoadAnswers.{with_stub}
-use Rattle.patch_commands.specs.ThreadsAnswers.{IsOfJob, for_threads, for_threads_with_stub}
+use Rattle.patch_commands.specs.ThreadsAnswers.{for_threads, for_threads_with_stub}
 use Rattle.patch_commands.specs.Patching.{patch_texts, AreLists, WritesReport}
 use Rattle.patch_commands.specs.Forms.{action_in, job_in, form_in, mode_in, writing_in, RewritesIn}
 use Rattle.patch_commands.specs.declared.patching.Form.{Form}
@@ -34,11 +34,10 @@ use Rattle.patch_commands.specs.declared.patch.Inputs.{Inputs}
 use Rattle.patch_commands.proofs.TextVerdicts.{IsOnce, one_plain, one_with_stub, one_for_threads, one_for_threads_with_stub}
 use Rattle.patch_commands.proofs.Rewritings.{IsGiven, given, verdict_of, reported_in, unfinished, unloaded}
 
--- what is done of equal lists in a form that is known
-pub in_form : (f g : Form) (a b : Asked) (out : List ℕ) (s t : DeskState) (r : Result ReportValue Failed) → f ≡ g → b ≡ a
-    → RewritesIn g b out s t r → RewritesIn f a out s t r
-in_form f g a b out s t r d e h =
-    subst (λ (z : Form). RewritesIn z a out s t r) (sym d) (subst (λ (z : Asked). RewritesIn g z out s t r) e h)
+-- what is done in a form that is known
+pub in_form : (f g : Form) (rs : List Range) (file starts sites out : List ℕ) (s t : DeskState) (r : Result ReportValue Failed) → f ≡ g
+    → RewritesIn g (asked (action_in g) rs file starts sites) out s t r → RewritesIn f (asked (action_in f) rs file starts sites) out s t r
+in_form f g rs file starts sites out s t r d h = subst (λ (z : Form). RewritesIn z (asked (action_in z) rs file starts sites) out s t r) (sym d) h
 
 -- ---- what was rewritten, in any form
 
@@ -55,6 +54,10 @@ written : {J : Type 0} → (f : verdict.Form J) (a : Asked) (out : List ℕ) (s 
     → report ≡ f.report j → Fills out (f.file j) s t (Ok tt) → f.Follows a.file a.starts j → IsRewrittenIn f a out s t report
 written f a out s t report j v r h w = record { job = j; judged = v; told = r; holds = h; followed = w }
 
+-- what a report that is the job's tells is what the job's report tells
+tells_of : (b action : Action) (j : ThreadJob) (report : ReportValue) → b ≡ action → report ≡ j.report → TellsJob b j report → TellsJob action j j.report
+tells_of b action j report same told h = subst (λ (z : Action). TellsJob z j j.report) same (subst (TellsJob b j) told h)
+
 -- a rewriting that ended well, of what was asked with the form's action
 rewritten : (f : Form) (a : Asked) (out : List ℕ) (s t : DeskState) (report : ReportValue) → a.action ≡ action_in f → RewritesIn f a out s t (Ok report)
     → IsRewrittenIn (form_in f) a out s t report
@@ -65,17 +68,13 @@ rewritten (WithStub action) a out s t report same h =
     written with_stub a out s t report h.0 h.1 h.2.report_is h.2.holds
     (subst (λ (v : ReportValue). IsLoaderFollowed a.file a.starts h.0 v) h.2.report_is h.2.followed)
 rewritten (ForThreads action) a out s t report same h =
-    let of_job : IsOfJob action h.0 report =
-    record { told = h.2.told; action_is = h.2.action_is ∙ same; private = h.2.private_is; rows = h.2.rows_are } in
     written (for_threads action) a out s t report h.0 h.1 h.2.report_is h.2.holds (record {
-      of_job = subst (IsOfJob action h.0) h.2.report_is of_job;
+      of_job = tells_of a.action action h.0 report same h.2.report_is h.2.tells;
       followed = subst (λ (z : Action). IsFollowedInThreads z a.file a.starts (threads.file_of h.0) h.0.private h.0.rows) same h.2.followed;
     })
 rewritten (ForThreadsWithStub action) a out s t report same h =
-    let of_job : IsOfJob action h.0.job report =
-    record { told = h.2.told; action_is = h.2.action_is ∙ same; private = h.2.private_is; rows = h.2.rows_are } in
     written (for_threads_with_stub action) a out s t report h.0 h.1 h.2.report_is h.2.holds (record {
-      of_job = subst (IsOfJob action h.0.job) h.2.report_is of_job;
+      of_job = tells_of a.action action h.0.job report same h.2.report_is h.2.tells;
       followed = subst (λ (z : Action). IsLoaderFollowedInThreads z a.file a.starts h.0) same h.2.followed;
     })
 
@@ -122,11 +121,12 @@ refused (ForThreadsWithStub action) p x a g s t e h =
 
 -- ---- of the lists that were read
 
-module _ (f : Form) (p : Patching) (same : p.action ≡ action_in f) (rs : List Range) (x : Inputs) (file starts sites : List ℕ) (r : map ends rs ≡ p.reserves)
-    (l : AreLists x file starts sites) (b : (k : ℕ) → slice_index file k < 256) where
+module _ (f : Form) (p : Patching) (same : p.action ≡ action_in f) (rs : List Range) (x : Inputs) (file starts sites bs ns ms : List ℕ)
+    (r : map ends rs ≡ p.reserves) (l : AreLists x bs ns ms) (d : file ≡ bs) (e : starts ≡ ns) (i : sites ≡ ms)
+    (b : (k : ℕ) → slice_index file k < 256) where
   -- what is asked is what the texts tell
   is_given : IsGiven (rewriting_in (form_in f) p) x (asked p.action rs file starts sites)
-  is_given = given (rewriting_in (form_in f) p) rs x file starts sites _ _ _ r l refl refl refl b
+  is_given = given (rewriting_in (form_in f) p) rs x file starts sites bs ns ms r l d e i b
 
   -- the file was rewritten, and its report was written or not
   pub reported : (report : ReportValue) (s u t : DeskState) (a : Result Answer Failed)

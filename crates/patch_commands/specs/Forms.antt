@@ -16,7 +16,7 @@ use Rattle.thread_loader.specs.Rewriting as thread_loader
 use Rattle.command_words.specs.Named.{names_of}
 use Rattle.command_io.specs.Writing.{Writing}
 use Rattle.command_io.specs.Verdict as verdict
-use Rattle.command_io.specs.Verdict.{Patching, patching, plain, asked}
+use Rattle.command_io.specs.Verdict.{Patching, patching, plain}
 use Rattle.command_io.specs.declared.report_mode.Mode.{Mode}
 use Rattle.command_io.specs.declared.report_mode.Mode.TheVariants as mode
 use Rattle.command_io.specs.Failing.{Failed, rewrite_failed, loader_failed}
@@ -26,7 +26,6 @@ use Rattle.patch_commands.specs.ThreadsAnswers.{for_threads, for_threads_with_st
 use Rattle.patch_commands.specs.declared.patching.Form.{Form}
 use Rattle.patch_commands.specs.declared.patching.Form.TheVariants.{Plain, WithStub, ForThreads, ForThreadsWithStub}
 use Rattle.patch_commands.specs.declared.patching.Given.{Given}
-use Rattle.patch_commands.specs.declared.patch.Listed.{Listed}
 
 -- What each event does in a form.
 abbrev pub action_in : Form → Action
@@ -70,10 +69,6 @@ writing_in f p = form_writing (form_in f) p
 -- What is given, apart from the form.
 abbrev pub patching_of : Given → Patching
 patching_of g = patching (names_of g.names.now) (action_in g.form) (map ends g.reserves.now)
-
--- What is asked of the rewriting of lists.
-abbrev pub asked_of : Given → Listed → Asked
-asked_of g l = asked (action_in g.form) g.reserves.now l.file.items l.starts.items l.sites.items
 
 -- This is so of a result whose error was told as a failure.
 abbrev pub ToldAs : {X E : Type 0} → (E → Failed) → (Result X E → Type 0) → Result X Failed → Type 0

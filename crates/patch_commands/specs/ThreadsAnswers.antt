@@ -4,9 +4,7 @@ use Rattle.std.specs.Prelude.{◌≡◌, ℕ, List, [], ◌∷◌, Some, Ok}
 use Rattle.pun_base.specs.Shown.{Files, DeskState, SinkState}
 use Rattle.pun_base.specs.declared.action.Action.{Action}
 use Rattle.pun_base.specs.declared.action.Action.TheVariants.{Count}
-use Rattle.patch_report.specs.Grammar.{IsReport}
-use Rattle.patch_report.specs.Values.{ReportValue}
-use Rattle.guest_threads.specs.ThreadRewriting.{ThreadJob, Judges, IsFollowedInThreads, file_of}
+use Rattle.guest_threads.specs.ThreadRewriting.{ThreadJob, Judges, IsFollowedInThreads, TellsJob, file_of}
 use Rattle.thread_loader.specs.Followed.{ThreadLoaderJob, IsLoaderFollowedInThreads}
 use Rattle.thread_loader.specs.Rewriting as loader
 use Rattle.command_words.specs.Words.{ThreadNames}
@@ -86,16 +84,9 @@ pub record PatchesThreads (p : ThreadPatching) (s t : DeskState) (k l : SinkStat
 
 -- ---- with a report
 
--- What a report tells of a job: its action, and the private range and the rows of the job. It is one that a text tells.
-pub record IsOfJob (action : Action) (job : ThreadJob) (report : ReportValue) : Type 0 where
-  pub told : IsReport report
-  pub action_is : report.body.action ≡ action
-  pub private : report.body.private ≡ (job.private.lo, job.private.hi)
-  pub rows : report.body.rows ≡ job.rows
-
 -- What is promised with a report: the report is of the job, and all else is as without one.
 pub record FollowsReported (action : Action) (file starts : List ℕ) (job : ThreadJob) : Type 0 where
-  pub of_job : IsOfJob action job job.report
+  pub of_job : TellsJob action job job.report
   pub followed : FollowsInThreads action file starts job
 
 -- The form of `threads` with a report, with an action: the report is in the mode of threads.
@@ -117,7 +108,7 @@ PatchesReported action p s t k l status = PatchesIn (for_threads action) p s t k
 -- What is promised in the loader form: the report is of the job; the stub leads to the original's entry, and from there all is as in the other
 -- form.
 pub record FollowsLoaded (action : Action) (file starts : List ℕ) (job : ThreadLoaderJob) : Type 0 where
-  pub of_job : IsOfJob action job.job job.job.report
+  pub of_job : TellsJob action job.job job.job.report
   pub followed : IsLoaderFollowedInThreads action file starts job
 
 -- The loader form of `threads`: a stub in the patched file maps the pages for code, and goes to where the original starts.

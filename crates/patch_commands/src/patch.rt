@@ -6,11 +6,11 @@ ghost use Rattle.pun_base.specs.Limits.{most_sites};
 ghost use Rattle.pun_base.specs.Ranges.{ends};
 ghost use Rattle.patch_report.specs.Values.{row_value};
 ghost use Rattle.command_words.specs.Named.{names_of};
-ghost use Rattle.command_io.specs.Verdict.{patching};
+ghost use Rattle.command_io.specs.Verdict.{asked, patching};
 ghost use Rattle.patch_commands.specs.Answers.{listed_inputs};
 ghost use Rattle.command_io.specs.Failing.{Gathers, seen_as, told_of};
 ghost use Rattle.command_io.specs.Works.{Carries, Works};
-ghost use Rattle.patch_commands.specs.Forms.{action_in, asked_of, patching_of, writing_in, IsSharedIn, RewritesIn};
+ghost use Rattle.patch_commands.specs.Forms.{action_in, patching_of, writing_in, IsSharedIn, RewritesIn};
 ghost use Rattle.patch_commands.specs.Patching.{patch_texts, file_and_lists, ReadsLists, TellsSummary, WritesReport};
 
 use crate::patching::{Form, Given};
@@ -113,7 +113,8 @@ fn rewrite_inputs<'a, D: Desk>(
         Ok(listed) => listed,
         Err(failure) => return Err(failure),
     };
-    match rewrite_listed(alloc, given, &listed, desk) {
+    let file = bytes_of(&listed.file);
+    match rewrite_listed(alloc, given, file, &listed.starts, &listed.sites, desk) {
         Ok(report) => write_report(alloc, given.form.mode(), &report, given.names.report, desk),
         Err(failure) => Err(failure),
     }
@@ -123,32 +124,28 @@ fn rewrite_inputs<'a, D: Desk>(
 fn rewrite_listed<'a, D: Desk>(
     alloc: Global,
     given: &Given<'_, 'a>,
-    listed: &Listed,
+    file: &[u8],
+    starts: &[u32],
+    sites: &[u32],
     desk: &mut D,
 ) -> Result<Report, Failure<'a>>
-    requires starts_ascend { IsStrictlyIncreasing listed.now.starts.items }
-    requires sites_ascend { IsStrictlyIncreasing listed.now.sites.items }
-    requires few_sites { length listed.now.sites.items ≤ most_sites }
+    requires starts_ascend { IsStrictlyIncreasing starts.now }
+    requires sites_ascend { IsStrictlyIncreasing sites.now }
+    requires few_sites { length sites.now ≤ most_sites }
     requires action { IsAction (action_in given.now.form) }
     requires shared { IsSharedIn given.now.form }
     requires nothing { (D.seen desk.old).writing ≡ None }
-    ensures bytes { (k : ℕ) → slice_index listed.now.file.items k < 256 }
-    ensures rewrites { RewritesIn given.now.form (asked_of given.now listed.now)
+    ensures rewrites { RewritesIn given.now.form
+        (asked (action_in given.now.form) given.now.reserves.now file.now starts.now sites.now)
         (names_of given.now.names.now).out (D.seen desk.old) (D.seen desk.new)
         (seen_as (λ r. r) result) }
     ensures rest { OnOk result ((D.seen desk.new).writing ≡ None) }
 {
-    let Listed {
-        file,
-        starts,
-        sites,
-    } = listed;
     let Given {
         form,
         names,
         reserves,
     } = given;
-    let file = bytes_of(file);
     let out = names.out;
     match *form {
         Form::Plain(action) => {

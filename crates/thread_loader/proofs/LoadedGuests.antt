@@ -33,7 +33,7 @@ use Rattle.thread_runs.specs.Guest.{Thread, thread_of}
 use Rattle.thread_runs.specs.Threading.{Threading}
 use Rattle.guest_threads.specs.ThreadCalls.{IsSharedPlanned}
 use Rattle.guest_threads.specs.ThreadRewriting.{IsThreadJobFor, writing_of}
-use Rattle.guest_threads.proofs.RewriteAnswers.{can_write, job, is_job, writes_job, told_plan, plan_report, shown_threaded}
+use Rattle.guest_threads.proofs.RewriteAnswers.{can_write, job, is_job, writes_job, told_plan, plan_report, tells, shown_threaded}
 use Rattle.thread_loader.specs.Followed.{ThreadLoaderJob, threading_for, StartThreads, IsLoaderFollowedInThreads}
 use Rattle.thread_loader.specs.Rewriting.{IsReported, LoadsThreads}
 
@@ -112,10 +112,7 @@ module _ (a : Asked) (t : Turns) (p : PlannedState) (call : IsCallBy IsSharedPla
           loader.judged IsThreadJobFor writing_of IsReported a name s u call.starts p (job a t p call) (is_job a t p call) (λ groups. refl) x w,
           record {
             report_is = same;
-            told = subst IsReport (sym r) (record { origin = fits; body = can_report });
-            action_is = ap (λ (z : ReportValue). z.body.action) same;
-            private_is = ap (λ (z : ReportValue). z.body.private) same;
-            rows_are = ap (λ (z : ReportValue). z.body.rows) same;
+            tells = tells a t p call x.groups w.laid.are_groups report same (subst IsReport (sym r) (record { origin = fits; body = can_report }));
             holds = w.emitted.1;
             followed = followed;
           },

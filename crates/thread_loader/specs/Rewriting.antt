@@ -2,13 +2,12 @@
 use Rattle.std.specs.Prelude.{◌≡◌, ℕ, List, Result, Ok}
 use Rattle.pun_base.specs.Shown.{DeskState}
 use Rattle.pun_base.specs.Desk.{Fills}
-use Rattle.patch_report.specs.Grammar.{IsReport}
 use Rattle.patch_report.specs.Values.{ReportValue}
 use Rattle.rewrite_core.specs.Asked.{Asked}
 use Rattle.rewrite_loader.specs.declared.error.LoaderError.{LoaderError}
 use Rattle.rewrite_loader.specs.Judging.{file_by, JudgesLoaderBy}
 use Rattle.rewrite_loader.specs.Rewrites.{LoadsBy}
-use Rattle.guest_threads.specs.ThreadRewriting.{IsThreadJobFor, writing_of}
+use Rattle.guest_threads.specs.ThreadRewriting.{IsThreadJobFor, writing_of, TellsJob}
 use Rattle.thread_loader.specs.Followed.{ThreadLoaderJob, IsLoaderFollowedInThreads}
 
 -- The written file of a job.
@@ -22,12 +21,7 @@ Judges a v = JudgesLoaderBy IsThreadJobFor writing_of a v
 -- The answer is the report of a job, and the name holds the job's file, which follows the original.
 pub record IsReported (a : Asked) (name : List ℕ) (s t : DeskState) (report : ReportValue) (j : ThreadLoaderJob) : Type 0 where
   pub report_is : report ≡ j.job.report
-  -- it is one that a text tells
-  pub told : IsReport report
-  -- it tells the action, and the job's private range and rows
-  pub action_is : report.body.action ≡ a.action
-  pub private_is : report.body.private ≡ (j.job.private.lo, j.job.private.hi)
-  pub rows_are : report.body.rows ≡ j.job.rows
+  pub tells : TellsJob a.action j.job report
   pub holds : Fills name (file_of j) s t (Ok tt)
   pub followed : IsLoaderFollowedInThreads a.action a.file a.starts j
 

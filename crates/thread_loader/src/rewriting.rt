@@ -5,6 +5,7 @@ ghost use Rattle.pun_base.specs.Actions.{IsAction};
 ghost use Rattle.pun_base.specs.Desk.{Stays};
 ghost use Rattle.pun_base.specs.Limits.{most_sites};
 ghost use Rattle.site_turns.specs.Modes.{IsShared};
+ghost use Rattle.guest_threads.specs.ThreadCalls.{sharing};
 ghost use Rattle.thread_loader.specs.Rewriting.{LoadsThreads};
 
 use elf_read::elf::read_elf;
@@ -41,13 +42,8 @@ pub fn rewrite_threads_loader<D: Desk>(
     requires action { IsAction action }
     requires shared { IsShared action }
     requires nothing { (D.seen desk.old).writing ≡ None }
-    ensures rewrites { LoadsThreads (record {
-      file = file.now;
-      starts = starts.now;
-      sites = sites.now;
-      action = action;
-      reserves = reserves.now;
-    }) name.now (D.seen desk.old) (D.seen desk.new) result }
+    ensures rewrites { LoadsThreads (sharing action file.now starts.now sites.now reserves.now)
+        name.now (D.seen desk.old) (D.seen desk.new) result }
     ensures stays { Stays (D.seen desk.old) (D.seen desk.new) }
 {
     let elf = read_elf(alloc, file)?;

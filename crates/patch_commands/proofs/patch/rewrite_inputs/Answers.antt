@@ -1,4 +1,4 @@
-use Rattle.std.proofs.Common.{inl, refl, subst}
+use Rattle.std.proofs.Common.{inl, refl, ◌∙◌, subst}
 use Rattle.command_io.specs.Verdict.{rewriting_in}
 use Rattle.command_io.specs.Failing.{seen_as, told_of, failed_of}
 use Rattle.command_io.specs.declared.report_mode.Mode.{Mode}
@@ -18,16 +18,15 @@ returns-in-Err g c =
 pub returns-in-Ok-rewrite_listed : goal.returns-in-Ok-rewrite_listed
 returns-in-Ok-rewrite_listed g c =
     let given = c.args.given.now in
-    let l = c.in-Ok.listed in
-    reported given.form (patching_of given) refl given.reserves.now c.args.inputs l.file.items l.starts.items l.sites.items refl c.in-Ok.ensures
-    c.rewrite_listed.ensures.bytes c.in-Ok-rewrite_listed.report _ _ _ (seen_as told_of c.write_report.result)
-    c.in-Ok-rewrite_listed.ensures.rewrites
+    reported given.form (patching_of given) refl given.reserves.now c.args.inputs c.bytes_of-file.result.now c.deref-2.result.now c.deref-3.result.now _ _ _
+    refl c.in-Ok.ensures (c.bytes_of-file.ensures.value ∙ c.deref.ensures.value) c.deref-2.ensures.value c.deref-3.ensures.value c.bytes_of-file.ensures.bytes
+    c.in-Ok-rewrite_listed.report _ _ _ (seen_as told_of c.write_report.result) c.in-Ok-rewrite_listed.ensures.rewrites
     (subst (λ (m : Mode). WritesReport m given.names.now.report.now c.in-Ok-rewrite_listed.report (g.D.Desk.seen c.rewrite_listed.new.desk)
     (g.D.Desk.seen c.write_report.new.desk) (seen_as told_of c.write_report.result)) c.mode.ensures c.write_report.ensures)
 
 pub returns : goal.returns
 returns g c =
     let given = c.args.given.now in
-    let l = c.in-Ok.listed in
-    not_rewritten given.form (patching_of given) refl given.reserves.now c.args.inputs l.file.items l.starts.items l.sites.items refl c.in-Ok.ensures
-    c.rewrite_listed.ensures.bytes _ _ (failed_of c.in-Err-rewrite_listed.failure) c.in-Err-rewrite_listed.ensures.rewrites
+    not_rewritten given.form (patching_of given) refl given.reserves.now c.args.inputs c.bytes_of-file.result.now c.deref-2.result.now c.deref-3.result.now _ _ _
+    refl c.in-Ok.ensures (c.bytes_of-file.ensures.value ∙ c.deref.ensures.value) c.deref-2.ensures.value c.deref-3.ensures.value c.bytes_of-file.ensures.bytes
+    _ _ (failed_of c.in-Err-rewrite_listed.failure) c.in-Err-rewrite_listed.ensures.rewrites

@@ -1,5 +1,9 @@
 //! Files that are patched for guests of several threads, judged.
-use crate::rewritten_files::{CODE, COVER, VICTIMS, reported};
+ghost use Rattle.std.specs.Prelude.{◌<◌, length};
+ghost use Rattle.pun_base.specs.Actions.{IsAction};
+ghost use Rattle.site_turns.specs.Modes.{IsShared};
+
+use crate::rewritten_files::{CODE, COVER, JUMP, START, VICTIMS, reported, reported_jump};
 use elf_read::elf::{read_elf, read_written};
 use elf_read::writing::plain_file;
 use image_check::verdict::Verdict;
@@ -45,86 +49,61 @@ pub(crate) fn verdict(
     Ok(Some(found))
 }
 
+/// Whether the patched jump to itself passes as it was written, and breaks rule 4 with one byte of its code changed: for each change where the
+/// byte stands in the code, its value, and the address that is told.
+pub(crate) fn are_refused(
+    alloc: Global,
+    action: Action,
+    code: &[u8],
+    changes: &[(u8, u8, u64)],
+) -> Result<bool, Fail>
+    requires action { IsAction action }
+    requires shared { IsShared action }
+    requires some { 0 < length code.now }
+{
+    let mut desk = MemDesk::new(alloc, &[])?;
+    let report = reported_jump(alloc, action, &mut desk).ok_or("reported")?;
+    let written = desk.get("O").ok_or("held")?;
+    let mut codes = written.windows(code.len());
+    let start = codes.position(|bytes| bytes == code).ok_or("code")?;
+    let unchanged = verdict(alloc, &JUMP, &START, written, None, &report)?;
+    let mut are_told = report.action() == action && unchanged == Some(Verdict::Yes);
+    for (place, value, addr) in changes {
+        let change = Some((start + usize::from(*place), *value));
+        let found = verdict(alloc, &JUMP, &START, written, change, &report)?;
+        let broken = Verdict::No {
+            addr: *addr,
+            rule: 4,
+        };
+        are_told = are_told && found == Some(broken);
+    }
+    Ok(are_told)
+}
+
 #[test]
 fn changed_bytes(rt: HostRuntime) -> Result<(), Fail> {
-    let text = [0xEB, 0xFE, 0, 0, 2];
+    let changes = [(0, 0x49, 0x240_1005)];
+    let in_code = are_refused(rt.alloc(), Action::Count, &CODE, &changes)?;
+    assert!(rt; in_code);
     let mut desk = MemDesk::new(rt.alloc(), &[])?;
-    let found = reported(
-        rt.alloc(),
-        &text,
-        &[0x40_1000],
-        &[0x40_1000],
-        Action::Count,
-        &mut desk,
-    );
-    let report = found.ok_or("reported")?;
+    let report = reported_jump(rt.alloc(), Action::Count, &mut desk).ok_or("reported")?;
     let written = desk.get("O").ok_or("held")?;
-    let mut codes = written.windows(37);
-    let code = codes
-        .position(|bytes| bytes == CODE.as_slice())
-        .ok_or("code")?;
-    for (change, told) in [
-        (None, Verdict::Yes),
-        (
-            Some((code, 0x49)),
-            Verdict::No {
-                addr: 0x240_1005,
-                rule: 4,
-            },
-        ),
-        (
-            Some((0x1000, 0xEB)),
-            Verdict::No {
-                addr: 0x40_1000,
-                rule: 2,
-            },
-        ),
-    ] {
-        let found = verdict(rt.alloc(), &text, &[0x40_1000], written, change, &report)?;
-        assert!(rt; found == Some(told));
-    }
+    let change = Some((0x1000, 0xEB));
+    let found = verdict(rt.alloc(), &JUMP, &START, written, change, &report)?;
+    let broken = Verdict::No {
+        addr: 0x40_1000,
+        rule: 2,
+    };
+    assert!(rt; found == Some(broken));
     Ok(())
 }
 
 /// Where events cover, a store to another byte, or of another number, is refused.
 #[test]
 fn changed_bytes_where_events_cover(rt: HostRuntime) -> Result<(), Fail> {
-    let text = [0xEB, 0xFE, 0, 0, 2];
-    let mut desk = MemDesk::new(rt.alloc(), &[])?;
-    let found = reported(
-        rt.alloc(),
-        &text,
-        &[0x40_1000],
-        &[0x40_1000],
-        Action::Cover,
-        &mut desk,
-    );
-    let report = found.ok_or("reported")?;
-    let written = desk.get("O").ok_or("held")?;
-    let mut codes = written.windows(13);
-    let code = codes
-        .position(|bytes| bytes == COVER.as_slice())
-        .ok_or("code")?;
-    for (change, told) in [
-        (None, Verdict::Yes),
-        (
-            Some((code + 3, 0x41)),
-            Verdict::No {
-                addr: 0x240_1008,
-                rule: 4,
-            },
-        ),
-        (
-            Some((code + 7, 2)),
-            Verdict::No {
-                addr: 0x240_100C,
-                rule: 4,
-            },
-        ),
-    ] {
-        let found = verdict(rt.alloc(), &text, &[0x40_1000], written, change, &report)?;
-        assert!(rt; found == Some(told));
-    }
+    let changes = [(3, 0x41, 0x240_1008), (7, 2, 0x240_100C)];
+    let in_code = are_refused(rt.alloc(), Action::Cover, &COVER, &changes)?;
+    assert!(rt; in_code);
     Ok(())
 }
 

@@ -1,13 +1,10 @@
 //! Files whose events have a condition, judged.
-use crate::checked_files::verdict;
-use crate::rewritten_files::reported;
+use crate::checked_files::{are_refused, verdict};
+use crate::rewritten_files::{JUMP, START, reported_jump};
 use image_check::verdict::Verdict;
 use pun_base::action::{Action, Base, CompareOp, Comparison, Comparisons};
 use pun_base::memory_desk::MemDesk;
 use std::test::Fail;
-
-/// A jump to itself at 0x401000, whose trampoline can stand at 0x2401005 alone.
-const TEXT: [u8; 5] = [0xEB, 0xFE, 0, 0, 2];
 
 /// Counts where rax is 5.
 const WHERE_RAX_IS_5: Action = Action::When {
@@ -30,21 +27,9 @@ const CODE: [u8; 51] = [
 /// Another number, or the jump of another comparison, is refused.
 #[test]
 fn changed_bytes_of_a_comparison(rt: HostRuntime) -> Result<(), Fail> {
-    let start = [0x40_1000];
-    let mut desk = MemDesk::new(rt.alloc(), &[])?;
-    let found = reported(rt.alloc(), &TEXT, &start, &start, WHERE_RAX_IS_5, &mut desk);
-    let report = found.ok_or("reported")?;
-    assert!(rt; report.action() == WHERE_RAX_IS_5);
-    let written = desk.get("O").ok_or("held")?;
-    let mut codes = written.windows(51);
-    let code = codes
-        .position(|bytes| bytes == CODE.as_slice())
-        .ok_or("code")?;
-    for (place, value, addr) in [(20, 6, 0x240_1019), (24, 0x74, 0x240_101D)] {
-        let change = Some((code + place, value));
-        let found = verdict(rt.alloc(), &TEXT, &start, written, change, &report)?;
-        assert!(rt; found == Some(Verdict::No { addr, rule: 4 }));
-    }
+    let changes = [(20, 6, 0x240_1019), (24, 0x74, 0x240_101D)];
+    let in_code = are_refused(rt.alloc(), WHERE_RAX_IS_5, &CODE, &changes)?;
+    assert!(rt; in_code);
     Ok(())
 }
 
@@ -52,27 +37,10 @@ fn changed_bytes_of_a_comparison(rt: HostRuntime) -> Result<(), Fail> {
 /// report tells none.
 #[test]
 fn codes_of_another_condition(rt: HostRuntime) -> Result<(), Fail> {
-    let start = [0x40_1000];
     let mut always = MemDesk::new(rt.alloc(), &[])?;
     let mut under = MemDesk::new(rt.alloc(), &[])?;
-    let counts = reported(
-        rt.alloc(),
-        &TEXT,
-        &start,
-        &start,
-        Action::Count,
-        &mut always,
-    );
-    let counts = counts.ok_or("reported")?;
-    let compares = reported(
-        rt.alloc(),
-        &TEXT,
-        &start,
-        &start,
-        WHERE_RAX_IS_5,
-        &mut under,
-    );
-    let compares = compares.ok_or("reported")?;
+    let counts = reported_jump(rt.alloc(), Action::Count, &mut always).ok_or("reported")?;
+    let compares = reported_jump(rt.alloc(), WHERE_RAX_IS_5, &mut under).ok_or("reported")?;
     let counting = always.get("O").ok_or("held")?;
     let comparing = under.get("O").ok_or("held")?;
     let refused = Verdict::No {
@@ -85,7 +53,7 @@ fn codes_of_another_condition(rt: HostRuntime) -> Result<(), Fail> {
         (counting, &compares, refused),
         (comparing, &counts, refused),
     ] {
-        let found = verdict(rt.alloc(), &TEXT, &start, written, None, report)?;
+        let found = verdict(rt.alloc(), &JUMP, &START, written, None, report)?;
         assert!(rt; found == Some(told));
     }
     Ok(())

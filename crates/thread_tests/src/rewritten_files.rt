@@ -65,6 +65,21 @@ pub(crate) fn reported<D: Desk>(
     rewrite_threads_reported(alloc, &file, starts, sites, action, &[], "O", desk).ok()
 }
 
+/// A jump to itself at 0x401000, whose trampoline can stand at 0x2401005 alone.
+pub(crate) const JUMP: [u8; 5] = [0xEB, 0xFE, 0, 0, 2];
+
+/// The only start of such a text, and its only site.
+pub(crate) const START: [u32; 1] = [0x40_1000];
+
+/// The report of a patch of the jump to itself with the events of an action, if it was written.
+pub(crate) fn reported_jump<D: Desk>(alloc: Global, action: Action, desk: &mut D) -> Option<Report>
+    requires action { IsAction action }
+    requires shared { IsShared action }
+    requires nothing { (D.seen desk.old).writing ≡ None }
+{
+    reported(alloc, &JUMP, &START, &START, action, desk)
+}
+
 /// The report of such a patch in the loader form, if it was written.
 fn loaded<D: Desk>(
     alloc: Global,
@@ -131,9 +146,8 @@ pub(crate) const CODE: [u8; 37] = [
 
 #[test]
 fn jump_to_itself(rt: HostRuntime) -> Result<(), Fail> {
-    let text = [0xEB, 0xFE, 0, 0, 2];
     let mut desk = MemDesk::new(rt.alloc(), &[])?;
-    let found = rewritten(rt.alloc(), &text, &[0x40_1000], &[0x40_1000], &mut desk).ok_or("read")?;
+    let found = rewritten(rt.alloc(), &JUMP, &START, &START, &mut desk).ok_or("read")?;
     let report = found.ok().ok_or("rewritten")?;
     assert!(rt; report.private.lo == 0x2_0000 && report.private.hi == 0x2_1000);
     assert!(rt; only_place(report.rows.as_slice()) == Some((0x240_1005, 0)));
@@ -150,9 +164,8 @@ const STUB: [u8; 24] = [
 
 #[test]
 fn jump_to_itself_in_loader_form(rt: HostRuntime) -> Result<(), Fail> {
-    let text = [0xEB, 0xFE, 0, 0, 2];
     let mut desk = MemDesk::new(rt.alloc(), &[])?;
-    let found = loaded(rt.alloc(), &text, &[0x40_1000], &[0x40_1000], &mut desk);
+    let found = loaded(rt.alloc(), &JUMP, &START, &START, &mut desk);
     let report = found.ok_or("loaded")?;
     assert!(rt; report.action() == Action::Count);
     assert!(rt; only_place(report.rows()) == Some((0x240_1005, 0)));
@@ -164,17 +177,8 @@ fn jump_to_itself_in_loader_form(rt: HostRuntime) -> Result<(), Fail> {
 
 #[test]
 fn report_of_jump_to_itself(rt: HostRuntime) -> Result<(), Fail> {
-    let text = [0xEB, 0xFE, 0, 0, 2];
     let mut desk = MemDesk::new(rt.alloc(), &[])?;
-    let found = reported(
-        rt.alloc(),
-        &text,
-        &[0x40_1000],
-        &[0x40_1000],
-        Action::Count,
-        &mut desk,
-    );
-    let report = found.ok_or("reported")?;
+    let report = reported_jump(rt.alloc(), Action::Count, &mut desk).ok_or("reported")?;
     assert!(rt; report.action() == Action::Count);
     assert!(rt; report.private().lo == 0x2_0000 && report.private().hi == 0x2_1000);
     assert!(rt; only_place(report.rows()) == Some((0x240_1005, 0)));
@@ -196,17 +200,8 @@ pub(crate) const COVER: [u8; 13] = [
 
 #[test]
 fn cover_of_jump_to_itself(rt: HostRuntime) -> Result<(), Fail> {
-    let text = [0xEB, 0xFE, 0, 0, 2];
     let mut desk = MemDesk::new(rt.alloc(), &[])?;
-    let found = reported(
-        rt.alloc(),
-        &text,
-        &[0x40_1000],
-        &[0x40_1000],
-        Action::Cover,
-        &mut desk,
-    );
-    let report = found.ok_or("reported")?;
+    let report = reported_jump(rt.alloc(), Action::Cover, &mut desk).ok_or("reported")?;
     assert!(rt; report.action() == Action::Cover);
     assert!(rt; only_place(report.rows()) == Some((0x240_1005, 0)));
     let written = desk.get("O").ok_or("held")?;

@@ -74,8 +74,8 @@ returns-in-Ok-Gen-clause-does g c =
     gen_ran (map string_bytes c.args.words.now) _ _ _ _ _ (seen_as told_of c.find.result) _
     (rw c.in-Ok-Gen.field-0-is at c.in-Ok-Gen.ensures) c.find.ensures c.tell-in-Ok-Gen.ensures.printed
 
-pub patch-in-Ok-Load-requires-clause-action : goal.patch-in-Ok-Load-requires-clause-action
-patch-in-Ok-Load-requires-clause-action g c =
+pub patch-requires-in-Ok-Load-clause-action : goal.patch-requires-in-Ok-Load-clause-action
+patch-requires-in-Ok-Load-clause-action g c =
     let n = names_of c.in-Ok-Load.names in
     let pairs = map ends c.in-Ok-Load.reserves.items in
     (known_of (map string_bytes c.args.words.now) (Load n c.in-Ok-Load.action pairs) (rw c.in-Ok-Load.field-0-is at c.in-Ok-Load.ensures)).1
@@ -102,14 +102,14 @@ returns-in-Ok-Threads-clause-does g c =
     (threads_ended (thread_patching n pairs) _ _ _ _ (seen_as told_of c.patch_threads.result) _
     c.patch_threads.ensures.rest c.patch_threads.ensures.ends c.tell-in-Ok-Threads.ensures.printed)
 
-pub patch-in-Ok-ThreadsReported-requires-clause-action : goal.patch-in-Ok-ThreadsReported-requires-clause-action
-patch-in-Ok-ThreadsReported-requires-clause-action g c =
+pub patch-requires-in-Ok-ThreadsReported-clause-action : goal.patch-requires-in-Ok-ThreadsReported-clause-action
+patch-requires-in-Ok-ThreadsReported-clause-action g c =
     (known_of (map string_bytes c.args.words.now)
     (ThreadsReported (names_of c.in-Ok-ThreadsReported.names) c.in-Ok-ThreadsReported.action (map ends c.in-Ok-ThreadsReported.reserves.items))
     (rw c.in-Ok-ThreadsReported.field-0-is at c.in-Ok-ThreadsReported.ensures)).1.0
 
-pub patch-in-Ok-ThreadsReported-requires-clause-shared : goal.patch-in-Ok-ThreadsReported-requires-clause-shared
-patch-in-Ok-ThreadsReported-requires-clause-shared g c =
+pub patch-requires-in-Ok-ThreadsReported-clause-shared : goal.patch-requires-in-Ok-ThreadsReported-clause-shared
+patch-requires-in-Ok-ThreadsReported-clause-shared g c =
     shared c.in-Ok-ThreadsReported.action
     (known_of (map string_bytes c.args.words.now)
     (ThreadsReported (names_of c.in-Ok-ThreadsReported.names) c.in-Ok-ThreadsReported.action (map ends c.in-Ok-ThreadsReported.reserves.items))
@@ -128,14 +128,14 @@ returns-in-Ok-ThreadsReported-clause-does g c =
     (form_ended (for_threads a) (patching n a pairs) (known_of words (ThreadsReported n a pairs) r).0 _ _ _ _ (seen_as told_of c.patch-in-Ok-ThreadsReported.result) _
     c.patch-in-Ok-ThreadsReported.ensures.rest c.patch-in-Ok-ThreadsReported.ensures.ends c.tell-in-Ok-ThreadsReported.ensures.printed)
 
-pub patch-in-Ok-ThreadsLoaded-requires-clause-action : goal.patch-in-Ok-ThreadsLoaded-requires-clause-action
-patch-in-Ok-ThreadsLoaded-requires-clause-action g c =
+pub patch-requires-in-Ok-ThreadsLoaded-clause-action : goal.patch-requires-in-Ok-ThreadsLoaded-clause-action
+patch-requires-in-Ok-ThreadsLoaded-clause-action g c =
     (known_of (map string_bytes c.args.words.now)
     (ThreadsLoaded (names_of c.in-Ok-ThreadsLoaded.names) c.in-Ok-ThreadsLoaded.action (map ends c.in-Ok-ThreadsLoaded.reserves.items))
     (rw c.in-Ok-ThreadsLoaded.field-0-is at c.in-Ok-ThreadsLoaded.ensures)).1.0
 
-pub patch-in-Ok-ThreadsLoaded-requires-clause-shared : goal.patch-in-Ok-ThreadsLoaded-requires-clause-shared
-patch-in-Ok-ThreadsLoaded-requires-clause-shared g c =
+pub patch-requires-in-Ok-ThreadsLoaded-clause-shared : goal.patch-requires-in-Ok-ThreadsLoaded-clause-shared
+patch-requires-in-Ok-ThreadsLoaded-clause-shared g c =
     shared c.in-Ok-ThreadsLoaded.action
     (known_of (map string_bytes c.args.words.now)
     (ThreadsLoaded (names_of c.in-Ok-ThreadsLoaded.names) c.in-Ok-ThreadsLoaded.action (map ends c.in-Ok-ThreadsLoaded.reserves.items))

@@ -115,6 +115,14 @@ def threads_event(k):
     return keep + b"\xf0H\xff\x04%" + pack("<I", 0x20040 + 8 * k) + back
 
 
+def threads_ring_event(k):
+    """The same with a ring of 65,536 slots: rax with the flags stands below rax, LOCK XADD claims a number, whose low word is the slot."""
+    keep, flags = b"H\x89\x84$x\xff\xff\xff\x9f\x0f\x90\xc0", b"H\x89\x84$p\xff\xff\xff"
+    claim = b"\xb8\1\0\0\0\xf0\x0f\xc1\x04%" + pack("<I", 0x20040) + b"\x0f\xb7\xc0"
+    back = b"H\x8b\x84$p\xff\xff\xff\x04\x7f\x9eH\x8b\x84$x\xff\xff\xff"
+    return keep + flags + claim + b"\xc7\x04\x85" + pack("<II", 0x20044, k + 1) + back
+
+
 def pieces_of(pages):
     """Runs of pages, each of which follows the one before, by their first and how many there are."""
     firsts = [page for page in pages if page - 0x1000 not in pages]
@@ -132,7 +140,8 @@ def most_sites(action, event, length):
         places[k], free = free, free + size
     jumps = [b"\xe9" + pack("<i", places[k] - ends[k]) for k in range(count)]
     original = f"origin {0x1000 + 5 * count} 64 1 {text:016x}"
-    code, lines = {}, [f"e9report 2\n{original}\naction {action}\nprivate 00020000 {private}\nsites {count}\n"]
+    mode, kind = "mode threads\n" if action.startswith("threads") else "", action.split()[-1]
+    code, lines = {}, [f"{mode}e9report 2\n{original}\naction {kind}\nprivate 00020000 {private}\nsites {count}\n"]
     for k, place in places.items():
         code[place] = event(k) + movs[k] + b"\xe9" + pack("<i", ends[k] - place - size)
         lines.append(f"site {ends[k] - 5:08x} {k} B1\ntramp {place:08x} {ends[k] - 5:08x} event\n")
@@ -154,13 +163,16 @@ def most_sites(action, event, length):
     words, outputs = [action.encode() if it == b"cover" else it for it in COVER], {"O": out, "R": "".join(lines).encode()}
     if action == "threads":
         words, outputs = b"threads F S T O".split(), {"O": out}
+    elif mode:
+        words = f"threads F S T O action:{kind} report:R".encode().split()
     yield Row(f"most_sites {action}", words, inputs, 0, summary.encode(), outputs)
 
 
 def most_rows():
-    """Trampolines of 18 bytes in 288 pages; of 42 bytes in 672; of 87 bytes in 1,393, on either side of the text."""
+    """Trampolines of 18 bytes in 288 pages; of 42 bytes in 672; of 77 in 1,233 and of 87 in 1,393, on either side of the text."""
     yield from most_sites("cover", cover_event, 64 + 65536)
     yield from most_sites("threads", threads_event, 64 + 8 * 65536)
+    yield from most_sites("threads ring:65536", threads_ring_event, 68 + 4 * 65536)
     for slots in (1, 65536):
         yield from most_sites(f"ring:{slots}", ring_event(slots), 68 + 4 * slots)
 

@@ -163,7 +163,8 @@ UNSOUND_IN_THREADS: list[tuple[str, Files, str]] = [
     ("the victim has an event", in_threads(NEAR, {}, ("0040100a plain", "0040100a event")), "00401000 6"),
     ("the action is to cover, and the code counts", in_threads(NEAR, {}, ("action count", "action cover")), "00021011 4"),
     ("the action has a condition, and the code none", in_threads(ALONE, {}, ("action count", "action count when rdi == 5")), "0002100c 4"),
-    ("the action is neither to count nor to cover", in_threads(NEAR, {}, ("action count", "action ring:1")), "00020000 6"),
+    ("the action keeps a ring, and the code counts", in_threads(ALONE, {}, ("action count", "action ring:256")), "0002100c 4"),
+    ("the ring has a length that threads can't share", in_threads(NEAR, {}, ("action count", "action ring:1")), "00020000 6"),
 ]
 
 CPUID, IMUL, ANSWER = b"\x0f\xa2", b"\x0f\xaf\xc0", b"ask 0fa2 -\n"

@@ -43,13 +43,13 @@ static int is_ending(const struct decoded *insn) {
            (it.map == 1 && is_between(0xE0, 0xE2, it.opcode) && it.address_size);
 }
 
-/* LOCK INC of eight bytes at an address, which threads make in one step. */
-static int is_locked_inc(const struct decoded *insn) {
-    return insn->insn.length == 9 && !memcmp(insn->bytes, "\xf0\x48\xff\x04\x25", 5);
+/* LOCK INC of eight bytes at an address, and LOCK XADD of four with eax, which threads make in one step. */
+static int is_locked(const struct decoded *insn) {
+    return insn->insn.length == 9 && (!memcmp(insn->bytes, "\xf0\x48\xff\x04\x25", 5) || !memcmp(insn->bytes, "\xf0\x0f\xc1\x04\x25", 5));
 }
 
 enum work work_of(const struct decoded *insn) {
-    if (is_locked_inc(insn))
+    if (is_locked(insn))
         return EXACT;
     if (insn->kind == ASKED)
         return ANSWERED;

@@ -99,8 +99,12 @@ size_t site_count(void) {
     return count;
 }
 
+uint64_t record_address(void) {
+    return private_at + SCRATCH;
+}
+
 uint64_t mark_address(const struct site *site) {
-    return private_at + SCRATCH + site->number * event.size;
+    return record_address() + site->number * event.size;
 }
 
 int original_code(uint64_t addr, uint8_t bytes[LONGEST]) {
@@ -167,7 +171,7 @@ static int by_place(const void *a, const void *b) {
 /* Whether a line is one of what every event does. */
 static int is_event_line(const char *line) {
     int at = event.comparison_count;
-    if (sscanf(line, "event %lu %lu", &event.recorded, &event.size) == 2)
+    if (sscanf(line, "event %lu %lu", &event.recorded, &event.size) == 2 || sscanf(line, "ring %lu %lu", &event.slots, &event.claimed) == 2)
         return 1;
     if (at == MOST_COMPARISONS || sscanf(line, "when %d %d %lu", &event.comparisons[at].reg, &event.comparisons[at].sign,
                                          &event.comparisons[at].value) != 3)

@@ -11,10 +11,11 @@ enum mark { START = 1, KNOWN = 2, LISTED = 4, NEW = 8, SITE = 16, EVENT = 32, SA
 
 enum { LONGEST = 15, MOST_COMPARISONS = 3 };
 
-/* What every event does: after how many of its bytes it has recorded, how many bytes it records in, and the condition under which it does:
-   registers, signs as == != < <= > >= are numbered from 0 on, and numbers. */
+/* What every event does: after how many of its bytes it has recorded, how many bytes it records in; of a ring how many slots that has, and
+   after how many bytes one is claimed; and the condition under which it does: registers, signs as == != < <= > >= are numbered from 0 on,
+   and numbers. */
 struct event {
-    uint64_t recorded, size;
+    uint64_t recorded, size, slots, claimed;
     int comparison_count;
     struct {
         int reg, sign;
@@ -34,7 +35,7 @@ struct told {
 };
 
 /* Reads the original file and the facts, whose lines are: start ADDR; new LO HI; private ADDR; told HEADERS COUNT ENTRY; event RECORDED SIZE,
-   and when REG SIGN VALUE for each comparison; behind these site ADDR PLACE NUMBER EVENT. */
+   ring SLOTS CLAIMED, and when REG SIGN VALUE for each comparison; behind these site ADDR PLACE NUMBER EVENT. */
 void read_facts(const char *original, const char *facts);
 
 unsigned marks_of(uint64_t addr);
@@ -49,6 +50,9 @@ const struct event *every_event(void);
 
 /* The site in whose trampoline an address lies up to where its relocated code begins, or none. */
 struct site *site_at(uint64_t addr);
+
+/* The address of what all events record, from its first byte on. */
+uint64_t record_address(void);
 
 /* The site of a number here, below the count of sites, and the address of its record. */
 struct site *site_number(size_t number);

@@ -6,7 +6,7 @@
 #include <string.h>
 #include <ucontext.h>
 
-enum { BELOW_STACK = 136, SAVED = 8, RED_ZONE = 128 };
+enum { RED_ZONE = 128, WORD = 8 };
 
 /* An instruction and what it touched. */
 struct touched {
@@ -32,7 +32,11 @@ int decode_bytes(struct decoded *insn, uint64_t rip, const uint8_t *bytes, size_
 }
 
 uint64_t saved_at(const struct user_regs_struct *regs) {
-    return regs->rsp - BELOW_STACK;
+    return regs->rsp - RED_ZONE - saved_length();
+}
+
+uint64_t saved_length(void) {
+    return every_event()->slots ? 2 * WORD : WORD;
 }
 
 int breaks(const struct thread *thread, const char *form, ...) {
@@ -87,7 +91,7 @@ static const struct thread *other_saved(const struct thread *thread, uint64_t lo
     for (int at = 0; at < thread_count(); at++) {
         const struct thread *other = thread_number(at);
         uint64_t saved = saved_at(&other->regs);
-        if (other != thread && other->state != GONE && marks_of(other->regs.rip) & HAS_SAVED && lo < saved + SAVED && saved < hi)
+        if (other != thread && other->state != GONE && marks_of(other->regs.rip) & HAS_SAVED && lo < saved + saved_length() && saved < hi)
             return other;
     }
     return 0;
@@ -139,7 +143,7 @@ static int is_apart(struct thread *thread, const struct touched *it) {
 
 static void set_stale(const struct thread *thread, unsigned here, const struct touched *it) {
     if (here & SAVES)
-        for (int byte = 0; byte < SAVED; byte++)
+        for (int byte = 0; byte < (int)saved_length(); byte++)
             set_marks(saved_at(&thread->regs) + byte, STALE);
     else if (!(here & EVENT))
         for (int at = 0; at < it->count; at++)
@@ -202,8 +206,10 @@ int judge_step(struct thread *thread, struct user_regs_struct *after) {
         is_well = is_quiet(thread, &made);
     if (is_well && !(here & EVENT))
         is_well = is_fresh(thread, &made);
+    if (here & EVENT && every_event()->slots)
+        watch_ring(thread, site_at(thread->insn.rip));
     uint64_t saved = saved_at(&thread->regs);
-    if (is_well && here & SAVES && first_marked(saved, saved + SAVED, NEW) < saved + SAVED)
+    if (is_well && here & SAVES && first_marked(saved, saved + saved_length(), NEW) < saved + saved_length())
         is_well = breaks(thread, "comes to its event, whose saved bytes at %lx are new addresses, of the patch alone", saved);
     if (!is_well || !is_apart(thread, &made))
         return 0;
@@ -274,13 +280,15 @@ static uint64_t standing_at(const struct site *site) {
         if (thread->state == GONE || came.rip < from || end < came.rip)
             continue;
         if (came.rip < end)
-            read_memory(thread->tid, saved_at(&came), &came.rax, SAVED);
+            read_memory(thread->tid, saved_at(&came), &came.rax, sizeof came.rax);
         found += is_recorded(came);
     }
     return found;
 }
 
 int judge_counters(void) {
+    if (every_event()->slots)
+        return judge_ring(judged.broken, sizeof judged.broken);
     for (size_t at = 0; at < site_count(); at++) {
         const struct site *site = site_number(at);
         uint64_t told = 0, made = site->effects + site->pending + standing_at(site);

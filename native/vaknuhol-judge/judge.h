@@ -42,9 +42,16 @@ int judge_end(struct thread *thread);
 /* Says what broke a premise; returns 0. */
 int breaks(const struct thread *thread, const char *form, ...) __attribute__((format(printf, 2, 3)));
 
-/* Each counter, or byte, is what the steps of its site make of it. */
+/* Each counter, or byte, is what the steps of its site make of it, and a ring what the claims and fills make of it. */
 int judge_counters(void);
 
-/* The first of the eight bytes in which an event saves rax. */
+/* The first of the bytes in which an event saves rax, or of a ring the flags and rax; how many they are. */
 uint64_t saved_at(const struct user_regs_struct *regs);
+uint64_t saved_length(void);
+
+/* ring.c: a step of an event that keeps a ring: it may claim a slot, or fill the one that its thread claimed last. */
+void watch_ring(struct thread *thread, const struct site *site);
+
+/* What of the ring in memory isn't as claims and fills left it, in words; whether it is. */
+int judge_ring(char *what, size_t size);
 #endif

@@ -3,7 +3,7 @@
    (Relocated code). */
 #include "run.h"
 
-enum { BELOW_STACK = 136, CALL_TARGET = 16, FLAGS_PLACE = 8, FLAGS = 0x8d5, AH_FLAGS = 0xd5, OVERFLOW = 0x800, BYTE = 0xff };
+enum { BELOW_STACK = 136, FLAGS_BELOW = 144, CALL_TARGET = 16, FLAGS_PLACE = 8, FLAGS = 0x8d5, AH_FLAGS = 0xd5, OVERFLOW = 0x800, BYTE = 0xff };
 /* MOV p, rax and JMP through memory, before the address; MOV to ecx, JMP by a distance, a prefix for r8 and above, JMP by a register. */
 enum { SAVE_RAX = 0x25048948, JUMP_THROUGH = 0x2524ff, LOAD_ECX = 0xb9, JUMP = 0xe9, HIGH = 0x41, JUMP_BY = 0xe0ff, NO_REGISTER = 0xf8ff };
 
@@ -30,17 +30,39 @@ static void put_back(const struct space *space, pid_t tid, const void *from, siz
         write_memory(tid, patch->private_at + (uint64_t)((const uint8_t *)from - space->range), from, length);
 }
 
+/* The slot of a ring for threads that was claimed last and holds a site's number, or the count of slots: which thread filled it isn't known. */
+static unsigned last_slot(const uint32_t *ring, unsigned number) {
+    for (unsigned back = 1; back <= patch->slots; back++)
+        if (ring[1 + (ring[0] - back) % patch->slots] == number + 1)
+            return (ring[0] - back) % patch->slots;
+    return patch->slots;
+}
+
+/* A claim of a ring for threads is taken back: its slot is as if it was never used, and the position goes back where no other thread has
+   claimed since; else the slot stays empty. */
+static void undo_claim(const struct space *space, pid_t tid, unsigned slot) {
+    uint32_t *ring = (uint32_t *)(space->range + SCRATCH), claims = ring[0];
+    if (slot == patch->slots)
+        return;
+    __atomic_store_n(&ring[1 + slot], 0, __ATOMIC_SEQ_CST);
+    put_back(space, tid, &ring[1 + slot], sizeof *ring);
+    if ((claims - 1) % patch->slots == slot && __atomic_compare_exchange_n(ring, &claims, claims - 1, 0, __ATOMIC_SEQ_CST, __ATOMIC_SEQ_CST))
+        put_back(space, tid, ring, sizeof *ring);
+}
+
 /* A ring's position goes back where it has moved, and the slot there is as if it was never used: what it held before is gone. A counter is changed
    in place, which other threads may do at once. A cover byte stays: it may have been 1 before. */
 static void undo_record(const struct space *space, pid_t tid, unsigned number, struct user_regs_struct *regs, int has_moved) {
     uint64_t *counter = (uint64_t *)(space->range + SCRATCH) + number;
     uint32_t *ring = (uint32_t *)(space->range + SCRATCH);
-    if (patch->kind == RING) {
+    if (patch->kind == RING && patch->for_threads)
+        undo_claim(space, tid, last_slot(ring, number));
+    else if (patch->kind == RING) {
         if (has_moved)
             ring[0] = (ring[0] ? ring[0] : patch->slots) - 1;
         ring[1 + ring[0] % patch->slots] = 0;
         put_back(space, tid, ring, patch->data_length);
-    } else if (patch->has_counters && condition_holds(regs)) {
+    } else if (patch->kind == COUNT && condition_holds(regs)) {
         __atomic_sub_fetch(counter, 1, __ATOMIC_SEQ_CST);
         put_back(space, tid, counter, sizeof *counter);
     }
@@ -48,7 +70,10 @@ static void undo_record(const struct space *space, pid_t tid, unsigned number, s
 
 static void undo_event(const struct space *space, pid_t tid, unsigned number, struct user_regs_struct *regs, unsigned undo) {
     const uint64_t *scratch = (const uint64_t *)space->range;
-    uint32_t ax = (uint32_t)(undo & FLAGS_IN_MEMORY ? scratch[FLAGS_PLACE / sizeof *scratch] : regs->rax);
+    uint64_t kept = patch->for_threads ? eight_at(tid, regs->rsp - FLAGS_BELOW) : scratch[FLAGS_PLACE / sizeof *scratch];
+    uint32_t ax = (uint32_t)(undo & FLAGS_IN_MEMORY ? kept : regs->rax);
+    if (undo & CLAIMED)
+        undo_claim(space, tid, (uint32_t)regs->rax % patch->slots);
     if (undo & FLAGS_ADDED)
         ax = (ax & 0xff00) | ((ax & BYTE) == 0x80);
     if (undo & FLAGS_CHANGED)

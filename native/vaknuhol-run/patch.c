@@ -4,7 +4,7 @@
 
 const struct patch *patch;
 const char *row_text;
-static const char MARK[sizeof patch->mark] = "vakrun 4\n";
+static const char MARK[sizeof patch->mark] = "vakrun 5\n";
 static const struct tramp *tramps;
 
 void read_patch(const char *path) {

@@ -25,7 +25,7 @@ void open_record(const struct run *run) {
 void add_counts(const struct space *it) {
     const uint8_t *data = it->range + SCRATCH;
     for (unsigned n = 0; n < patch->sites; n++)
-        total[n] += patch->has_counters ? ((const uint64_t *)data)[n] : data[n];
+        total[n] += patch->kind == COUNT ? ((const uint64_t *)data)[n] : data[n];
 }
 
 /* The rows' text, with counts in the place of zeros. */
@@ -48,11 +48,11 @@ static void put_counts(void) {
     total = of_ended;
 }
 
-/* The events of a ring, oldest first: from the slot that is next, and round to it; an unused slot holds 0. */
+/* The events in the last slots of a ring that are shown, oldest first, up to the slot that is next; an unused slot holds 0. */
 static void put_ring(const struct space *it) {
     const uint32_t *data = (const uint32_t *)(it->range + SCRATCH);
     fprintf(half, "process %d %s\n", it->number, it->ended);
-    for (unsigned n = 0; n < patch->slots; n++) {
+    for (unsigned n = patch->slots - patch->shown; n < patch->slots; n++) {
         uint32_t event = data[1 + (data[0] % patch->slots + n) % patch->slots];
         if (event && event <= patch->row_count && patch->rows[event - 1].number == event - 1)
             fprintf(half, "%.*s\n", ROW_ADDRESSES - 1, row_text + patch->rows[event - 1].at);

@@ -24,8 +24,9 @@ enum { REFUSED = 125, NOT_STARTED = 126 }; /* statuses: something is refused, by
 enum action_kind { COVER, COUNT, RING };
 enum { SCRATCH = 64, ROW_ADDRESSES = 27, MOST_COMPARISONS = 3, LONGEST_EVENT = 80 };
 /* How an event is undone where a thread stands at one of its instructions: rax is given back; the flags are, from AH and AL as LAHF and SETO left
-   them, in rax or in memory, or as ADD AL, 7F changed them; its record is made; of a ring only the slot is written. */
-enum { RAX_IS_KEPT = 1, FLAGS_CHANGED = 2, FLAGS_IN_MEMORY = 4, FLAGS_ADDED = 8, RECORDED = 16, SLOT_WRITTEN = 32 };
+   them, in rax or in memory, or as ADD AL, 7F changed them; its record is made; of a ring only the slot is written, or, of one for threads, a slot is
+   claimed, to which eax leads. */
+enum { RAX_IS_KEPT = 1, FLAGS_CHANGED = 2, FLAGS_IN_MEMORY = 4, FLAGS_ADDED = 8, RECORDED = 16, SLOT_WRITTEN = 32, CLAIMED = 64 };
 enum { PLAIN = 0xffffffff, NOWHERE = 0xfffffffe }; /* in the place of a number: a trampoline without event; no trampoline */
 
 struct row { /* a block's number, or one that no site has, and where its line in the rows' text begins */
@@ -37,7 +38,7 @@ struct tramp { /* it ends where the next one begins */
 /* A run file, as it lies in memory: scripts/vaknuhol/recording/run_file.py writes it, numbers little-endian, texts filled up by zeros. */
 struct patch {
     char mark[16], head[512], left[128], warning[512]; /* of a record: its head, and of a ring its line on blocks left; told at the first thread */
-    uint32_t kind, has_counters, for_threads, slots, sites, event_length, comparison_count, row_count, tramp_count, text_length;
+    uint32_t kind, for_threads, slots, shown, sites, event_length, comparison_count, row_count, tramp_count, text_length;
     uint64_t private_at, private_length, data_length;
     uint64_t headers_at, header_count, entry; /* of the original, as the kernel tells them to it; a count of 0 where they aren't known */
     struct {

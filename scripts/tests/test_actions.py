@@ -21,7 +21,19 @@ REGISTERS = {"rdi": 2, "rsi": 2147483647, "rsp": 0}
 def test_ring_wraps_at_its_length(numbers, events):
     """Not full, full, its position at the begin and at the end, and where something else wrote."""
     action = action_of("ring:3")
-    assert isinstance(action, Ring) and action.events(numbers) == events
+    assert isinstance(action, Ring) and action.events(numbers, action.slots) == events
+
+
+@pytest.mark.parametrize("asked, slots", [(1, 256), (256, 256), (257, 65536), (65536, 65536)])
+def test_threads_share_the_shortest_ring_that_holds_the_events(asked, slots):
+    assert action_of(f"ring:{asked}").patched(for_threads=True).name == f"ring:{slots}"
+    assert action_of(f"ring:{asked}").patched(for_threads=False).name == f"ring:{asked}"
+
+
+def test_the_last_events_of_a_longer_ring_are_told():
+    """By a position that goes on beyond its length; an unused slot among them is none."""
+    assert Ring.events([2 + 256, *range(1, 257)], 3) == [255, 0, 1]
+    assert Ring.events([3, 1, 2, 0, *[0] * 253], 3) == [0, 1]
 
 
 def test_ring_has_a_slot_more_than_its_length_for_the_next_one():

@@ -8,12 +8,10 @@ from tests.calls import run
 from tests.command import LAST, call
 from tests.programs import Programs, inside
 from vaknuhol.main import MODULES
-from vaknuhol.recording.thread_use import NO_RING as SHARED_BY_NONE
 
 pytestmark = pytest.mark.xdist_group("command refusals")
 NAMES = [name for names in MODULES.values() for name in names]
 CONTROL = "a name with a newline or another control character is not taken: rename it"
-NO_RING = f"--threads: {SHARED_BY_NONE}: vaknuhol cover and vaknuhol count take it"
 REFUSED = [
     (["count", "a\nb"], 125, rf"PROGRAM: 'a\nb': {CONTROL}"),
     (["count", "tour", "--record", "a\x1bb"], 125, rf"--record: 'a\x1bb': {CONTROL}"),
@@ -33,7 +31,6 @@ REFUSED = [
         125,
         "--own: no such block has a line of a source file of bare's own: was it built with -g?",
     ),
-    (["ring", "9", "tour", "--threads"], 125, NO_RING),
     (["frob"], 2, "frob is no command (vaknuhol help lists them)"),
     (["cuont", "tour"], 2, "cuont is no command (did you mean count? vaknuhol help lists them)"),
     (["help", "cuont"], 2, "cuont is no command (did you mean count? vaknuhol help lists them)"),

@@ -19,7 +19,7 @@ def report_of(action, patched, left):
     return double(action=action_of(action), hash=HASH, for_threads=False, patched=patched, left=left)
 
 
-RUN = double(blocks=BLOCKS)
+RUN = double(blocks=BLOCKS, action=action_of("ring:3"))
 COUNTS = report_of("count", {0x401004: 1, 0x401008: 0}, {0x40100C: "Shared"})
 
 

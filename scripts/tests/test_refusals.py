@@ -8,7 +8,6 @@ import pytest
 
 from tests.calls import patch, path_of, record, run, words_of
 from tests.programs import HALTING, Programs, compile_text, inside
-from vaknuhol.recording.thread_use import NO_RING
 
 pytestmark = pytest.mark.xdist_group("refusals")
 REPORT, PATCHED, STARTS = (path_of("lines", "count", it) for it in ("report", "patched", "starts"))
@@ -81,7 +80,6 @@ PATCH: list[tuple[list[str], str]] = [
     (["lines", "--jumps", "--when", " and ".join(["rax > 0"] * 4)], "--when: 4 comparisons; a condition has at most 3"),
     (["lines", "--jumps", "--ring", "3", "--count"], "--ring: not allowed with argument --count"),
     (["lines", "--jumps", "--ring", "3", "--when", "rax > 0"], "--ring: not allowed with argument --when"),
-    (["lines", "--jumps", "--threads", "--ring", "3"], f"--threads: {NO_RING}; give no --ring with it"),
     (
         ["hlt", "--symbols", "stop"],
         "no site could be patched (NotRelocatable 1 NoPlan 0 Shared 0), so nothing is written: choose other blocks, "

@@ -35,7 +35,8 @@ CASES = (
 )
 ACTIONS = {
     "count": ("count", "--no-threads"),
-    "ring": ("ring", "64", "--own"),
+    "ring": ("ring", "64", "--no-threads", "--own"),
+    "ring of threads": ("ring", "64", "--threads", "--own"),
     "condition": ("count", "--no-threads", "--when", "rdi < 1000000000", "--own"),
 }
 ELSEWHERE = re.compile(
@@ -140,7 +141,7 @@ def flooded(path: str) -> tuple[str, int]:
         return shell.stdout.read(), shell.returncode
 
 
-@pytest.mark.parametrize("words", [("count",), ("ring", "64"), ("count", "--when", "rdi < 1000000000")], ids=ACTIONS)
+@pytest.mark.parametrize("words", [("count",), ("ring", "64"), ("count", "--when", "rdi < 1000000000")])
 def test_a_shell_with_traps_is_the_original_under_a_flood_of_signals(words) -> None:
     """Its heart is patched: where signals were not held, it breaks off or prints wrong sums in nearly each run."""
     need("busybox")

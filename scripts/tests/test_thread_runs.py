@@ -1,6 +1,5 @@
 """Runs of programs with threads, stepped and judged by the premises of their theorem: some that keep them, and small
 programs each of which breaks one of them."""
-import os
 import re
 import subprocess
 
@@ -52,6 +51,7 @@ ACTIONS: dict[str, list[str]] = {
     "cover": [],
     "count where": ["--count", "--when", "rax == 0 and rsp > 0"],
     "cover where": ["--when", "rax != 1 and rbp < 99"],
+    "ring": ["--ring", "9"],
 }
 KEEPING = [("NONE", 3, 0), ("FOUR", 5, 0), ("WRITTEN_BELOW", 3, 0), ("SIGNALS", 3, 18), ("HELD", 3, 36)]
 
@@ -120,8 +120,3 @@ def test_a_record_that_differs_from_the_steps_is_told(action, others):
     form = "\ncounters the record of the site at ([0-9a-f]+) is ([0-9]+), but ([0-9]+) came by it{}\n"
     told = match(form.format(others[2]), read_text("result"))
     assert f"\nsite {int(told[1], 16):x} " in facts and told[2] != told[3], told
-
-
-def test_a_ring_of_threads_is_refused():
-    _, lines, told = replay("--threads", "--ring", "9", build("NONE", SOURCE)[0])
-    assert not lines and "has no ring, which" in told and not os.path.exists("result"), told

@@ -20,7 +20,6 @@ COUNTED = {"*(long *)sum += i;": 4 * TIMES, "pthread_create(": 4, "pthread_join(
 PATCHED_FOR = "so it is patched for threads (--no-threads leaves that)\n"
 LAST = "threads.vak/last.record"
 MEANT = "--threads is meant for such a program\n"
-NO_RING = "--threads, which is meant for such a program, has no ring\n"
 LOST = "several threads wrote this record, and what two do at once may be lost: "
 
 
@@ -163,9 +162,9 @@ def test_with_no_threads_a_record_says_that_counts_may_be_lost(counted):
     assert call("report", "threads", "alone", "counted.record")[0].endswith(LOST + MEANT)
 
 
-def test_a_ring_of_threads_is_warned_of(threads):
-    _, told = call("ring", "4", "threads", "--symbols", "main")
-    assert told.count(f"crash; {NO_RING}") == 2 and told.endswith(LOST + NO_RING), told
+def test_a_ring_of_threads_that_is_not_for_them_is_warned_of(threads):
+    _, told = call("ring", "4", "threads", "--no-threads", "--symbols", "main")
+    assert told.count(f"crash; {MEANT}") == 2 and told.endswith(LOST + MEANT), told
 
 
 def test_without_a_word_a_program_that_starts_threads_is_patched_for_them(threads):
@@ -189,8 +188,21 @@ def test_without_a_word_a_program_without_threads_is_not(counted_tour):
     assert PATCHED_FOR not in call("count", "tour", status=4)[1]
 
 
-def test_without_a_word_a_ring_is_not_patched_for_threads_and_says_so(threads):
-    _, shown = call("ring", "4", "threads", "--into", "own", "--patch-only")
-    assert (
-        PATCHED_FOR not in shown and "warning: threads has the function pthread_create" in shown and NO_RING in shown
-    ), shown
+def test_without_a_word_a_ring_is_patched_for_threads_too(threads):
+    """And the record tells the last of a longer ring."""
+    _, shown = call("ring", "4", "threads", "--own")
+    (history,) = Record(LAST).histories
+    assert PATCHED_FOR in shown and "warning" not in shown and Record(LAST).for_threads, shown
+    assert Record(LAST).action.name == "ring:4" and len(history.rows) == 4, history.rows
+
+
+@pytest.mark.parametrize("turns, slots", [(9, 256), (9, 65536), (2000, 65536)])
+def test_a_ring_of_threads_has_as_many_rows_as_there_were_events(programs, turns, slots):
+    """All of them, where they are fewer than it has slots."""
+    name = f"threads_{turns}"
+    programs.bring(name, "threads.c", "-pthread", f"-DTIMES={turns}")
+    call("count", name, "--symbols", "add", "--quiet", "--record", "counts")
+    call("ring", str(slots), name, "--symbols", "add", "--quiet", "--record", "ring")
+    (history,) = Record("ring").histories
+    assert Record("ring").for_threads and None not in history.rows
+    assert len(history.rows) == sum(row.count or 0 for row in Record("counts").rows) > turns

@@ -1,5 +1,5 @@
 -- What the form of a command's words gives of its names and numbers.
-use Rattle.std.proofs.Common.{◌≡◌, ℕ, ◌+◌, ◌<◌, ◌≤◌, ◌==◌, Bool, true, false, ◌&&◌, not, nat_lt, if◌then◌else◌, List, [], ◌∷◌, take, drop, Option, Some, None, Decides, codes, refl, sym, subst, arith}
+use Rattle.std.proofs.Common.{◌≡◌, ℕ, ◌+◌, ◌<◌, ◌≤◌, ◌==◌, Bool, true, false, ◌&&◌, ◌||◌, not, nat_lt, if◌then◌else◌, List, [], ◌∷◌, take, drop, Option, Some, None, Decides, codes, refl, sym, subst, arith}
 use Rattle.std.specs.List.{list_all}
 use Rattle.std.specs.Str.{bytes_eq}
 use Rattle.std.proofs.lemmas.Bool.{and_parts}
@@ -13,9 +13,14 @@ use Rattle.list_text.specs.Words.{action_of, count_of}
 use Rattle.list_text.proofs.ActionSpellings.{actions_are_spelled}
 use Rattle.command_words.specs.Words.{Names, ThreadNames, UnpatchNames, Command, Usage, Patch, Step, Gen, Load, Threads, ThreadsReported, ThreadsLoaded, Unpatch, is_plain, are_apart, patch_with, reserves_of, patch_of, check_of, most_steps, step_with, step_of, most_seed, most_blocks, nonzero, blocks_of, gen_with, gen_of, load_with, load_of, threads_with, reported_with, report_of, threads_by, threads_after, acting_with, asked, action_asked, threads_acting, threads_by_action, loaded_with, is_loader_form, threads_in_form, threads_of, unpatch_of, CommandRow, commands, under_name, form_of, command_of}
 
--- An action that can be asked for, and isn't a ring.
+-- An action whose ring, if it keeps one, has 256 or 65,536 slots.
+abbrev pub HasThreadSlots : Action → Type 0
+HasThreadSlots (Ring len) = (len == 256 || len == 65536) ≡ true
+HasThreadSlots other = Unit {0}
+
+-- An action that can be asked for, with slots for threads if it keeps a ring.
 abbrev pub IsThreadAction : Action → Type 0
-IsThreadAction a = IsAction a × ((len : ℕ) → a ≡ Ring len → ⊥)
+IsThreadAction a = IsAction a × HasThreadSlots a
 
 -- What is known of a command that words are of: its outputs are apart, its action can be asked for, and its numbers are within their limits.
 abbrev pub IsKnown : Command → Type 0
@@ -121,16 +126,20 @@ known_gen (seed ∷ blocks ∷ []) =
     parts (Some s) (Some n) f = f n refl
 known_gen other = tt
 
--- ---- the output of `threads` is apart from its inputs, and from its report, and its action isn't a ring
+-- ---- the output of `threads` is apart from its inputs, and from its report, and its action has slots for threads if it keeps a ring
 
 -- an action that a word may ask for isn't one
 asked_known : (o : Option Action) → ((a : Action) → o ≡ Some a → IsAction a) → (a : Action) → asked o ≡ Some a → IsThreadAction a
 asked_known None f a e = cc
-asked_known (Some Cover) f a e = let same : Cover ≡ a = cc in subst IsThreadAction same (tt, λ len q. cc)
+asked_known (Some Cover) f a e = let same : Cover ≡ a = cc in subst IsThreadAction same (tt, tt)
 asked_known (Some Count) f a e = cc
-asked_known (Some (Ring len)) f a e = cc
+asked_known (Some (Ring len)) f a e = go (len == 256 || len == 65536) refl e
+  where
+    go : (b : Bool) → (len == 256 || len == 65536) ≡ b → (if b then Some (Ring len) else None) ≡ Some a → IsThreadAction a
+    go true t h = let same : Ring len ≡ a = cc in subst IsThreadAction same (f (Ring len) refl, t)
+    go false t h = cc
 asked_known (Some (When b list)) f a e =
-    let same : When b list ≡ a = cc in subst IsThreadAction same (f (When b list) refl, λ len q. cc)
+    let same : When b list ≡ a = cc in subst IsThreadAction same (f (When b list) refl, tt)
 
 -- an action that a word asks for
 action_known : (word : List ℕ) (a : Action) → action_asked word ≡ Some a → IsThreadAction a
@@ -157,7 +166,7 @@ known_threads (file ∷ starts ∷ sites ∷ out ∷ words) = in_form (record { 
         (bytes_eq-Decides n.out n.starts) (bytes_eq-Decides n.out n.sites)
 
     by_apart : (n : Names) (r : List (ℕ × ℕ)) (b : Bool) → (b ≡ true → n.out ≡ n.report → ⊥) → IsKnown (if b then ThreadsReported n Count r else Usage)
-    by_apart n r true f = (f refl, (tt, λ len q. cc))
+    by_apart n r true f = (f refl, (tt, tt))
     by_apart n r false f = tt
 
     reported : (n : Names) (reserves : Option (List (ℕ × ℕ))) → IsKnown (reported_with n reserves)

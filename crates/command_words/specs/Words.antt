@@ -1,9 +1,9 @@
 -- What the words of the command line ask for. Theorems cite it.
-use Rattle.std.specs.Prelude.{ℕ, ◌==◌, Bool, true, false, not, ◌&&◌, nat_le, if◌then◌else◌, List, [], ◌∷◌, length, take, drop, map, Option, Some, None, codes}
+use Rattle.std.specs.Prelude.{ℕ, ◌==◌, Bool, true, false, not, ◌&&◌, ◌||◌, nat_le, if◌then◌else◌, List, [], ◌∷◌, length, take, drop, map, Option, Some, None, codes}
 use Rattle.std.specs.List.{list_all}
 use Rattle.std.specs.Str.{bytes_eq}
 use Rattle.pun_base.specs.declared.action.Action.{Action}
-use Rattle.pun_base.specs.declared.action.Action.TheVariants.{Cover, Count, When}
+use Rattle.pun_base.specs.declared.action.Action.TheVariants.{Cover, Count, Ring, When}
 use Rattle.list_text.specs.Words.{action_of, range_of, count_of}
 use Rattle.command_words.specs.Synopses.{Synopsis, usage_of}
 
@@ -207,12 +207,13 @@ abbrev pub acting_with : Action → Command → Command
 acting_with a (ThreadsReported names action reserves) = ThreadsReported names a reserves
 acting_with a other = Usage
 
--- A word of `threads` asks for this action: it covers, or has a condition. Without such a word the events count at each execution, and none
--- of threads goes to a ring.
+-- A word of `threads` asks for this action: it covers, has a condition, or keeps a ring where the low byte or the low word of the number of
+-- events so far is the number of a slot. Without such a word the events count at each execution.
 abbrev pub is_asked : Action → Bool
 is_asked Cover = true
+is_asked Count = false
+is_asked (Ring len) = len == 256 || len == 65536
 is_asked (When b list) = true
-is_asked other = false
 
 -- The action, where a word of `threads` asks for it.
 abbrev pub asked : Option Action → Option Action

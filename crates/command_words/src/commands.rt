@@ -274,13 +274,14 @@ fn action_asked(word: &str) -> Option<Action>
     }
 }
 
-/// Whether a word of `threads` asks for this action: it covers, or has a condition.
+/// Whether a word of `threads` asks for this action: it covers, has a condition, or keeps a ring of 256 or 65,536 slots.
 fn is_asked(action: Action) -> bool
     ensures { result ≡ can_be_asked action }
 {
     match action {
         Action::Cover | Action::When { .. } => true,
-        Action::Count | Action::Ring { .. } => false,
+        Action::Count => false,
+        Action::Ring { len } => len == 256 || len == 65_536,
     }
 }
 

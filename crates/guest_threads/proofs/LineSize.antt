@@ -17,21 +17,21 @@ use Rattle.start_entries.specs.Standing.{AreEntries}
 use Rattle.start_list.specs.Forms as forms
 use Rattle.patch_report.proofs.ListPlaces.{In, all_in}
 use Rattle.image_check.specs.Reports.{Line}
-use Rattle.site_turns.specs.Modes.{thread_base, thread_when, thread_event_size, thread_event_of}
+use Rattle.site_turns.specs.Modes.{thread_event_size, thread_event_of}
 use Rattle.site_turns.specs.States.{Scene, State}
 use Rattle.site_turns.specs.Folded.{Done, done_by, size_from, code_size, in_code}
 use Rattle.site_turns.proofs.KeptLocks.{within}
-use Rattle.thread_runs.specs.Building.{when_of}
-use Rattle.thread_runs.specs.ThreadCode.{event_len, event_if, thread_work, code_if}
+use Rattle.thread_runs.specs.Building.{event_of, when_of}
+use Rattle.thread_runs.specs.ThreadCode.{event_len, event_if, thread_work}
 use Rattle.trampoline.specs.Atomic.{is_atomic, thread_len, back, can_by}
-use Rattle.guest_threads.specs.FromTurns.{IsForThreads, IsThreadLine}
+use Rattle.guest_threads.specs.FromTurns.{IsForThreads, code_of_line, IsThreadLine}
 use Rattle.guest_threads.proofs.ThreadConditions.{event_size_is}
 use Rattle.thread_runs.proofs.ThreadTrampolines.{event_long}
 use Rattle.thread_runs.proofs.WorkSize.{told, work_size}
 
 -- a turn takes the bytes of an event, where there is one, and those of the work
 size_by : (a : Action) (b : Bool) (e : StartEntry) (n : ℕ) → forms.work_length e ≡ Some n
-    → size_from (thread_event_size a) b (Some e) ≡ Some (event_len (thread_event_of (thread_base a) b) (when_of (thread_when a)) + n)
+    → size_from (thread_event_size a) b (Some e) ≡ Some (event_len (event_of (thread_event_of a b)) (when_of (thread_event_of a b)) + n)
 size_by a true e n h = ap (option_map (λ n. thread_event_size a + n)) h ∙ ap (λ k. Some (k + n)) (event_size_is a)
 size_by a false e n h = ap (option_map (λ n. 0 + n)) h
 
@@ -74,16 +74,16 @@ module _ (g : Scene) (t : State) (A : AreEntries g.image g.entries) (T : IsForTh
         record { fields = k.fields; spelled = k.spelled; stands = k.stands; len = k.len; form = k.form; size = s.0; displaced = s.1 }
 
     abbrev pub code_with : Known → List ℕ
-    code_with k = code_if (thread_event_of (thread_base g.action) l.tramp.event) (when_of (thread_when g.action)) g.private.lo l.number k.fields (e.addr + e.len) l.tramp.place
+    code_with k = code_of_line g.action g.private.lo l k.fields (e.addr + e.len)
 
     -- the code of a line has as many bytes as its event, the instruction's own code and the jump back
-    long : (k : Known) → length (code_with k) ≡ event_len (thread_event_of (thread_base g.action) l.tramp.event) (when_of (thread_when g.action)) + (k.size + back (insn_of k.fields))
+    long : (k : Known) → length (code_with k) ≡ event_len (event_of (thread_event_of g.action l.tramp.event)) (when_of (thread_event_of g.action l.tramp.event)) + (k.size + back (insn_of k.fields))
     long k =
-        let to = l.tramp.place + event_len (thread_event_of (thread_base g.action) l.tramp.event) (when_of (thread_when g.action)) in
-        let event = event_long (thread_event_of (thread_base g.action) l.tramp.event) (when_of (thread_when g.action)) g.private.lo l.number in
+        let to = l.tramp.place + event_len (event_of (thread_event_of g.action l.tramp.event)) (when_of (thread_event_of g.action l.tramp.event)) in
+        let event = event_long (event_of (thread_event_of g.action l.tramp.event)) (when_of (thread_event_of g.action l.tramp.event)) g.private.lo l.number in
         omega (
           arith,
-          length-append (event_if (thread_event_of (thread_base g.action) l.tramp.event) (when_of (thread_when g.action)) g.private.lo l.number) (thread_work k.fields (e.addr + e.len) to),
+          length-append (event_if (event_of (thread_event_of g.action l.tramp.event)) (when_of (thread_event_of g.action l.tramp.event)) g.private.lo l.number) (thread_work k.fields (e.addr + e.len) to),
           event,
           work_size k.fields (e.addr + e.len) to k.size e.len e.addr k.spelled k.len k.displaced,
         )

@@ -134,8 +134,8 @@ shown_is_threaded g taken sites choices m j A asked T S h is shown o =
     let t = state_after g (first_state g) sites choices in
     let q = turns_for_threads g sites choices A T h.sites h.turns in
     let f = turns_keep g five sites choices five_lead A h.sites h.turns in
-    let c = marks_have_room g taken sites choices S h.private h.turns in
-    let sound = folded_is_thread_sound g t m (entry_of j.orig) A asked f T q.0 q.1 (loaded g t m j A f T q.0 c is shown o) in
+    let c = marks_have_room g taken sites choices h.private h.turns in
+    let sound = folded_is_thread_sound g t m (entry_of j.orig) A asked S f T q.0 q.1 (loaded g t m j A f T q.0 c is shown o) in
     let r = threads_followed (threading_of g t m (entry_of j.orig)) A sound in
     let d = threads_followed_with (threading_of g t m (entry_of j.orig)) A sound in
     record { sound = sound; followed = r.0; out = r.1; followed_with = d.0; out_with = d.1; entry = λ few. (layout_loads j is few).entry }

@@ -28,7 +28,7 @@ use Rattle.image_check.specs.Rules.{displaced_from}
 use Rattle.image_check.proofs.CodeAtStarts.{found_address}
 use Rattle.site_turns.specs.Folded.{code_size, done_by}
 use Rattle.site_turns.specs.Jobs.{patch_of}
-use Rattle.site_turns.specs.Modes.{thread_rules, thread_base, thread_when, IsShared, thread_event_of}
+use Rattle.site_turns.specs.Modes.{thread_rules, IsShared}
 use Rattle.site_turns.specs.PlannedState.{PlannedState}
 use Rattle.site_turns.specs.Planning.{Request, Turns, lines_of, AreCodesBy, IsTurned, scene_under, end_under, taken_at_first}
 use Rattle.site_turns.specs.PlanLaws.{IsAsked, CanBeWritten, job_for, writes_of}
@@ -44,9 +44,7 @@ use Rattle.site_turns.proofs.PlansWithOneJump.{entry_listed}
 use Rattle.site_turns.proofs.LoadedJobs.{five_lead}
 use Rattle.site_turns.proofs.CodeSizes.{one_standing}
 use Rattle.guest_threads.specs.declared.planning.ThreadSetting.{ThreadSetting}
-use Rattle.guest_threads.specs.FromTurns.{IsForThreads, IsThreadLine, OfCode, IsThreadJobOf, IsThreaded}
-use Rattle.thread_runs.specs.Building.{when_of}
-use Rattle.thread_runs.specs.ThreadCode.{code_if}
+use Rattle.guest_threads.specs.FromTurns.{IsForThreads, code_of_line, IsThreadLine, OfCode, IsThreadJobOf, IsThreaded}
 use Rattle.guest_threads.specs.ThreadPlanning.{HasThreadCode, IsThreadPlanned, IsThreadSetting, CanBuildThread}
 use Rattle.guest_threads.proofs.LineSize.{Known, instruction, size_is}
 use Rattle.guest_threads.proofs.LoadedThreadFiles.{shown_is_threaded}
@@ -123,12 +121,12 @@ module _ (q : Request) (t : Turns) (range : Range) (told : List ReportRow) (A : 
         (subst (λ (z : ℕ). Stands (image_of q.file) z (spelling known.fields)) (found_address q.listed l.tramp.start there.entry there.at) known.stands)
 
     -- the code is that of the trampoline
-    is_known : code ≡ code_if (thread_event_of (thread_base q.action) l.tramp.event) (when_of (thread_when q.action)) t.private.lo l.number known.fields (there.entry.addr + there.entry.len) l.tramp.place
+    is_known : code ≡ code_of_line q.action t.private.lo l known.fields (there.entry.addr + there.entry.len)
     is_known =
         let lo : range.lo ≡ t.private.lo = ap (λ (e : Extent). e.lo) h.private in
         let next : l.tramp.start + length (spelling k.fields) ≡ there.entry.addr + there.entry.len =
         ap₂ (λ x y. x + y) (sym (found_address q.listed l.tramp.start there.entry there.at)) (ap (λ (f : Fields). length (spelling f)) same ∙ known.len) in
-        k.is ∙ (λ j. code_if (thread_event_of (thread_base q.action) l.tramp.event) (when_of (thread_when q.action)) (lo j) l.number (same j) (next j) l.tramp.place)
+        k.is ∙ (λ j. code_of_line q.action (lo j) l (same j) (next j))
 
     -- the code of a line has as many bytes as its turn took
     pub line_sized : code_size g l ≡ Some (length code)
@@ -178,10 +176,10 @@ module _ (q : Request) (t : Turns) (p : PlannedState) (a : IsAsked q) (h : IsThr
         let same : c.fields ≡ f = one_standing (image_of q.file) l.tramp.start c.fields f c.spelled is c.stands stands in
         let lo : p.private.lo ≡ t.private.lo = ap (λ (e : Extent). e.lo) h.turned.private in
         let ends : l.tramp.start + length (spelling c.fields) ≡ next = ap (λ (z : Fields). l.tramp.start + length (spelling z)) same ∙ sym n in
-        let code : x.built.code.bytes ≡ code_if (thread_event_of (thread_base q.action) l.tramp.event) (when_of (thread_when q.action)) t.private.lo l.number f next l.tramp.place =
-        c.is ∙ (λ k. code_if (thread_event_of (thread_base q.action) l.tramp.event) (when_of (thread_when q.action)) (lo k) l.number (same k) (ends k) l.tramp.place) in
+        let code : x.built.code.bytes ≡ code_of_line q.action t.private.lo l f next =
+        c.is ∙ (λ k. code_of_line q.action (lo k) l (same k) (ends k)) in
         let place = x.place in
-        let e : views.piece_of x.built ≡ record { addr = l.tramp.place; now = code_if (thread_event_of (thread_base q.action) l.tramp.event) (when_of (thread_when q.action)) t.private.lo l.number f next l.tramp.place } =
+        let e : views.piece_of x.built ≡ record { addr = l.tramp.place; now = code_of_line q.action t.private.lo l f next } =
         λ k. record { addr = place k; now = code k } in
         subst (Contains j.pieces) e (contains_at j.pieces w.0 (views.piece_of x.built) w.1)
 

@@ -1,10 +1,11 @@
 -- What the turns have done, loaded with the code of threads, is sound for threads.
-use Rattle.std.proofs.Common.{◌≡◌, ◌⊎◌, inl, inr, ℕ, zero, suc, ◌+◌, ◌-◌, ◌<◌, ◌≤◌, Bool, true, false, not, ◌&&◌, eqb, leb, ltb, List, [], ◌∷◌, length, Option, Some, None, refl, sym, ap, ap₂, ◌∙◌, subst, arith}
+use Rattle.std.proofs.Common.{◌≡◌, ◌⊎◌, inl, inr, ℕ, zero, suc, ◌+◌, ◌-◌, ◌^◌, ◌<◌, ◌≤◌, Bool, true, false, not, ◌&&◌, eqb, leb, ltb, List, [], ◌∷◌, length, Option, Some, None, refl, sym, ap, ap₂, ◌∙◌, subst, arith}
 use Rattle.std.specs.Prelude.{Contains, count_by, slice_get}
 use Rattle.std.specs.Option.{is_some, option_map, option_to_list}
 use Rattle.std.specs.List.{list_any, AllByRecursion}
 use Rattle.std.proofs.lemmas.Bool.{and_from, cases_eq, cases_order, eqb-true, eq-eqb, le-leb, lt-ltb, false_from_ne_true, true≢false}
 use Rattle.pun_base.specs.Memory.{Cell, Bytes}
+use Rattle.pun_base.specs.declared.action.Action.{Action}
 use Rattle.pun_base.specs.declared.action.Base.{Base}
 use Rattle.pun_base.specs.declared.action.Base.TheVariants.{Cover, Count}
 use Rattle.pun_base.specs.Actions.{IsAction}
@@ -27,13 +28,14 @@ use Rattle.site_turns.specs.Laws.{EventsAreNumbered}
 use Rattle.site_turns.specs.Loaded.{AreShown}
 use Rattle.site_turns.proofs.CellsAndRows.{held_by}
 use Rattle.site_turns.proofs.PlanForms.{entry_here}
-use Rattle.site_turns.specs.Modes.{thread_base, thread_event_of}
-use Rattle.thread_runs.specs.ThreadCode.{mark_at, mark_len, code_if}
-use Rattle.thread_runs.specs.Threading.{ThreadSite, Threading, next_of, is_new, ByTwoJumps, IsThreadSite, is_code_of, IsThreadSound}
-use Rattle.guest_threads.specs.FromTurns.{IsForThreads, site_with, site_of, threading_of, IsThreadLine, IsThreadLoaded, FoldedIsThreadSound}
+use Rattle.site_turns.specs.Modes.{IsShared, thread_event_of}
+use Rattle.thread_runs.specs.Building.{kind_of, event_of}
+use Rattle.thread_runs.specs.ThreadCode.{Kind, Marks, mark_at, mark_len, slot_at, code_if}
+use Rattle.thread_runs.specs.Threading.{ThreadSite, Threading, next_of, is_new, ring_of, ByTwoJumps, IsThreadSite, is_code_of, IsRingSound, IsThreadSound}
+use Rattle.guest_threads.specs.FromTurns.{IsForThreads, site_with, site_of, threading_of, IsThreadLine, HaveRoom, IsThreadLoaded, FoldedIsThreadSound}
 use Rattle.site_turns.proofs.CodeEnds.{line_fits}
 use Rattle.site_turns.proofs.CodeSizes.{one_standing}
-use Rattle.guest_threads.proofs.ThreadConditions.{action_few}
+use Rattle.guest_threads.proofs.ThreadConditions.{action_few, keeps_of, ring_shared, ring_always}
 use Rattle.guest_threads.proofs.LineSize.{Known as KnownLine, instruction as line_instruction, code_with as line_code, size_is as line_size, in_line as line_in, one as line_one}
 
 -- the only element of a list made of an option
@@ -49,16 +51,16 @@ one_of f (Some x) y c = (x, refl, by_place c.0 c.1)
     by_place (suc i) e = absurd cc
 
 -- where a trampoline's event is there, the trampoline has one
-pub event_some : (b : Base) (e : Bool) → is_some (thread_event_of b e) ≡ true → e ≡ true
-event_some b true h = refl
-event_some b false h = absurd (true≢false (sym h))
+pub event_some : (a : Action) (e : Bool) → is_some (event_of (thread_event_of a e)) ≡ true → e ≡ true
+event_some a true h = refl
+event_some a false h = absurd (true≢false (sym h))
 
 -- what an event marks begins no lower than the private range
 pub mark_in : (b : Base) (p i : ℕ) → p ≤ mark_at b p i
 mark_in Cover p i = omega arith
 mark_in Count p i = omega arith
 
-module _ (g : Scene) (t : State) (patched : Bytes) (start : ℕ) (A : AreEntries g.image g.entries) (asked : IsAction g.action) (F : IsFolded g t) (T : IsForThreads g)
+module _ (g : Scene) (t : State) (patched : Bytes) (start : ℕ) (A : AreEntries g.image g.entries) (asked : IsAction g.action) (S : IsShared g.action) (F : IsFolded g t) (T : IsForThreads g)
     (J : AllByRecursion (IsThreadLine g t) (done_by t).lines) (N : EventsAreNumbered (done_by t).lines) (W : IsThreadLoaded g t patched) where
   abbrev R : Threading
   R = threading_of g t patched start
@@ -165,7 +167,7 @@ module _ (g : Scene) (t : State) (patched : Bytes) (start : ℕ) (A : AreEntries
           size = k.size;
           displaced = k.displaced;
           jump = jumps (subst (λ (z : ℕ). Leads (memory_at g t) g.entries z l.tramp.place) (sym addr) one.leads);
-          few = action_few g.action asked;
+          few = action_few g.action l.tramp.event asked;
           code = loaded_fixed patched l.tramp.place (code_with k) (let h = low k in omega (arith, h)) (shown k);
           new = λ x a b. new_if (patched x) (g.image x) (byte_shown k x a b) (all_in _ d.lines l W.fresh i x (in_line k x a b));
           low = low k;
@@ -205,11 +207,11 @@ module _ (g : Scene) (t : State) (patched : Bytes) (start : ℕ) (A : AreEntries
 
   -- a site with an event comes of a line with one
   with_event : (s : ThreadSite) (o : Of s) → is_some s.event ≡ true → o.line.tramp.event ≡ true
-  with_event s o u = event_some (thread_base g.action) o.line.tramp.event (ap (λ (z : ThreadSite). is_some z.event) o.is ∙ u)
+  with_event s o u = event_some g.action o.line.tramp.event (ap (λ (z : ThreadSite). is_some z.event) o.is ∙ u)
 
   -- that event is the scene's
-  event_is : (s : ThreadSite) → Contains R.sites s → is_some s.event ≡ true → s.event ≡ Some (thread_base g.action)
-  event_is s c u = let o = of_site s c in sym (ap (λ (z : ThreadSite). z.event) o.is) ∙ ap (thread_event_of (thread_base g.action)) (with_event s o u)
+  event_is : (s : ThreadSite) → Contains R.sites s → is_some s.event ≡ true → s.event ≡ Some (kind_of g.action)
+  event_is s c u = let o = of_site s c in sym (ap (λ (z : ThreadSite). z.event) o.is) ∙ ap (λ (b : Bool). event_of (thread_event_of g.action b)) (with_event s o u)
 
   -- each number has one site
   numbers : (s t : ThreadSite) → Contains R.sites s → Contains R.sites t → is_some s.event ≡ true → is_some t.event ≡ true → s.number ≡ t.number → s ≡ t
@@ -265,13 +267,31 @@ module _ (g : Scene) (t : State) (patched : Bytes) (start : ℕ) (A : AreEntries
           any_at (λ (s : ThreadSite). leb s.entry.addr x && ltb x (s.entry.addr + s.entry.len)) R.sites i.0 s i.1
           (and_from (leb o.entry.addr x) (ltb x (o.entry.addr + o.entry.len)) (le-leb o.entry.addr x o.low) (lt-ltb x (o.entry.addr + o.entry.len) o.high))
 
+  -- the kind of a site's event is the action's
+  kind_is : (s : ThreadSite) → Contains R.sites s → (k : Kind) → s.event ≡ Some k → kind_of g.action ≡ k
+  kind_is s c k v = some_is (kind_of g.action) k (sym (event_is s c (ap is_some v)) ∙ v)
+
   -- what an event marks lies in the private range
-  room_of : (s : ThreadSite) → Contains R.sites s → (b : Base) → s.event ≡ Some b → mark_at b g.private.lo s.number + mark_len b ≤ g.private.hi
+  room_of : (s : ThreadSite) → Contains R.sites s → (b : Base) → s.event ≡ Some (Marks b) → mark_at b g.private.lo s.number + mark_len b ≤ g.private.hi
   room_of s c b v =
       let o = of_site s c in
-      let kind : thread_base g.action ≡ b = some_is (thread_base g.action) b (sym (event_is s c (ap is_some v)) ∙ v) in
-      subst (λ (z : Base). mark_at z g.private.lo s.number + mark_len z ≤ g.private.hi) kind
-      (subst (λ (z : ThreadSite). mark_at (thread_base g.action) g.private.lo z.number + mark_len (thread_base g.action) ≤ g.private.hi) o.is (all_in _ d.lines o.line W.room o.in_lines))
+      let room : AllByRecursion (λ (l : Line). mark_at b g.private.lo l.number + mark_len b ≤ g.private.hi) d.lines =
+      subst (λ (k : Kind). HaveRoom k g.private.lo g.private.hi d.lines) (kind_is s c (Marks b) v) W.room in
+      subst (λ (z : ThreadSite). mark_at b g.private.lo z.number + mark_len b ≤ g.private.hi) o.is (all_in _ d.lines o.line room o.in_lines)
+
+  -- a ring lies in the private range, and one more than each number fits a slot
+  ring_sound : (n : ℕ) → R.ring ≡ Some n → IsRingSound R n
+  ring_sound n v =
+      let keeps = keeps_of (kind_of g.action) n v in
+      let room : slot_at g.private.lo n ≤ g.private.hi = subst (λ (k : Kind). HaveRoom k g.private.lo g.private.hi d.lines) keeps W.room in
+      let high = W.high in record {
+        size = ring_shared g.action n S keeps;
+        zeros = λ x a b. W.zeros x (omega (arith, a)) (omega (arith, b, room));
+        low = omega (arith, room, high);
+        numbers = λ s c u. let o = of_site s c in
+            subst (λ (z : ThreadSite). z.number + 1 < 2 ^ 31) o.is (all_in (IsThreadLine g t) d.lines o.line J o.in_lines).number;
+        always = λ s c u. let o = of_site s c in sym (ap (λ (z : ThreadSite). z.when) o.is) ∙ ring_always g.action o.line.tramp.event n keeps;
+      }
 
   -- the patched memory is sound for threads
   pub sound : IsThreadSound R
@@ -282,10 +302,12 @@ module _ (g : Scene) (t : State) (patched : Bytes) (start : ℕ) (A : AreEntries
     numbers = numbers;
     apart = apart;
     kinds = kinds;
+    rings = λ s c k v. ap ring_of (kind_is s c k v);
     marks = λ s c z v x a b. let k = room_of s c z v in let h = mark_in z g.private.lo s.number in W.zeros x (omega (arith, a, h)) (omega (arith, b, k));
     low = λ s c z v. let k = room_of s c z v in let h = W.high in omega (arith, k, h);
+    ring = ring_sound;
   }
 
 -- what the turns have done, loaded with the code of threads, is sound for threads
 pub folded_is_thread_sound : FoldedIsThreadSound
-folded_is_thread_sound g t patched entry A asked F T J N W = sound g t patched entry A asked F T J N W
+folded_is_thread_sound g t patched entry A asked S F T J N W = sound g t patched entry A asked S F T J N W

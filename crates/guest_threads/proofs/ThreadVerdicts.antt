@@ -8,7 +8,7 @@ use Rattle.address_space.specs.declared.extent.Extent.{Extent}
 use Rattle.address_space.specs.Free.{extent_of}
 use Rattle.patch_report.specs.Values.{RowValue, written as report_written}
 use Rattle.image_check.specs.Reports.{Line, row_lines}
-use Rattle.site_turns.specs.Modes.{thread_rules, thread_base, thread_when, thread_event_of}
+use Rattle.site_turns.specs.Modes.{thread_rules}
 use Rattle.site_turns.specs.PlannedState.{PlannedState}
 use Rattle.site_turns.specs.Planning.{Request, Turns, AreTurnsUnder, AreCodesBy, end_under}
 use Rattle.site_turns.specs.PlanLaws.{IsAsked, AreGroups, report_under}
@@ -19,8 +19,7 @@ use Rattle.rewrite_core.specs.Origins.{origin_of}
 use Rattle.rewrite_core.specs.Laws.{AreJudgedOnce}
 use Rattle.rewrite_core.proofs.OneVerdict.{verdict_once}
 use Rattle.rewrite_core.proofs.OneJob.{written_once}
-use Rattle.thread_runs.specs.Building.{when_of}
-use Rattle.thread_runs.specs.ThreadCode.{code_if}
+use Rattle.guest_threads.specs.FromTurns.{code_of_line}
 use Rattle.guest_threads.specs.ThreadPlanning.{HasThreadCode, IsThreadPlanned}
 use Rattle.guest_threads.specs.ThreadRewriting.{ThreadJob, job_of, IsThreadJobFor, writing_of, Judges}
 
@@ -28,7 +27,7 @@ use Rattle.guest_threads.specs.ThreadRewriting.{ThreadJob, job_of, IsThreadJobFo
 one_code : (q : Request) (p : ℕ) (l : Line) (x y : List ℕ) → HasThreadCode q.action (image_of q.file) p l x → HasThreadCode q.action (image_of q.file) p l y → x ≡ y
 one_code q p l x y h k =
     let same : h.fields ≡ k.fields = one_standing (image_of q.file) l.tramp.start h.fields k.fields h.spelled k.spelled h.stands k.stands in
-    h.is ∙ ap (λ f. code_if (thread_event_of (thread_base q.action) l.tramp.event) (when_of (thread_when q.action)) p l.number f (l.tramp.start + length (spelling f)) l.tramp.place) same ∙ sym k.is
+    h.is ∙ ap (λ f. code_of_line q.action p l f (l.tramp.start + length (spelling f))) same ∙ sym k.is
 
 -- what was planned twice is one job
 planned_once : (q : Request) (t u : Turns) (p r : PlannedState) (g h : GroupsState) → IsAsked q → IsThreadPlanned q t p → IsThreadPlanned q u r

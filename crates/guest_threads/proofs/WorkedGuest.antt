@@ -35,9 +35,9 @@ use Rattle.guest_threads.specs.FromTurns.{site_of}
 use Rattle.thread_runs.specs.Guest.{machine_of}
 use Rattle.thread_runs.specs.Premises.{IsQuietAt, StandAtStarts, touches_none, reads_nothing_of, IsProper, IsProperRun}
 use Rattle.thread_runs.specs.Theorem.{AreStartGuests, CanGo}
-use Rattle.thread_runs.specs.ThreadCode.{slot}
+use Rattle.thread_runs.specs.ThreadCode.{Marks, saved_from, saved_len}
 use Rattle.thread_runs.specs.ThreadSteps.{thread_task, ThreadStepsBy}
-use Rattle.thread_runs.specs.Threading.{Threading, is_hidden, is_new, in_event, saves, has_saved, is_saved}
+use Rattle.thread_runs.specs.Threading.{Threading, is_hidden, is_new, in_event, saves, has_saved, is_saved_by}
 use Rattle.thread_runs.specs.Watching.{Watched, Watch, stale_after, is_effect, watched_after, Watches}
 use Rattle.guest_threads.specs.WorkedFile.{row_text, row_entry, row_value, row_threading}
 use Rattle.guest_threads.specs.WorkedGuest.{stack, start_flags, counted_flags, added_flags, core_with, thread_with, guest_on, waiting, schedule, started, ThreadsMeet, entered, DeliveryMeets, IsThreadsReal}
@@ -70,8 +70,9 @@ counting = record {
   patched = row_image;
   entry = 0x401000;
   listed = row_entry ∷ [];
-  sites = record { number = 0; entry = row_entry; place = 0x2401005; event = Some base.Count; when = [] } ∷ [];
+  sites = record { number = 0; entry = row_entry; place = 0x2401005; event = Some (Marks base.Count); when = [] } ∷ [];
   private = 0x20000;
+  ring = None;
 }
 
 -- at the start stands the jump to itself
@@ -104,10 +105,12 @@ behind k w f x y m = record {
   mem = m;
   stale = stale_after counting w.stale (pick k w) f (machine_of w.mem (pick k w).now);
   log = w.log;
+  claims = w.claims;
+  fills = w.fills;
 }
 
 abbrev w0 : Watch
-w0 = record { threads = waiting 0x601000 ∷ waiting 0x602000 ∷ []; mem = mem0; stale = nowhere; log = [] }
+w0 = record { threads = waiting 0x601000 ∷ waiting 0x602000 ∷ []; mem = mem0; stale = nowhere; log = []; claims = []; fills = [] }
 
 abbrev w1 : Watch
 w1 = behind 0 w0 (jump_fields (rel_bytes 0x401005 0x2401005)) (running 0x7 0x601000 start_flags 0x2401005) (waiting 0x602000) mem0
@@ -166,9 +169,9 @@ made : (k : ℕ) (w v : Watch) (f : Fields) → w.threads ≡ pick 0 w ∷ pick 
     → v ≡ watched_after counting k w (pick k w) f (machine_of v.mem (pick k v).now)
     → (is_effect counting (pick k w).now.rip ≡ true → IsQuietAt counting (machine_of w.mem (pick k w).projected)) → StandAtStarts counting v.threads
     → (in_event counting (pick k w).now.rip ≡ false → reads_nothing_of w.stale f (machine_of w.mem (pick k w).now) ≡ true)
-    → (saves counting (pick k w).now.rip ≡ true → avoids (is_new counting) (slot (pick k w).now.core) 8 ≡ true)
-    → (0 ≢ k → has_saved counting (pick 0 w).now.rip ≡ true → touches_none (is_saved (pick 0 w).now.core) f (machine_of w.mem (pick k w).now) ≡ true)
-    → (1 ≢ k → has_saved counting (pick 1 w).now.rip ≡ true → touches_none (is_saved (pick 1 w).now.core) f (machine_of w.mem (pick k w).now) ≡ true)
+    → (saves counting (pick k w).now.rip ≡ true → avoids (is_new counting) (saved_from counting.ring (pick k w).now.core) (saved_len counting.ring) ≡ true)
+    → (0 ≢ k → has_saved counting (pick 0 w).now.rip ≡ true → touches_none (is_saved_by counting (pick 0 w).now.core) f (machine_of w.mem (pick k w).now) ≡ true)
+    → (1 ≢ k → has_saved counting (pick 1 w).now.rip ≡ true → touches_none (is_saved_by counting (pick 1 w).now.core) f (machine_of w.mem (pick k w).now) ≡ true)
     → Proper k w v
 made k w v f two there steps after quiet stand fresh saved a b = (
   record { one = pick k w; there = there; fields = f; to = machine_of v.mem (pick k v).now; steps = steps; after = after },
@@ -178,7 +181,7 @@ made k w v f two there steps after quiet stand fresh saved a b = (
     fresh = fresh;
     saved = saved;
     apart = λ j o n g h. of_two (pick 0 w) (pick 1 w)
-        (λ j o. j ≢ k → has_saved counting o.now.rip ≡ true → touches_none (is_saved o.now.core) f (machine_of w.mem (pick k w).now) ≡ true) a b j o
+        (λ j o. j ≢ k → has_saved counting o.now.rip ≡ true → touches_none (is_saved_by counting o.now.core) f (machine_of w.mem (pick k w).now) ≡ true) a b j o
         (subst (λ (ts : List Watched). slice_get ts j ≡ Some o) two g) n h;
   },
 )
@@ -188,7 +191,7 @@ step0 : Proper 0 w0 w1
 unfolding template filled effect total carries overflows signed is_even ones is_met
 step0 =
     made 0 w0 w1 (jump_fields (rel_bytes 0x401005 0x2401005)) refl refl
-    (record { at = record { spelled = jump_is _ _ _ _; here = (refl, refl, (refl, refl, (refl, refl, (refl, refl, (refl, refl, tt))))) }; apart = refl; acts = refl }) refl
+    (record { at = record { spelled = jump_is _ _ _ _; here = (refl, refl, (refl, refl, (refl, refl, (refl, refl, (refl, refl, tt))))) }; acts = refl }) refl
     (λ h. absurd (false≢true h)) (refl, (refl, tt)) (λ h. refl) (λ h. absurd (false≢true h))
     (λ n h. absurd (n refl)) (λ n h. absurd (false≢true h))
 
@@ -197,7 +200,7 @@ step1 : Proper 0 w1 w2
 unfolding template filled effect total carries overflows signed is_even ones is_met
 step1 =
     made 0 w1 w2 (fields_at base.Count At0 0x20040) refl refl
-    (record { at = record { spelled = spelled_at base.Count At0 0x20040 tt; here = (refl, refl, (refl, refl, (refl, refl, (refl, refl, (refl, refl, (refl, refl, (refl, refl, (refl, refl, tt)))))))) }; apart = refl; acts = refl }) refl
+    (record { at = record { spelled = spelled_at base.Count At0 0x20040 tt; here = (refl, refl, (refl, refl, (refl, refl, (refl, refl, (refl, refl, (refl, refl, (refl, refl, (refl, refl, tt)))))))) }; acts = refl }) refl
     (λ h. absurd (false≢true h)) (refl, (refl, tt)) (λ h. absurd (true≢false h)) (λ h. refl)
     (λ n h. absurd (n refl)) (λ n h. absurd (false≢true h))
 
@@ -206,7 +209,7 @@ step2 : Proper 0 w2 w3
 unfolding template filled effect total carries overflows signed is_even ones is_met
 step2 =
     made 0 w2 w3 (fields_at base.Count At1 0x20040) refl refl
-    (record { at = record { spelled = spelled_at base.Count At1 0x20040 tt; here = (refl, refl, tt) }; apart = refl; acts = refl }) refl
+    (record { at = record { spelled = spelled_at base.Count At1 0x20040 tt; here = (refl, refl, tt) }; acts = refl }) refl
     (λ h. absurd (false≢true h)) (refl, (refl, tt)) (λ h. absurd (true≢false h)) (λ h. absurd (false≢true h))
     (λ n h. absurd (n refl)) (λ n h. absurd (false≢true h))
 
@@ -215,7 +218,7 @@ step3 : Proper 0 w3 w4
 unfolding template filled effect total carries overflows signed is_even ones is_met
 step3 =
     made 0 w3 w4 (fields_at base.Count At2 0x20040) refl refl
-    (record { at = record { spelled = spelled_at base.Count At2 0x20040 tt; here = (refl, refl, (refl, refl, (refl, refl, tt))) }; apart = refl; acts = refl }) refl
+    (record { at = record { spelled = spelled_at base.Count At2 0x20040 tt; here = (refl, refl, (refl, refl, (refl, refl, tt))) }; acts = refl }) refl
     (λ h. absurd (false≢true h)) (refl, (refl, tt)) (λ h. absurd (true≢false h)) (λ h. absurd (false≢true h))
     (λ n h. absurd (n refl)) (λ n h. absurd (false≢true h))
 
@@ -224,7 +227,7 @@ step4 : Proper 0 w4 w5
 unfolding template filled effect total carries overflows signed is_even ones is_met
 step4 =
     made 0 w4 w5 (fields_at base.Count At3 0x20040) refl refl
-    (record { at = record { spelled = spelled_at base.Count At3 0x20040 tt; here = (refl, refl, (refl, refl, (refl, refl, (refl, refl, (refl, refl, (refl, refl, (refl, refl, (refl, refl, (refl, refl, tt))))))))) }; apart = refl; acts = refl }) refl
+    (record { at = record { spelled = spelled_at base.Count At3 0x20040 tt; here = (refl, refl, (refl, refl, (refl, refl, (refl, refl, (refl, refl, (refl, refl, (refl, refl, (refl, refl, (refl, refl, tt))))))))) }; acts = refl }) refl
     (λ h. absurd (false≢true h)) (refl, (refl, tt)) (λ h. absurd (true≢false h)) (λ h. absurd (false≢true h))
     (λ n h. absurd (n refl)) (λ n h. absurd (false≢true h))
 
@@ -233,7 +236,7 @@ step5 : Proper 1 w5 w6
 unfolding template filled effect total carries overflows signed is_even ones is_met
 step5 =
     made 1 w5 w6 (jump_fields (rel_bytes 0x401005 0x2401005)) refl refl
-    (record { at = record { spelled = jump_is _ _ _ _; here = (refl, refl, (refl, refl, (refl, refl, (refl, refl, (refl, refl, tt))))) }; apart = refl; acts = refl }) refl
+    (record { at = record { spelled = jump_is _ _ _ _; here = (refl, refl, (refl, refl, (refl, refl, (refl, refl, (refl, refl, tt))))) }; acts = refl }) refl
     (λ h. absurd (false≢true h)) (refl, (refl, tt)) (λ h. refl) (λ h. absurd (false≢true h))
     (λ n h. refl) (λ n h. absurd (n refl))
 
@@ -242,7 +245,7 @@ step6 : Proper 1 w6 w7
 unfolding template filled effect total carries overflows signed is_even ones is_met
 step6 =
     made 1 w6 w7 (fields_at base.Count At0 0x20040) refl refl
-    (record { at = record { spelled = spelled_at base.Count At0 0x20040 tt; here = (refl, refl, (refl, refl, (refl, refl, (refl, refl, (refl, refl, (refl, refl, (refl, refl, (refl, refl, tt)))))))) }; apart = refl; acts = refl }) refl
+    (record { at = record { spelled = spelled_at base.Count At0 0x20040 tt; here = (refl, refl, (refl, refl, (refl, refl, (refl, refl, (refl, refl, (refl, refl, (refl, refl, (refl, refl, tt)))))))) }; acts = refl }) refl
     (λ h. absurd (false≢true h)) (refl, (refl, tt)) (λ h. absurd (true≢false h)) (λ h. refl)
     (λ n h. refl) (λ n h. absurd (n refl))
 
@@ -251,7 +254,7 @@ step7 : Proper 1 w7 w8
 unfolding template filled effect total carries overflows signed is_even ones is_met
 step7 =
     made 1 w7 w8 (fields_at base.Count At1 0x20040) refl refl
-    (record { at = record { spelled = spelled_at base.Count At1 0x20040 tt; here = (refl, refl, tt) }; apart = refl; acts = refl }) refl
+    (record { at = record { spelled = spelled_at base.Count At1 0x20040 tt; here = (refl, refl, tt) }; acts = refl }) refl
     (λ h. absurd (false≢true h)) (refl, (refl, tt)) (λ h. absurd (true≢false h)) (λ h. absurd (false≢true h))
     (λ n h. refl) (λ n h. absurd (n refl))
 
@@ -260,7 +263,7 @@ step8 : Proper 1 w8 w9
 unfolding template filled effect total carries overflows signed is_even ones is_met
 step8 =
     made 1 w8 w9 (fields_at base.Count At2 0x20040) refl refl
-    (record { at = record { spelled = spelled_at base.Count At2 0x20040 tt; here = (refl, refl, (refl, refl, (refl, refl, tt))) }; apart = refl; acts = refl }) refl
+    (record { at = record { spelled = spelled_at base.Count At2 0x20040 tt; here = (refl, refl, (refl, refl, (refl, refl, tt))) }; acts = refl }) refl
     (λ h. absurd (false≢true h)) (refl, (refl, tt)) (λ h. absurd (true≢false h)) (λ h. absurd (false≢true h))
     (λ n h. refl) (λ n h. absurd (n refl))
 
@@ -269,7 +272,7 @@ step9 : Proper 1 w9 w10
 unfolding template filled effect total carries overflows signed is_even ones is_met
 step9 =
     made 1 w9 w10 (fields_at base.Count At3 0x20040) refl refl
-    (record { at = record { spelled = spelled_at base.Count At3 0x20040 tt; here = (refl, refl, (refl, refl, (refl, refl, (refl, refl, (refl, refl, (refl, refl, (refl, refl, (refl, refl, (refl, refl, tt))))))))) }; apart = refl; acts = refl }) refl
+    (record { at = record { spelled = spelled_at base.Count At3 0x20040 tt; here = (refl, refl, (refl, refl, (refl, refl, (refl, refl, (refl, refl, (refl, refl, (refl, refl, (refl, refl, (refl, refl, tt))))))))) }; acts = refl }) refl
     (λ h. absurd (false≢true h)) (refl, (refl, tt)) (λ h. absurd (true≢false h)) (λ h. absurd (false≢true h))
     (λ n h. refl) (λ n h. absurd (n refl))
 
@@ -278,7 +281,7 @@ step10 : Proper 1 w10 w11
 unfolding template filled effect total carries overflows signed is_even ones is_met
 step10 =
     made 1 w10 w11 (fields_at base.Count At4 0x20040) refl refl
-    (record { at = record { spelled = spelled_at base.Count At4 0x20040 tt; here = (refl, refl, (refl, refl, tt)) }; apart = refl; acts = refl }) refl
+    (record { at = record { spelled = spelled_at base.Count At4 0x20040 tt; here = (refl, refl, (refl, refl, tt)) }; acts = refl }) refl
     (λ h. absurd (false≢true h)) (refl, (refl, tt)) (λ h. absurd (true≢false h)) (λ h. absurd (false≢true h))
     (λ n h. refl) (λ n h. absurd (n refl))
 
@@ -287,7 +290,7 @@ step11 : Proper 1 w11 w12
 unfolding template filled effect total carries overflows signed is_even ones is_met
 step11 =
     made 1 w11 w12 (fields_at base.Count At5 0x20040) refl refl
-    (record { at = record { spelled = spelled_at base.Count At5 0x20040 tt; here = (refl, refl, tt) }; apart = refl; acts = refl }) refl
+    (record { at = record { spelled = spelled_at base.Count At5 0x20040 tt; here = (refl, refl, tt) }; acts = refl }) refl
     (λ h. absurd (false≢true h)) (refl, (refl, tt)) (λ h. absurd (true≢false h)) (λ h. absurd (false≢true h))
     (λ n h. refl) (λ n h. absurd (n refl))
 
@@ -296,7 +299,7 @@ step12 : Proper 1 w12 w13
 unfolding template filled effect total carries overflows signed is_even ones is_met
 step12 =
     made 1 w12 w13 (fields_at base.Count At6 0x20040) refl refl
-    (record { at = record { spelled = spelled_at base.Count At6 0x20040 tt; here = (refl, refl, (refl, refl, (refl, refl, (refl, refl, (refl, refl, (refl, refl, (refl, refl, (refl, refl, tt)))))))) }; apart = refl; acts = refl }) refl
+    (record { at = record { spelled = spelled_at base.Count At6 0x20040 tt; here = (refl, refl, (refl, refl, (refl, refl, (refl, refl, (refl, refl, (refl, refl, (refl, refl, (refl, refl, tt)))))))) }; acts = refl }) refl
     (λ h. absurd (false≢true h)) (refl, (refl, tt)) (λ h. absurd (true≢false h)) (λ h. absurd (false≢true h))
     (λ n h. refl) (λ n h. absurd (n refl))
 
@@ -305,7 +308,7 @@ step13 : Proper 1 w13 w14
 unfolding template filled effect total carries overflows signed is_even ones is_met
 step13 =
     made 1 w13 w14 (jump_fields (rel_bytes 0x240102a 0x401000)) refl refl
-    (record { at = record { spelled = jump_is _ _ _ _; here = (refl, refl, (refl, refl, (refl, refl, (refl, refl, (refl, refl, tt))))) }; apart = refl; acts = refl }) refl
+    (record { at = record { spelled = jump_is _ _ _ _; here = (refl, refl, (refl, refl, (refl, refl, (refl, refl, (refl, refl, tt))))) }; acts = refl }) refl
     (λ h. record { known = refl; leaves = λ f i s. quiet_by w13 f (own_fields f i s) }) (refl, (refl, tt)) (λ h. refl) (λ h. absurd (false≢true h))
     (λ n h. refl) (λ n h. absurd (n refl))
 
@@ -364,7 +367,7 @@ can_go = record {
   stands = refl;
   fields = jump_to_itself;
   to = record { core = core_with 7 0x601000 start_flags; rip = 0x401000; mem = (guest_on counting.original).mem; world = [] };
-  steps = record { at = record { spelled = itself_is; here = (refl, refl, (refl, refl, tt)) }; apart = refl; acts = refl };
+  steps = record { at = record { spelled = itself_is; here = (refl, refl, (refl, refl, tt)) }; acts = refl };
   quiet = record { known = refl; leaves = λ f i s. quiet_start (guest_on counting.original).mem f (own_fields f i s) };
   ends = refl;
   read = λ h. refl;
@@ -389,7 +392,7 @@ is_given = record {
   there = refl;
   fits = record { here = refl; there = refl; core = record { count = refl; small = λ r. small_entered r }; held = refl; apart = refl };
   old = refl;
-  apart = λ j o n g h. of_two (pick 0 w14) (pick 1 w14) (λ j o. j ≢ 1 → avoids_writes (is_saved o.now.core) entered.writes ≡ true) (λ n. refl) (λ n. absurd (n refl)) j o g n;
+  apart = λ j o n g h. of_two (pick 0 w14) (pick 1 w14) (λ j o. j ≢ 1 → avoids_writes (is_saved_by counting o.now.core) entered.writes ≡ true) (λ n. refl) (λ n. absurd (n refl)) j o g n;
   after = refl;
   made = refl;
 }
@@ -418,6 +421,7 @@ is_row = λ i. record {
   listed = sym entries_are_row i;
   sites = flat_map (site_of Count (sym entries_are_row i)) (flat_map row_lines (row_value ∷ []));
   private = 0x20000;
+  ring = None;
 }
 
 -- a run of two threads of the row's written file meets all premises of the theorem

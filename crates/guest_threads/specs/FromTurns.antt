@@ -1,5 +1,5 @@
 -- What the turns have done, loaded with the code of threads, is sound for threads, and runs as the original does. Theorems cite it.
-use Rattle.std.specs.Prelude.{◌≡◌, ℕ, ◌+◌, ◌<◌, ◌≤◌, true, false, List, ◌∷◌, length, map, Contains, Some, None, is_some, option_to_list, option_map}
+use Rattle.std.specs.Prelude.{◌≡◌, ℕ, ◌+◌, ◌^◌, ◌<◌, ◌≤◌, true, false, List, ◌∷◌, length, map, Contains, Some, None, is_some, option_to_list, option_map}
 use Rattle.std.specs.List.{AllByRecursion, flat_map}
 use Rattle.pun_base.specs.Memory.{Bytes}
 use Rattle.pun_base.specs.declared.action.Action.{Action}
@@ -27,13 +27,12 @@ use Rattle.site_turns.specs.Laws.{five, AreSites, EventsAreNumbered}
 use Rattle.site_turns.specs.Folded.{done_by, in_code, IsFolded}
 use Rattle.site_turns.specs.Loaded.{AreShown}
 use Rattle.site_turns.specs.Jobs.{patch_of, AreTurnsOf}
-use Rattle.thread_runs.specs.ThreadCode.{mark_at, mark_len, code_if}
-use Rattle.site_turns.specs.Modes.{can_in_threads, thread_base, thread_when, IsShared, thread_event_size, thread_event_of}
-use Rattle.thread_runs.specs.Building.{when_of}
+use Rattle.thread_runs.specs.ThreadCode.{Kind, Marks, Keeps, mark_at, mark_len, slot_at, code_if}
+use Rattle.site_turns.specs.Modes.{can_in_threads, IsShared, thread_event_size, thread_event_of}
 use Rattle.thread_runs.specs.Theorem.{AreFollowed, GetOut}
-use Rattle.thread_runs.specs.Building.{when_of}
+use Rattle.thread_runs.specs.Building.{kind_of, event_of, when_of}
 use Rattle.thread_runs.specs.TheoremWithDeliveries.{AreFollowedWith, GetOutWith}
-use Rattle.thread_runs.specs.Threading.{ThreadSite, Threading, IsThreadSound}
+use Rattle.thread_runs.specs.Threading.{ThreadSite, Threading, ring_of, IsThreadSound}
 
 -- The scene is one whose turns go by the rules for threads.
 pub record IsForThreads (g : Scene) : Type 0 where
@@ -53,14 +52,20 @@ thread_scene action file starts reserves private = record {
   shut = private ∷ taken_first (segments file) reserves;
 }
 
--- The site of a line, as threads have it, whose event covers or counts where the action's condition holds.
+-- The code of a line for threads, with the event of an action or without, of an instruction with these fields that ends before an address;
+-- p is the first address of the private range.
+abbrev pub code_of_line : Action → ℕ → Line → Fields → ℕ → List ℕ
+code_of_line action p l f next =
+    code_if (event_of (thread_event_of action l.tramp.event)) (when_of (thread_event_of action l.tramp.event)) p l.number f next l.tramp.place
+
+-- The site of a line, as threads have it, whose event covers or counts where the action's condition holds, or keeps a ring.
 abbrev pub site_with : Action → Line → StartEntry → ThreadSite
 site_with action l e = record {
   number = l.number;
   entry = e;
   place = l.tramp.place;
-  event = thread_event_of (thread_base action) l.tramp.event;
-  when = when_of (thread_when action);
+  event = event_of (thread_event_of action l.tramp.event);
+  when = when_of (thread_event_of action l.tramp.event);
 }
 
 -- It is there where the line's start is listed.
@@ -76,24 +81,31 @@ threading_of g t patched entry = record {
   listed = g.entries;
   sites = flat_map (site_of g.action g.entries) (done_by t).lines;
   private = g.private.lo;
+  ring = ring_of (kind_of g.action);
 }
 
 -- A line of the turns, with an event or without: the instruction at its start can be displaced where
 -- threads share memory, and shares no byte with another listed one, and one jump leads to its place,
--- or two, of which the second stands at no listed start.
+-- or two, of which the second stands at no listed start. One more than its number fits a slot of a ring.
 pub record IsThreadLine (g : Scene) (t : State) (l : Line) : Type 0 where
   pub moves : (e : StartEntry) → entry_at g.entries l.tramp.start ≡ Some e → is_some (can_in_threads e) ≡ true
   pub alone : (e : StartEntry) → entry_at g.entries l.tramp.start ≡ Some e → e.shared ≡ false
   pub leads : Leads (memory_at g t) g.entries l.tramp.start l.tramp.place
+  pub number : l.number + 1 < 2 ^ 31
 
--- What the event of each line marks, its counter or its byte, lies in the private range.
+-- What events of a kind write to lies between these addresses: the counter or the byte of each line, or the ring, which they share.
+abbrev pub HaveRoom : Kind → ℕ → ℕ → List Line → Type 0
+HaveRoom (Marks b) lo hi ls = AllByRecursion (λ l. mark_at b lo l.number + mark_len b ≤ hi) ls
+HaveRoom (Keeps n) lo hi ls = slot_at lo n ≤ hi
+
+-- What the events of lines write to lies in the private range.
 abbrev pub HaveMarks : Scene → List Line → Type 0
-HaveMarks g ls = AllByRecursion (λ l. mark_at (thread_base g.action) g.private.lo l.number + mark_len (thread_base g.action) ≤ g.private.hi) ls
+HaveMarks g ls = HaveRoom (kind_of g.action) g.private.lo g.private.hi ls
 
 -- P holds of a line's place and code, whatever the line's instruction is.
 abbrev pub OfCode : Scene → (ℕ → List ℕ → Type 0) → Line → Type 0
 OfCode g P l = (f : Fields) (next : ℕ) → IsInstruction f → Stands g.image l.tramp.start (spelling f) → next ≡ l.tramp.start + length (spelling f)
-    → P l.tramp.place (code_if (thread_event_of (thread_base g.action) l.tramp.event) (when_of (thread_when g.action)) g.private.lo l.number f next l.tramp.place)
+    → P l.tramp.place (code_of_line g.action g.private.lo l f next)
 
 -- Loaded are memory as it stands, the code of threads at each place, at new addresses, and the
 -- private range of zeros.
@@ -105,9 +117,9 @@ pub record IsThreadLoaded (g : Scene) (t : State) (patched : Bytes) : Type 0 whe
   pub room : HaveMarks g (done_by t).lines
   pub high : g.private.hi ≤ 0x7FFF0000
 
--- What the turns for threads have done is sound for threads once it is loaded, where the action can be asked for.
+-- What the turns for threads have done is sound for threads once it is loaded, where the action can be asked for, and threads can get its events.
 abbrev pub FoldedIsThreadSound : Type 0
-FoldedIsThreadSound = (g : Scene) (t : State) (patched : Bytes) (entry : ℕ) → AreEntries g.image g.entries → IsAction g.action → IsFolded g t → IsForThreads g
+FoldedIsThreadSound = (g : Scene) (t : State) (patched : Bytes) (entry : ℕ) → AreEntries g.image g.entries → IsAction g.action → IsShared g.action → IsFolded g t → IsForThreads g
     → AllByRecursion (IsThreadLine g t) (done_by t).lines → EventsAreNumbered (done_by t).lines → IsThreadLoaded g t patched → IsThreadSound (threading_of g t patched entry)
 
 -- After the turns of all five schemes one jump or two lead to each line's place, and of two lines with
@@ -118,16 +130,16 @@ TurnsForThreads = (g : Scene) (sites : List StartEntry) (choices : List Choice) 
     → AllByRecursion (IsThreadLine g (state_after g (first_state g) sites choices)) (done_by (state_after g (first_state g) sites choices)).lines
     × EventsAreNumbered (done_by (state_after g (first_state g) sites choices)).lines
 
--- The private range has room for what the event of each line marks.
+-- The private range has room for what the events of all lines write to.
 abbrev pub MarksHaveRoom : Type 0
-MarksHaveRoom = (g : Scene) (taken : List Extent) (sites : List StartEntry) (choices : List Choice) → IsShared g.action → IsPrivate taken g.action (length sites) g.private
+MarksHaveRoom = (g : Scene) (taken : List Extent) (sites : List StartEntry) (choices : List Choice) → IsPrivate taken g.action (length sites) g.private
     → IsTurns g five (first_state g) sites choices → HaveMarks g (done_by (state_after g (first_state g) sites choices)).lines
 
--- Once what the turns have done is loaded, the patched guest runs as the original does and counts or
--- covers, and its threads get out of the trampolines, with deliveries and without.
+-- Once what the turns have done is loaded, the patched guest runs as the original does and counts,
+-- covers or keeps a ring, and its threads get out of the trampolines, with deliveries and without.
 abbrev pub TurnsAreThreaded : Type 0
 TurnsAreThreaded = (g : Scene) (sites : List StartEntry) (choices : List Choice) (patched : Bytes) (entry : ℕ) → AreEntries g.image g.entries → IsAction g.action
-    → IsForThreads g → AreSites g sites
+    → IsShared g.action → IsForThreads g → AreSites g sites
     → IsTurns g five (first_state g) sites choices → IsThreadLoaded g (state_after g (first_state g) sites choices) patched
     → AreFollowed (threading_of g (state_after g (first_state g) sites choices) patched entry) × GetOut (threading_of g (state_after g (first_state g) sites choices) patched entry)
     × AreFollowedWith (threading_of g (state_after g (first_state g) sites choices) patched entry) × GetOutWith (threading_of g (state_after g (first_state g) sites choices) patched entry)
@@ -146,7 +158,7 @@ ThreadJobLoads = (g : Scene) (t : State) (m : Bytes) (j : Job) → AreEntries g.
     → HaveMarks g (done_by t).lines → IsJob j → Shows j m → IsThreadJobOf g t j → IsThreadLoaded g t m
 
 -- The file that is written for the turns of a file's sites, by all five schemes, runs with any number of threads as the original does, and
--- counts; it starts where the original does.
+-- counts, covers or keeps a ring; it starts where the original does.
 pub record IsThreaded (g : Scene) (t : State) (m : Bytes) (j : Job) : Type 0 where
   pub sound : IsThreadSound (threading_of g t m (entry_of j.orig))
   pub followed : AreFollowed (threading_of g t m (entry_of j.orig))
@@ -157,7 +169,7 @@ pub record IsThreaded (g : Scene) (t : State) (m : Bytes) (j : Job) : Type 0 whe
   pub entry : count j ≤ 1024 → entry_of (layout j) ≡ entry_of j.orig
 
 -- Each memory that shows the job of a file's turns runs with any number of threads as the original
--- does, and counts.
+-- does, and counts, covers or keeps a ring.
 abbrev pub WrittenIsThreaded : Type 0
 WrittenIsThreaded = (action : Action) (low : ℕ) (file starts : List ℕ) (reserves : List Range) (private : Extent) (sites : List StartEntry) (choices : List Choice) (m : Bytes) (j : Job)
     → IsAction action → IsShared action → AreStarts low file starts → AreTurnsOf (thread_scene action file starts reserves private) (taken_first (segments file) reserves) five sites choices

@@ -12,12 +12,11 @@ use Rattle.start_entries.specs.declared.entry.StartEntry.{StartEntry}
 use Rattle.start_entries.specs.Finding.{entry_at}
 use Rattle.start_entries.specs.Laws.{IsBuilt}
 use Rattle.image_check.specs.Reports.{Line}
-use Rattle.site_turns.specs.Modes.{thread_rules, thread_base, thread_when, thread_event_of, can_in_threads}
+use Rattle.site_turns.specs.Modes.{thread_rules, IsShared, can_in_threads}
 use Rattle.site_turns.specs.PlannedState.{PlannedState}
 use Rattle.site_turns.specs.Planning.{Request, Turns, lines_of, AreCodesBy, IsTurned}
 use Rattle.guest_threads.specs.declared.planning.ThreadSetting.{ThreadSetting}
-use Rattle.thread_runs.specs.Building.{when_of}
-use Rattle.thread_runs.specs.ThreadCode.{code_if}
+use Rattle.guest_threads.specs.FromTurns.{code_of_line}
 
 -- The code of a trampoline for threads, with the event of an action or without, by the instruction that stands at its start in an
 -- image; p is the first address of the private range.
@@ -25,8 +24,7 @@ pub record HasThreadCode (action : Action) (image : Bytes) (p : ℕ) (l : Line) 
   pub fields : Fields
   pub spelled : IsInstruction fields
   pub stands : Stands image l.tramp.start (spelling fields)
-  pub is : code
-      ≡ code_if (thread_event_of (thread_base action) l.tramp.event) (when_of (thread_when action)) p l.number fields (l.tramp.start + length (spelling fields)) l.tramp.place
+  pub is : code ≡ code_of_line action p l fields (l.tramp.start + length (spelling fields))
 
 -- What was planned is what the turns for threads give: the private range, a row for each site in turn order, and the code of
 -- each trampoline in the order of the rows.
@@ -35,11 +33,12 @@ pub record IsThreadPlanned (q : Request) (t : Turns) (p : PlannedState) : Type 0
   pub built : AreCodesBy (HasThreadCode q.action (image_of q.file) p.private.lo) (lines_of p.rows) p.built
 
 -- What the code of trampolines for threads is made of: the file is accepted, the starts are its
--- own, the action can be asked for, and the private range lies among a program's addresses.
+-- own, the action can be asked for, threads can get its events, and the private range lies among a program's addresses.
 pub record IsThreadSetting (s : ThreadSetting) : Type 0 where
   pub accepted : refusal 0x10000 s.elf.now.bytes ≡ None
   pub own : IsBuilt s.elf.now.bytes s.starts.now
   pub asked : IsAction s.action
+  pub shared : IsShared s.action
   pub low : s.private.lo < 0x7FFF0000
 
 -- A trampoline's code can be made.

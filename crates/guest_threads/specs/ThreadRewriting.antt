@@ -29,7 +29,8 @@ use Rattle.guest_threads.specs.declared.rewriting.ThreadReport.{ThreadReport}
 use Rattle.guest_threads.specs.FromTurns.{site_of}
 use Rattle.thread_runs.specs.Theorem.{AreFollowed, GetOut}
 use Rattle.thread_runs.specs.TheoremWithDeliveries.{AreFollowedWith, GetOutWith}
-use Rattle.thread_runs.specs.Threading.{Threading, IsThreadSound}
+use Rattle.thread_runs.specs.Building.{kind_of}
+use Rattle.thread_runs.specs.Threading.{Threading, ring_of, IsThreadSound}
 use Rattle.guest_threads.specs.ThreadPlanning.{IsThreadPlanned}
 
 -- A job: what is to be written, the private range, a row for each site in turn order, and the
@@ -73,7 +74,7 @@ abbrev pub Judges : Asked → Result ThreadJob RewriteError → Type 0
 Judges a v = JudgesBy IsThreadJobFor writing_of a v
 
 -- What was patched for threads, where the events are those of an action: the images of the original and of the
--- patched program, the listed entries of the starts, the sites of the rows, and the private range.
+-- patched program, the listed entries of the starts, the sites of the rows, the private range, and how many slots a ring there has.
 abbrev pub threading_on : Action → List ℕ → List ℕ → Bytes → Extent → List RowValue → Threading
 threading_on action file starts patched private rows = record {
   original = image_of file;
@@ -82,6 +83,7 @@ threading_on action file starts patched private rows = record {
   listed = entries_of file starts;
   sites = flat_map (site_of action (entries_of file starts)) (flat_map row_lines rows);
   private = private.lo;
+  ring = ring_of (kind_of action);
 }
 
 -- The same, where the patched program is a written file.
@@ -94,7 +96,8 @@ pub record IsFollowedInThreads (action : Action) (file starts patched : List ℕ
   pub entry : entry_of patched ≡ entry_of file
   -- what it loads is sound
   pub sound : IsThreadSound (threading_for action file starts patched private rows)
-  -- in each run that meets the premises the threads run as the original's do, and each counter tells how often its site was run, or each byte whether it was
+  -- in each run that meets the premises the threads run as the original's do, and each counter tells how often its site was run, or each byte
+  -- whether it was, or a ring which sites claimed its slots last
   pub followed : AreFollowed (threading_for action file starts patched private rows)
   -- a thread that runs alone gets out of a trampoline
   pub out : GetOut (threading_for action file starts patched private rows)

@@ -18,21 +18,21 @@ pub fn folded_is_thread_sound()
     ensures { FoldedIsThreadSound }
 {}
 
-/// After the turns of all five schemes one jump or two lead to each trampoline, the numbers of events differ, and each has room
-/// for what it marks.
+/// After the turns of all five schemes one jump or two lead to each trampoline, the numbers of events differ, and there is room
+/// for what they write to.
 pub fn turns_for_threads()
     ensures jumps { TurnsForThreads }
     ensures room { MarksHaveRoom }
 {}
 
 /// Once what the turns have done is loaded, the patched guest runs as the original does, and
-/// counts or covers.
+/// counts, covers or keeps a ring.
 pub fn turns_are_threaded()
     ensures { TurnsAreThreaded }
 {}
 
-/// The file that is written for the turns loads what they have done: with any number of threads it runs as the original does, and counts
-/// or covers.
+/// The file that is written for the turns loads what they have done: with any number of threads it runs as the original does, and counts,
+/// covers or keeps a ring.
 pub fn written_is_threaded()
     ensures loads { ThreadJobLoads }
     ensures followed { WrittenIsThreaded }

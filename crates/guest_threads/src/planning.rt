@@ -15,7 +15,7 @@ use pun_base::range::Range;
 use pun_base::tramp::Tramp;
 use site_turns::building::{Coding, build_all};
 use site_turns::error::TurnError;
-use site_turns::mode::{Mode, thread_base, thread_event_of, thread_when};
+use site_turns::mode::{Mode, thread_event_of};
 use site_turns::plan::{TurnedSites, turn_sites};
 use site_turns::planned::Planned;
 use site_turns::start_insn::insn_at;
@@ -43,8 +43,7 @@ impl Coding for ThreadSetting<'_> {
             unreachable!();
         };
         thread_trampoline(
-            thread_event_of(thread_base(self.action), tramp.event),
-            thread_when(self.action),
+            thread_event_of(self.action, tramp.event),
             at.insn,
             at.bytes,
             at.entry.addr,

@@ -1,11 +1,10 @@
 -- The rules by which turns go: those of events, and those of events where threads share memory, with the scene of a file by each. Theorems cite it.
-use Rattle.std.specs.Prelude.{◌≡◌, ℕ, zero, suc, ◌+◌, Bool, true, false, List, [], ◌∷◌, Option, Some, None}
+use Rattle.std.specs.Prelude.{◌≡◌, ℕ, zero, suc, ◌+◌, ◌==◌, Bool, true, false, ◌||◌, List, [], ◌∷◌, Option, Some, None}
 use Rattle.pun_base.specs.declared.action.Action.{Action}
 use Rattle.pun_base.specs.declared.action.Action.TheVariants.{Cover, Count, Ring, When}
 use Rattle.pun_base.specs.declared.action.Base.{Base}
 use Rattle.pun_base.specs.declared.action.Base.TheVariants as base
 use Rattle.pun_base.specs.declared.action.Comparison.{Comparison}
-use Rattle.pun_base.specs.declared.action.Comparisons.{Comparisons}
 use Rattle.pun_base.specs.Actions.{listed}
 use Rattle.pun_base.specs.declared.scheme.Scheme.{Scheme}
 use Rattle.trampoline.specs.Events.{event_length}
@@ -31,25 +30,11 @@ pub record TurnRules : Type 0 where
 abbrev pub event_rules : Action → TurnRules
 event_rules action = record { event_size = event_length action; can = work_length; schemes = five }
 
--- What the events of threads do by an action: they cover, or count.
-abbrev pub thread_base : Action → Base
-thread_base Cover = base.Cover
-thread_base Count = base.Count
-thread_base (Ring len) = base.Count
-thread_base (When b list) = b
-
--- The comparisons under which they do it, where the action has a condition.
-abbrev pub thread_when : Action → Option Comparisons
-thread_when Cover = None
-thread_when Count = None
-thread_when (Ring len) = None
-thread_when (When b list) = Some list
-
--- Threads can get the events of this action: of each but a ring.
+-- Threads can get the events of this action: of a ring where the number of claims so far leads to a slot by its low byte or its low word.
 abbrev pub is_shared : Action → Bool
 is_shared Cover = true
 is_shared Count = true
-is_shared (Ring len) = false
+is_shared (Ring len) = len == 256 || len == 65536
 is_shared (When b list) = true
 
 abbrev pub IsShared : Action → Type 0
@@ -74,13 +59,13 @@ checks_size (c ∷ cs) = check_size c.reg + checks_size cs
 abbrev pub thread_event_size : Action → ℕ
 thread_event_size Cover = 8
 thread_event_size Count = 32
-thread_event_size (Ring len) = 32
+thread_event_size (Ring len) = 67
 thread_event_size (When b list) = saving_size b + checks_size (listed list)
 
--- The event of a trampoline for threads, where it has one.
-abbrev pub thread_event_of : Base → Bool → Option Base
-thread_event_of b true = Some b
-thread_event_of b false = None
+-- The event of a trampoline for threads, where it has one: that of the action.
+abbrev pub thread_event_of : Action → Bool → Option Action
+thread_event_of action true = Some action
+thread_event_of action false = None
 
 -- The rules where the sites get events for threads: sites and victims alike are those that may be
 -- displaced where threads share memory, and all five schemes are tried.

@@ -20,42 +20,24 @@ const THREAD_COVER_LEN: u32 = 8;
 /// Bytes of one that counts without a condition.
 const THREAD_COUNT_LEN: u32 = 32;
 
-/// What the events of threads do by an action: they cover, or count.
-pub fn thread_base(action: Action) -> Base
-    ensures { result ≡ modes.thread_base action }
-{
-    match action {
-        Action::Cover => Base::Cover,
-        Action::Count | Action::Ring { .. } => Base::Count,
-        Action::When { base, .. } => base,
-    }
-}
+/// Bytes of one that keeps a ring.
+const THREAD_RING_LEN: u32 = 67;
 
-/// The comparisons under which they do it, where the action has a condition.
-pub fn thread_when(action: Action) -> Option<Comparisons>
-    ensures { result ≡ modes.thread_when action }
-{
-    match action {
-        Action::When { list, .. } => Some(list),
-        Action::Cover | Action::Count | Action::Ring { .. } => None,
-    }
-}
-
-/// Whether threads can get the events of an action: those of each but a ring.
+/// Whether threads can get the events of an action: of a ring where it has 256 or 65,536 slots.
 pub fn is_shared(action: Action) -> bool
     ensures { result ≡ modes.is_shared action }
 {
     match action {
         Action::Cover | Action::Count | Action::When { .. } => true,
-        Action::Ring { .. } => false,
+        Action::Ring { len } => len == 256 || len == 65_536,
     }
 }
 
 /// The event of a trampoline for a guest of several threads, where it has one.
-pub fn thread_event_of(base: Base, event: bool) -> Option<Base>
-    ensures { result ≡ modes.thread_event_of base event }
+pub fn thread_event_of(action: Action, event: bool) -> Option<Action>
+    ensures { result ≡ modes.thread_event_of action event }
 {
-    if event { Some(base) } else { None }
+    if event { Some(action) } else { None }
 }
 
 /// Bytes of an event that saves rax and the flags, but for its comparisons.
@@ -96,7 +78,8 @@ fn thread_event_size(action: Action) -> u32
 {
     match action {
         Action::Cover => THREAD_COVER_LEN,
-        Action::Count | Action::Ring { .. } => THREAD_COUNT_LEN,
+        Action::Count => THREAD_COUNT_LEN,
+        Action::Ring { .. } => THREAD_RING_LEN,
         Action::When { base, list } => saving_size(base) + checks_size(list),
     }
 }

@@ -3,8 +3,7 @@ use Rattle.std.proofs.Common.{◌≡◌, inl, inr, ℕ, ◌+◌, ◌<◌, false,
 use Rattle.std.specs.Option.{is_some, option_map}
 use Rattle.std.proofs.lemmas.Option.{slice_get-map, slice_get-get_or}
 use Rattle.pun_base.specs.Memory.{Bytes}
-use Rattle.pun_base.specs.declared.action.Base.{Base}
-use Rattle.pun_base.specs.declared.action.Comparison.{Comparison}
+use Rattle.pun_base.specs.declared.action.Action.{Action}
 use Rattle.cpu_state.specs.Bytes.{Stands}
 use Rattle.elf_read.specs.Image.{image_of}
 use Rattle.elf_read.specs.Refusals.{refusal}
@@ -31,8 +30,9 @@ use Rattle.image_check.proofs.CodeAtStarts.{IsReadAt, read_at, found_address}
 use Rattle.image_check.proofs.ReportLines.{number_low, place_low}
 use Rattle.site_turns.specs.StartInsns.{form_from, form_at, IsInsnAt}
 use Rattle.site_turns.proofs.TrampolineCodes.{taken_len, taken_spelled}
-use Rattle.site_turns.specs.Modes.{thread_base, thread_when, thread_event_of}
-use Rattle.thread_runs.specs.Building.{when_of, size_if}
+use Rattle.site_turns.specs.Modes.{thread_event_of}
+use Rattle.thread_runs.specs.Building.{event_of, when_of, size_if}
+use Rattle.guest_threads.specs.FromTurns.{code_of_line}
 use Rattle.thread_runs.specs.ThreadCode.{event_len, event_if, thread_work, code_if}
 use Rattle.thread_runs.proofs.WorkSize.{told}
 use Rattle.thread_runs.proofs.WorkTails.{work_long}
@@ -46,12 +46,12 @@ mapped_from f None n h = absurd cc
 mapped_from f (Some k) n h = (k, refl)
 
 -- the code that is built of what is taken of the file
-pub built : (event : Option Base) (cs : List Comparison) (c : Case) (l : Line) (file : List ℕ) (e : StartEntry) (i : Insn) (bs code : List ℕ) (private : ℕ)
-    → event ≡ thread_event_of (thread_base c.report.action) l.tramp.event → cs ≡ when_of (thread_when c.report.action)
+pub built : (event : Option Action) (c : Case) (l : Line) (file : List ℕ) (e : StartEntry) (i : Insn) (bs code : List ℕ) (private : ℕ)
+    → event ≡ thread_event_of c.report.action l.tramp.event
     → refusal 0x10000 file ≡ None → IsBuilt file c.listed → c.original ≡ image_of file → IsInsnAt file c.listed l.tramp.start e i bs → e.shared ≡ false → private ≡ c.report.private.0
-    → ((f : Fields) → IsInstruction f → bs ≡ spelling f → code ≡ code_if event cs private l.number f (e.addr + length bs) l.tramp.place)
-    → size_if event cs i (length bs) e.addr ≡ Some (length code) → IsThreadCode c l code
-built event cs c l file e i bs code private same under accepted own o got alone p k s =
+    → ((f : Fields) → IsInstruction f → bs ≡ spelling f → code ≡ code_if (event_of event) (when_of event) private l.number f (e.addr + length bs) l.tramp.place)
+    → size_if (event_of event) (when_of event) i (length bs) e.addr ≡ Some (length code) → IsThreadCode c l code
+built event c l file e i bs code private same accepted own o got alone p k s =
     let q : IsReadAt file e i = read_at file c.listed l.tramp.start e i accepted own got.at got.form in
     let spelled = taken_spelled file c.listed l.tramp.start e i bs accepted own got in
     let size : length bs ≡ e.len = taken_len file c.listed l.tramp.start e i bs accepted own got in
@@ -61,9 +61,9 @@ built event cs c l file e i bs code private same under accepted own o got alone 
     let low = q.low in
     let long_is = q.size in
     let next : e.addr + length bs ≡ next_after e.addr q.fields = omega (arith, size, low, long_is) in
-    let front = event_if event cs private l.number in
-    let work = thread_work q.fields (e.addr + length bs) (l.tramp.place + event_len event cs) in
-    let longer : 0 < length work = work_long q.fields (e.addr + length bs) (l.tramp.place + event_len event cs) w.0 e.len e.addr q.is q.size
+    let front = event_if (event_of event) (when_of event) private l.number in
+    let work = thread_work q.fields (e.addr + length bs) (l.tramp.place + event_len (event_of event) (when_of event)) in
+    let longer : 0 < length work = work_long q.fields (e.addr + length bs) (l.tramp.place + event_len (event_of event) (when_of event)) w.0 e.len e.addr q.is q.size
     (ap (λ (x : Insn). thread_len x e.len e.addr) (sym q.insn) ∙ long) in
     let written : length code ≡ length (front ++ work) = ap length (k q.fields q.is spelled) in
     record {
@@ -77,8 +77,8 @@ built event cs c l file e i bs code private same under accepted own o got alone 
             (subst (λ (x : ℕ). Stands (image_of file) x (spelling q.fields)) a q.stands);
         displaced = ap is_some (ap displaced_from got.at ∙ ap (λ (z : Option Insn). displaced_by z e.len e.addr) got.form
             ∙ (told (is_atomic i) (displaced_len i e.len e.addr) w.0 long).1);
-        is = k q.fields q.is spelled ∙ (λ j. code_if (same j) (under j) (p j) l.number q.fields (next j) l.tramp.place)
-            ∙ ap (λ z. code_if (thread_event_of (thread_base c.report.action) l.tramp.event) (when_of (thread_when c.report.action)) c.report.private.0 l.number q.fields (next_after z q.fields) l.tramp.place) a;
+        is = k q.fields q.is spelled ∙ (λ j. code_if (event_of (same j)) (when_of (same j)) (p j) l.number q.fields (next j) l.tramp.place)
+            ∙ ap (λ z. code_of_line c.report.action c.report.private.0 l q.fields (next_after z q.fields)) a;
       };
       some = omega (arith, written, length-append front work, longer);
     }

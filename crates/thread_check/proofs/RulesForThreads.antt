@@ -1,8 +1,8 @@
 -- Where no rule for threads fails, the patched image is sound for threads.
-use Rattle.std.proofs.Common.{◌≡◌, ◌⊎◌, inl, inr, ℕ, ◌+◌, ◌-◌, ◌<◌, ◌≤◌, Bool, true, false, not, ◌&&◌, eqb, leb, ltb, List, length, slice_index, Option, Some, None, refl, sym, ap, ap₂, ◌∙◌, subst, arith}
+use Rattle.std.proofs.Common.{◌≡◌, ◌⊎◌, inl, inr, ℕ, ◌+◌, ◌-◌, ◌^◌, ◌<◌, ◌≤◌, Bool, true, false, not, ◌&&◌, eqb, leb, ltb, List, length, slice_index, Option, Some, None, refl, sym, ap, ap₂, ◌∙◌, subst, arith}
 use Rattle.std.specs.Prelude.{Contains, slice_get}
 use Rattle.std.specs.Option.{is_some, option_map, option_to_list}
-use Rattle.std.specs.List.{list_any, count_by}
+use Rattle.std.specs.List.{list_any, count_by, AllByRecursion}
 use Rattle.std.proofs.lemmas.Bool.{cases_eq, cases_lt, cases_order, and_from, or_right, eqb-true, eq-eqb, le-leb, lt-ltb, true_from_ne_false, false_from_ne_true, false≢true, true≢false}
 use Rattle.pun_base.specs.Memory.{Cell}
 use Rattle.pun_base.specs.Actions.{private_len}
@@ -22,7 +22,7 @@ use Rattle.patch_report.specs.Values.{RowValue}
 use Rattle.patch_report.specs.Bounds.{IsBounded}
 use Rattle.patch_report.specs.Grammar.{IsTold}
 use Rattle.patch_report.proofs.ReportBounds.{bounded}
-use Rattle.patch_report.proofs.ListPlaces.{In, some_is, any_at, contains_at, place_of, counted_twice, finds, in_flat, from_flat}
+use Rattle.patch_report.proofs.ListPlaces.{In, some_is, all_in, all_from, any_at, contains_at, place_of, counted_twice, finds, in_flat, from_flat}
 use Rattle.image_check.specs.Reports.{Line, lines, is_written, in_private, on_page, tramps_of}
 use Rattle.image_check.specs.Rules.{Case, differs, displaced_by, displaced_from, displaced_at, LiesInWith, HoldsCode, is_own, ByteFails, WriteFails, RangeFails}
 use Rattle.image_check.proofs.HeldRules.{some_unless, held_or_not, same_unless, owned_at, code_low as code_ends, new_none, zero_at}
@@ -30,17 +30,17 @@ use Rattle.image_check.proofs.LoadedCode.{loaded_fixed}
 use Rattle.image_check.proofs.FixedJumps.{any_found}
 use Rattle.image_check.proofs.CodeAtStarts.{found_address}
 use Rattle.image_check.proofs.ReportLines.{number_low}
-use Rattle.site_turns.specs.Modes.{can_in_threads, thread_base, thread_when, is_shared, IsShared, thread_event_of}
+use Rattle.site_turns.specs.Modes.{can_in_threads, is_shared, IsShared, thread_event_of}
 use Rattle.site_turns.proofs.PlanForms.{entry_here}
 use Rattle.site_turns.proofs.CodeSizes.{one_standing}
-use Rattle.thread_runs.specs.Building.{when_of}
-use Rattle.thread_runs.specs.ThreadCode.{mark_at, mark_len, code_if}
-use Rattle.thread_runs.specs.Threading.{ThreadSite, Threading, next_of, ByTwoJumps, IsThreadSite, is_code_of, IsThreadSound}
+use Rattle.thread_runs.specs.Building.{kind_of, event_of}
+use Rattle.thread_runs.specs.ThreadCode.{Kind, Marks, mark_at, mark_len, slot_at, code_if}
+use Rattle.thread_runs.specs.Threading.{ThreadSite, Threading, next_of, ring_of, ByTwoJumps, IsThreadSite, is_code_of, IsRingSound, IsThreadSound}
 use Rattle.thread_runs.proofs.ThreadsTheorem.{threads_followed, threads_followed_with}
 use Rattle.thread_runs.proofs.WorkSize.{told}
-use Rattle.guest_threads.specs.FromTurns.{site_with, site_of}
+use Rattle.guest_threads.specs.FromTurns.{code_of_line, site_with, site_of, HaveRoom}
 use Rattle.guest_threads.proofs.LinesAfterTurns.{room_for}
-use Rattle.guest_threads.proofs.ThreadConditions.{action_few}
+use Rattle.guest_threads.proofs.ThreadConditions.{action_few, keeps_of, ring_shared, ring_always}
 use Rattle.guest_threads.proofs.ThreadSoundness.{one_of, event_some, mark_in}
 use Rattle.thread_check.specs.ThreadRules.{moved_from, moved_at, is_marked, shares_at, ThreadLeads, ThreadLineFails, ThreadEntryFails, thread_coding, ThreadCodeFails, ThreadSiteFails, IsThreadCaseSound}
 use Rattle.thread_check.specs.ThreadSoundness.{threading_of, ThreadCaseIsFollowed}
@@ -59,9 +59,7 @@ some_of (Some n) k h = (n, refl)
 
 -- the code of a trampoline whose instruction has these fields and ends before an address
 abbrev pub code_to : Case → Line → Fields → ℕ → List ℕ
-code_to c l f next =
-    code_if (thread_event_of (thread_base c.report.action) l.tramp.event) (when_of (thread_when c.report.action)) c.report.private.0 l.number f next
-    l.tramp.place
+code_to c l f next = code_of_line c.report.action c.report.private.0 l f next
 
 -- a trampoline's instruction: it is listed and alone, stands in the original, and can be displaced where threads share memory
 pub record Enters (c : Case) (l : Line) : Type 0 where
@@ -138,8 +136,8 @@ module _ (c : Case) (A : AreEntries c.original c.listed) (T : IsTold c.report) (
   abbrev R : Threading
   R = threading_of c
 
-  abbrev base : Base
-  base = thread_base c.report.action
+  abbrev kind : Kind
+  kind = kind_of c.report.action
 
   -- the rules, one by one
   rule_1 : (x : ℕ) → ByteFails c x → ⊥
@@ -233,16 +231,20 @@ module _ (c : Case) (A : AreEntries c.original c.listed) (T : IsTold c.report) (
       → l.tramp.place + length (code_with c l e.fields) ≤ 0x7FFF1000
   code_low i l e h = code_ends c B l (length (code_with c l e.fields)) (i, h) (λ x. code_on_page i l e x h)
 
-  -- what a trampoline's event marks is in the private range
-  room : (l : Line) → In (lines c.report) l → mark_at base c.report.private.0 l.number + mark_len base ≤ c.report.private.1
-  room l h =
-      let shared : IsShared c.report.action =
-      true_from_ne_false (is_shared c.report.action) (λ f. rule_6 c.report.private.0 (inr (refl, λ s. true≢false (sym s ∙ f)))) in
-      let below = number_low c.report l B h in
-      elim (cases_lt c.report.private.1 (c.report.private.0 + private_len c.report.action (length c.report.rows))) [
-        | inl k ↦ absurd (rule_6 c.report.private.0 (inl (inr (inr (refl, k)))))
-        | inr k ↦ room_for c.report.action c.report.private.0 c.report.private.1 (length c.report.rows) l.number shared k below
-      ]
+  -- threads can get the events of the action
+  shared : IsShared c.report.action
+  shared = true_from_ne_false (is_shared c.report.action) (λ f. rule_6 c.report.private.0 (inr (refl, λ s. true≢false (sym s ∙ f))))
+
+  -- each trampoline's number is below the number of rows
+  below : AllByRecursion (λ (l : Line). l.number < length c.report.rows) (lines c.report)
+  below = all_from (λ (l : Line). l.number < length c.report.rows) (lines c.report) (λ l h. number_low c.report l B h)
+
+  -- what the events of trampolines write to is in the private range
+  room : HaveRoom kind c.report.private.0 c.report.private.1 (lines c.report)
+  room = elim (cases_lt c.report.private.1 (c.report.private.0 + private_len c.report.action (length c.report.rows))) [
+    | inl k ↦ absurd (rule_6 c.report.private.0 (inl (inr (inr (refl, k)))))
+    | inr k ↦ room_for c.report.action c.report.private.0 c.report.private.1 (length c.report.rows) (lines c.report) k below
+  ]
 
   -- a site and the trampoline of which it comes
   record Of (s : ThreadSite) : Type 0 where
@@ -308,7 +310,7 @@ module _ (c : Case) (A : AreEntries c.original c.listed) (T : IsTold c.report) (
         size = e.size;
         displaced = e.displaced;
         jump = by_two e.entry.addr l.tramp.start l.tramp.place e.addr (leads l h);
-        few = action_few c.report.action B.action;
+        few = action_few c.report.action l.tramp.event B.action;
         code = loaded_fixed c.patched l.tramp.place code (omega (arith, low)) cells;
         new = λ x lo hi.
             let hi' : x < l.tramp.place + length (code_with c l e.fields) = omega (arith, hi, n) in
@@ -348,11 +350,11 @@ module _ (c : Case) (A : AreEntries c.original c.listed) (T : IsTold c.report) (
 
   -- a site with an event comes of a trampoline with one
   with_event : (s : ThreadSite) (o : Of s) → is_some s.event ≡ true → o.line.tramp.event ≡ true
-  with_event s o u = event_some base o.line.tramp.event (ap (λ (z : ThreadSite). is_some z.event) o.is ∙ u)
+  with_event s o u = event_some c.report.action o.line.tramp.event (ap (λ (z : ThreadSite). is_some z.event) o.is ∙ u)
 
   -- that event is by the report's action
-  event_is : (s : ThreadSite) → Contains R.sites s → is_some s.event ≡ true → s.event ≡ Some base
-  event_is s h u = let o = of_site s h in sym (ap (λ (z : ThreadSite). z.event) o.is) ∙ ap (thread_event_of base) (with_event s o u)
+  event_is : (s : ThreadSite) → Contains R.sites s → is_some s.event ≡ true → s.event ≡ Some kind
+  event_is s h u = let o = of_site s h in sym (ap (λ (z : ThreadSite). z.event) o.is) ∙ ap (λ (b : Bool). event_of (thread_event_of c.report.action b)) (with_event s o u)
 
   -- each number has one site
   numbers : (s t : ThreadSite) → Contains R.sites s → Contains R.sites t → is_some s.event ≡ true → is_some t.event ≡ true → s.number ≡ t.number → s ≡ t
@@ -410,13 +412,33 @@ module _ (c : Case) (A : AreEntries c.original c.listed) (T : IsTold c.report) (
           any_at (λ (s : ThreadSite). leb s.entry.addr x && ltb x (s.entry.addr + s.entry.len)) R.sites i.0 s i.1
           (and_from (leb o.entry.addr x) (ltb x (o.entry.addr + o.entry.len)) (le-leb o.entry.addr x o.above) (lt-ltb x (o.entry.addr + o.entry.len) o.below))
 
+  -- the kind of a site's event is by the report's action
+  kind_is : (s : ThreadSite) → Contains R.sites s → (k : Kind) → s.event ≡ Some k → kind ≡ k
+  kind_is s h k v = some_is kind k (sym (event_is s h (ap is_some v)) ∙ v)
+
   -- what each event marks is in the private range
-  room_of : (s : ThreadSite) → Contains R.sites s → (b : Base) → s.event ≡ Some b → mark_at b c.report.private.0 s.number + mark_len b ≤ c.report.private.1
+  room_of : (s : ThreadSite) → Contains R.sites s → (b : Base) → s.event ≡ Some (Marks b) → mark_at b c.report.private.0 s.number + mark_len b ≤ c.report.private.1
   room_of s k b v =
       let o = of_site s k in
-      let kind : base ≡ b = some_is base b (sym (event_is s k (ap is_some v)) ∙ v) in
-      subst (λ (z : Base). mark_at z c.report.private.0 s.number + mark_len z ≤ c.report.private.1) kind
-      (subst (λ (z : ThreadSite). mark_at base c.report.private.0 z.number + mark_len base ≤ c.report.private.1) o.is (room o.line o.in_lines))
+      let each : AllByRecursion (λ (l : Line). mark_at b c.report.private.0 l.number + mark_len b ≤ c.report.private.1) (lines c.report) =
+      subst (λ (z : Kind). HaveRoom z c.report.private.0 c.report.private.1 (lines c.report)) (kind_is s k (Marks b) v) room in
+      subst (λ (z : ThreadSite). mark_at b c.report.private.0 z.number + mark_len b ≤ c.report.private.1) o.is (all_in _ (lines c.report) o.line each o.in_lines)
+
+  -- a ring is in the private range, and one more than each number fits a slot
+  ring_sound : (n : ℕ) → R.ring ≡ Some n → IsRingSound R n
+  ring_sound n v =
+      let keeps = keeps_of kind n v in
+      let high : slot_at c.report.private.0 n ≤ c.report.private.1 = subst (λ (z : Kind). HaveRoom z c.report.private.0 c.report.private.1 (lines c.report)) keeps room in
+      let e = B.end in
+      let few = B.sites in record {
+        size = ring_shared c.report.action n shared keeps;
+        zeros = λ x a b. zero_at c rule_5 x (omega (arith, a)) (omega (arith, b, high));
+        low = omega (arith, high, e);
+        numbers = λ s h u. let o = of_site s h in
+            let k : o.line.number < length c.report.rows = all_in _ (lines c.report) o.line below o.in_lines in
+            subst (λ (z : ThreadSite). z.number + 1 < 2 ^ 31) o.is (omega (arith, k, few));
+        always = λ s h u. let o = of_site s h in sym (ap (λ (z : ThreadSite). z.when) o.is) ∙ ring_always c.report.action o.line.tramp.event n keeps;
+      }
 
   -- the patched image is sound for threads
   pub case_sound : IsThreadSound R
@@ -427,8 +449,10 @@ module _ (c : Case) (A : AreEntries c.original c.listed) (T : IsTold c.report) (
     numbers = numbers;
     apart = apart;
     kinds = kinds;
+    rings = λ s h k v. ap ring_of (kind_is s h k v);
     marks = λ s k z v x a b. let h = room_of s k z v in let m = mark_in z c.report.private.0 s.number in zero_at c rule_5 x (omega (arith, a, m)) (omega (arith, b, h));
     low = λ s k z v. let h = room_of s k z v in let e = B.end in omega (arith, h, e);
+    ring = ring_sound;
   }
 
   -- the entry points are equal

@@ -1,6 +1,6 @@
 -- What the trampolines and the rules of any patched image show, as a verdict of the rules for threads.
-use Rattle.std.proofs.Common.{◌≡◌, ◌≢◌, ◌⊎◌, inl, inr, ℕ, ◌+◌, ◌-◌, ◌≤◌, Bool, true, false, cond, not, ◌&&◌, ◌||◌, eqb, leb, ltb, List, length, slice_index, Option, Some, None, refl, sym, ap, ◌∙◌, subst, arith}
-use Rattle.std.specs.Prelude.{count_by, slice_get}
+use Rattle.std.proofs.Common.{◌≡◌, ◌≢◌, ◌⊎◌, inl, inr, ℕ, ◌+◌, ◌-◌, ◌≤◌, Bool, true, false, cond, not, ◌&&◌, ◌||◌, eqb, leb, ltb, List, length, slice_index, Option, Some, None, Result, Ok, Err, refl, sym, ap, ◌∙◌, subst, arith}
+use Rattle.std.specs.Prelude.{count_by, slice_get, IfOk}
 use Rattle.std.specs.Option.{is_some, option_map}
 use Rattle.std.specs.List.{list_any}
 use Rattle.std.proofs.lemmas.Bool.{cases_order, and_parts, and_from, or_cases, or_right, eqb-true, leb-true, ltb-true, le-leb, lt-ltb, false_from_ne_true, false≢true, true≢false}
@@ -28,12 +28,12 @@ use Rattle.image_check.specs.Verdict.{FailsBy, IsLeastOf}
 use Rattle.image_check.proofs.CodeRule.{two_places, held_back, mapped}
 use Rattle.image_check.proofs.LeadingBytes.{leads_or_not}
 use Rattle.image_check.proofs.NearCounts.{any_moved, count_moved}
-use Rattle.site_turns.specs.Modes.{is_shared, IsShared}
+use Rattle.site_turns.specs.Modes.{IsShared}
 use Rattle.site_turns.proofs.CodeSizes.{one_standing}
 use Rattle.thread_check.specs.ThreadRules.{moved_from, ThreadLineFails, ThreadEntryFails, thread_coding, ThreadCodeFails, ThreadFails}
 use Rattle.thread_check.specs.ThreadVerdict.{IsThreadVerdict}
 use Rattle.thread_check.specs.ThreadSoundness.{IsThreadCaseFollowed}
-use Rattle.thread_check.specs.LineParts.{is_new_code, IsSoundLine, IsBrokenLine, IsLineFailure, IsSoundCode, first_overlap, AreSoundLines, IsLinesVerdict, IsSoundImage, ImageFails, IsImageVerdict, first_failure, whole}
+use Rattle.thread_check.specs.LineParts.{is_new_code, IsSoundLine, IsBrokenLine, IsLineFailure, IsSoundCode, first_overlap, AreSoundLines, IsLinesVerdict, IsEventsVerdict, IsSoundImage, ImageFails, IsImageVerdict, first_failure, whole}
 use Rattle.thread_check.proofs.LandingJumps.{leads_too, leads_for}
 use Rattle.thread_check.proofs.HeldCode.{IsHeld, each_held, one_broken}
 use Rattle.thread_check.proofs.PlacesApart.{HaveBytes, in_one, in_two}
@@ -291,15 +291,20 @@ image_verdict c None None None (Some x) entry h i j k l = inr (inr (inr (inl (re
 image_verdict c None None None None (Some x) h i j k l = inr (inr (inr (inr (refl, l.0))))
 image_verdict c None None None None None h i j k l = record { bytes = h; writes = i; entries = l; ranges = j; sites = k }
 
+-- where threads can get the events of the action, it settles nothing beside the trampolines
+pub of_lines : {E : Type 0} (c : Case) (r : Result Verdict E) → IsShared c.report.action → IfOk r (λ v. IsLinesVerdict c v) → IfOk r (λ v. IsEventsVerdict c v)
+of_lines c (Ok v) s h = inl (s, h)
+of_lines c (Err e) s h = tt
+
+-- the verdict of the action with the trampolines is the verdict, where the rules of any patched image hold
+events_verdict : (c : Case) (v : Verdict) → IsImageVerdict c Yes → IsEventsVerdict c v → IsThreadVerdict c v
+events_verdict c v h (inl k) = verdict_of c h k.0 v k.1
+events_verdict c v h (inr k) = subst (IsThreadVerdict c) (sym k.1) (inr (inr (inr (inr (inr (refl, inr (refl, k.0)))))))
+
 -- the verdict of all parts is the verdict
-pub whole_verdict : (c : Case) (low : ℕ) (v w : Verdict) → low ≡ c.report.private.0 → IsImageVerdict c v → IsLinesVerdict c w
-    → IsThreadVerdict c (whole (is_shared c.report.action) low v w)
-whole_verdict c low (No addr rule) w e h k = image_fails c addr rule h
-whole_verdict c low Yes w e h k = by_action (is_shared c.report.action) refl
-  where
-    by_action : (b : Bool) → is_shared c.report.action ≡ b → IsThreadVerdict c (whole b low Yes w)
-    by_action true f = verdict_of c h f w k
-    by_action false f = inr (inr (inr (inr (inr (refl, inr (e, λ s. true≢false (sym s ∙ f)))))))
+pub whole_verdict : (c : Case) (v w : Verdict) → IsImageVerdict c v → IsEventsVerdict c w → IsThreadVerdict c (whole v w)
+whole_verdict c (No addr rule) w h k = image_fails c addr rule h
+whole_verdict c Yes w h k = events_verdict c w h k
 
 -- where the verdict is Yes, the patched file is followed
 pub yes_followed : (c : Case) (v : Verdict) → AreEntries c.original c.listed → IsTold c.report → IsThreadVerdict c v → v ≡ Yes → IsThreadCaseFollowed c

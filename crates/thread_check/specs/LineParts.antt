@@ -11,6 +11,7 @@ use Rattle.image_check.specs.Rules.{Case, HasCodeWith, ByteFails, WriteFails, En
 use Rattle.image_check.specs.declared.placed_code.PlacedCode.{PlacedCode}
 use Rattle.image_check.specs.declared.verdict.Verdict.{Verdict}
 use Rattle.image_check.specs.declared.verdict.Verdict.TheVariants.{Yes, No}
+use Rattle.site_turns.specs.Modes.{IsShared}
 use Rattle.thread_check.specs.ThreadRules.{moved_at, shares_at, ThreadLineFails, thread_coding}
 
 -- This byte is loaded, R-X, where the original loads none.
@@ -124,9 +125,12 @@ first_failure None None None (Some x) entry = No x 6
 first_failure None None None None (Some x) = No x 3
 first_failure None None None None None = Yes
 
--- The verdict of these: of the rules of any patched file, of whether threads can get the events of the
--- action, where the private range begins at an address, and of the trampolines.
-abbrev pub whole : Bool → ℕ → Verdict → Verdict → Verdict
-whole shared low (No addr rule) lines = No addr rule
-whole true low Yes lines = lines
-whole false low Yes lines = No low 6
+-- What a report's action and trampolines show: threads can get the events of the action, and of the trampolines rules 3 and 4 show this;
+-- or they can't, and rule 6 fails at the private range's first address.
+abbrev pub IsEventsVerdict : Case → Verdict → Type 0
+IsEventsVerdict c v = (IsShared c.report.action × IsLinesVerdict c v) ⊎ ((IsShared c.report.action → ⊥) × (v ≡ No c.report.private.0 6))
+
+-- The verdict of these: of the rules of any patched file, and of the action with the trampolines.
+abbrev pub whole : Verdict → Verdict → Verdict
+whole (No addr rule) events = No addr rule
+whole Yes events = events

@@ -8,9 +8,8 @@ use Rattle.start_entries.specs.Leading.{JumpsTo}
 use Rattle.patch_report.specs.Values.{BodyValue}
 use Rattle.image_check.specs.Reports.{Line, lines, times_started}
 use Rattle.image_check.specs.Rules.{Case, Coding, ByteFails, WriteFails, CodeFailsWith, RangeFails, SiteFails}
-use Rattle.site_turns.specs.Modes.{can_in_threads, thread_base, thread_when, IsShared, thread_event_of}
-use Rattle.thread_runs.specs.Building.{when_of}
-use Rattle.thread_runs.specs.ThreadCode.{code_if}
+use Rattle.site_turns.specs.Modes.{can_in_threads, IsShared}
+use Rattle.guest_threads.specs.FromTurns.{code_of_line}
 
 -- The length of the code that does the work of an entry's instruction where threads share memory; none without an entry.
 abbrev pub moved_from : Option StartEntry → Option ℕ
@@ -56,19 +55,17 @@ ThreadLineFails c x l =
 abbrev pub ThreadEntryFails : Case → ℕ → Type 0
 ThreadEntryFails c x = (l : Line) × Contains (lines c.report) l × (l.tramp.start ≡ x) × ThreadLineFails c x l
 
--- The coding of a report for threads: the event of the line's number, where the line has one, under
--- the comparisons of the report's action, if it has any, and the instruction's work.
+-- The coding of a report for threads: the event of the report's action and the line's number, where the line has
+-- one, and the instruction's work.
 abbrev pub thread_coding : BodyValue → Coding
-thread_coding v l f =
-    code_if (thread_event_of (thread_base v.action) l.tramp.event) (when_of (thread_when v.action)) v.private.0 l.number f
-    (next_after l.tramp.start f) l.tramp.place
+thread_coding v l f = code_of_line v.action v.private.0 l f (next_after l.tramp.start f)
 
 -- Rule 4 fails at x, by that coding.
 abbrev pub ThreadCodeFails : Case → ℕ → Type 0
 ThreadCodeFails c x = CodeFailsWith (thread_coding c.report) c x
 
 -- Rule 6 fails at x: as for any patched image, or x is the private range's first address, and the
--- action is a ring.
+-- action is a ring of a length that threads can't share.
 abbrev pub ThreadSiteFails : Case → ℕ → Type 0
 ThreadSiteFails c x = SiteFails c x ⊎ ((x ≡ c.report.private.0) × (IsShared c.report.action → ⊥))
 

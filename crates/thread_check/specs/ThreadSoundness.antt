@@ -6,7 +6,8 @@ use Rattle.image_check.specs.Reports.{lines}
 use Rattle.image_check.specs.Rules.{Case}
 use Rattle.thread_runs.specs.Theorem.{AreFollowed, GetOut}
 use Rattle.thread_runs.specs.TheoremWithDeliveries.{AreFollowedWith, GetOutWith}
-use Rattle.thread_runs.specs.Threading.{Threading, IsThreadSound}
+use Rattle.thread_runs.specs.Building.{kind_of}
+use Rattle.thread_runs.specs.Threading.{Threading, ring_of, IsThreadSound}
 use Rattle.guest_threads.specs.FromTurns.{site_of}
 use Rattle.thread_check.specs.ThreadRules.{IsThreadCaseSound}
 
@@ -19,10 +20,11 @@ threading_of c = record {
   listed = c.listed;
   sites = flat_map (site_of c.report.action c.listed) (lines c.report);
   private = c.report.private.0;
+  ring = ring_of (kind_of c.report.action);
 }
 
 -- The patched file starts where the original does, and runs with any number of threads as the
--- original does, and counts or covers, under a condition where the report tells one, with deliveries and without.
+-- original does, and counts or covers, under a condition where the report tells one, or keeps a ring, with deliveries and without.
 pub record IsThreadCaseFollowed (c : Case) : Type 0 where
   pub entry : c.patched_entry ≡ c.entry
   pub sound : IsThreadSound (threading_of c)

@@ -6,6 +6,7 @@ ghost use Rattle.start_entries.specs.Laws.{IsBuilt};
 ghost use Rattle.image_check.specs.CodeParts.{IsLow};
 ghost use Rattle.image_check.specs.Parts.{line_of};
 ghost use Rattle.image_check.specs.Verdict.{case_of};
+ghost use Rattle.site_turns.specs.Modes.{IsShared};
 ghost use Rattle.thread_check.specs.LineParts.{Lands, IsCodeFound, IsCodeVerdict, IsSoundLine, IsLineFailure};
 
 use crate::loaded::{first_broken, is_loaded};
@@ -15,7 +16,7 @@ use image_check::flat::ReportLine;
 use image_check::jumps::jump_at;
 use image_check::verdict::Verdict;
 use patch_report::report::Report;
-use site_turns::mode::{thread_base, thread_event_of, thread_when};
+use site_turns::mode::thread_event_of;
 use site_turns::start_insn::insn_at;
 use start_entries::starts::Starts;
 use thread_runs::thread_trampoline;
@@ -26,6 +27,7 @@ fn code_of(orig: &Elf<'_>, starts: &Starts, report: &Report, line: &ReportLine) 
     requires accepted { refusal 0x10000 orig.now.bytes ≡ None }
     requires built { IsBuilt orig.now.bytes starts.now }
     requires low { IsLow report.now.body (line_of line.now) }
+    requires shared { IsShared report.now.body.action }
     ensures { (p : List ℕ) → IsCodeFound
         (case_of orig.now.bytes p starts.now report.now.body) (line_of line.now) result }
 {
@@ -38,8 +40,7 @@ fn code_of(orig: &Elf<'_>, starts: &Starts, report: &Report, line: &ReportLine) 
     let action = report.action();
     let private = report.private().lo;
     match thread_trampoline(
-        thread_event_of(thread_base(action), line.tramp.event),
-        thread_when(action),
+        thread_event_of(action, line.tramp.event),
         at.insn,
         at.bytes,
         at.entry.addr,
@@ -93,6 +94,7 @@ pub(crate) fn judge(
     requires accepted { refusal 0x10000 orig.now.bytes ≡ None }
     requires built { IsBuilt orig.now.bytes starts.now }
     requires low { IsLow report.now.body (line_of line.now) }
+    requires shared { IsShared report.now.body.action }
     ensures { MatchResult result
         (IsSoundLine (case_of orig.now.bytes patched.now.bytes starts.now report.now.body)
         (line_of line.now))

@@ -6,7 +6,8 @@ ghost use Rattle.image_check.specs.Parts.{line_of};
 ghost use Rattle.image_check.specs.Reports as reports;
 ghost use Rattle.image_check.specs.Verdict.{case_of, case_in};
 ghost use Rattle.thread_check.specs.LineParts as parts;
-ghost use Rattle.thread_check.specs.LineParts.{IsLinesVerdict, IsImageVerdict};
+ghost use Rattle.site_turns.specs.Modes.{IsShared};
+ghost use Rattle.thread_check.specs.LineParts.{IsLinesVerdict, IsEventsVerdict, IsImageVerdict};
 ghost use Rattle.thread_check.specs.ThreadSoundness.{IsThreadCaseFollowed};
 ghost use Rattle.thread_check.specs.ThreadVerdict.{IsThreadVerdict};
 
@@ -64,7 +65,8 @@ fn judge_image(alloc: Global, checked: &Checked<'_>) -> Result<Verdict, AllocErr
     Ok(first_failure(byte, write, range, site, entry))
 }
 
-/// Judges the trampolines of a report, which are these lines, by rules 3 and 4, but for what follows where the other rules hold.
+/// Judges the trampolines of a report, which are these lines, by rules 3 and 4, but for what follows where the other rules hold. Threads
+/// can get the events of its action.
 fn judge_lines(
     alloc: Global,
     orig: &Elf<'_>,
@@ -75,6 +77,7 @@ fn judge_lines(
 ) -> Result<Verdict, AllocError>
     requires built { IsBuilt orig.now.bytes starts.now }
     requires lines { map line_of lines.now ≡ reports.lines report.now.body }
+    requires shared { IsShared report.now.body.action }
     ensures { IfOk result (λ v. IsLinesVerdict
         (case_of orig.now.bytes patched.now.bytes starts.now report.now.body) v) }
 {
@@ -97,27 +100,44 @@ fn judge_lines(
     }
 }
 
-/// The verdict of these: of the rules of any patched file, of whether threads can get the events of the
-/// action, where the private range begins at `low`, and of the trampolines.
-fn whole(shared: bool, low: u64, image: Verdict, lines: Verdict) -> Verdict
-    ensures { result ≡ parts.whole shared low image lines }
+/// Judges the trampolines of a report, where threads can get the events of its action; where they can't, rule 6 fails at the private
+/// range's first address.
+fn judge_events(
+    alloc: Global,
+    orig: &Elf<'_>,
+    patched: &Elf<'_>,
+    starts: &Starts,
+    report: &Report,
+    lines: &[ReportLine],
+) -> Result<Verdict, AllocError>
+    requires built { IsBuilt orig.now.bytes starts.now }
+    requires lines { map line_of lines.now ≡ reports.lines report.now.body }
+    ensures { IfOk result (λ v. IsEventsVerdict
+        (case_of orig.now.bytes patched.now.bytes starts.now report.now.body) v) }
+{
+    let action = report.action();
+    if is_shared(action) {
+        judge_lines(alloc, orig, patched, starts, report, lines)
+    } else {
+        let low = u64::from(report.private().lo);
+        Ok(Verdict::No { addr: low, rule: 6 })
+    }
+}
+
+/// The verdict of these: of the rules of any patched file, and of the action with the trampolines.
+fn whole(image: Verdict, events: Verdict) -> Verdict
+    ensures { result ≡ parts.whole image events }
 {
     match image {
         Verdict::No { addr, rule } => Verdict::No { addr, rule },
-        Verdict::Yes => {
-            if shared {
-                lines
-            } else {
-                Verdict::No { addr: low, rule: 6 }
-            }
-        }
+        Verdict::Yes => events,
     }
 }
 
 /// Judges a file that is patched for threads by the six rules for threads. The starts are those of
 /// the original. Where the verdict is Yes, the patched file starts where the original does, and runs
 /// with any number of threads as the original does, and counts or covers, under a condition where the report
-/// tells one. Where it is No, the rule fails at the address.
+/// tells one, or keeps a ring. Where it is No, the rule fails at the address.
 pub fn check_threads(
     alloc: Global,
     orig: &Elf<'_>,
@@ -136,7 +156,6 @@ pub fn check_threads(
     let checked = Checked::new(alloc, orig, patched, starts, report)?;
     let image = judge_image(alloc, &checked)?;
     let lines = lines_of(alloc, report)?;
-    let tramps = judge_lines(alloc, orig, patched, starts, report, lines.as_slice())?;
-    let low = u64::from(report.private().lo);
-    Ok(whole(is_shared(report.action()), low, image, tramps))
+    let events = judge_events(alloc, orig, patched, starts, report, lines.as_slice())?;
+    Ok(whole(image, events))
 }

@@ -1,5 +1,7 @@
 -- All laws of single steps, as one record.
-use Rattle.insn_form.proofs.AlikeMemories.{alike_act, alike_step}
+use Rattle.thread_runs.proofs.Acting.{acting_alike}
+use Rattle.thread_runs.proofs.ThreadSteps.{alike_thread}
+use Rattle.thread_runs.proofs.RingEventInstructions.{ring_step, ring_goes, saved_both, holds_slots, ring_held}
 use Rattle.thread_runs.specs.StepLaws.{StepLaws}
 use Rattle.thread_runs.proofs.ThreadEventInstructions.{event_step, event_goes, saved_back}
 use Rattle.thread_runs.proofs.CoverStep.{cover_step, cover_goes}
@@ -10,19 +12,24 @@ use Rattle.thread_runs.proofs.WorkTails.{work_long, tail_touches, tail_inside, t
 -- all laws of single steps hold
 pub step_laws : StepLaws
 step_laws = record {
-  alike = alike_step;
+  alike = alike_thread;
   events = event_step;
   goes = event_goes;
   cover = cover_step;
   covers = cover_goes;
   saved = saved_back;
+  rings = ring_step;
+  ring_goes = ring_goes;
+  ring_saved = saved_both;
+  ring_slots = holds_slots;
+  ring_held = ring_held;
   held = saves_held;
   slots = holds_slot;
   effects = effect_step;
   tails = tail_step;
   touches = work_touches;
   long = work_long;
-  act = alike_act;
+  act = acting_alike;
   tail_touches = tail_touches;
   tail_inside = tail_inside;
   core = worked_core;

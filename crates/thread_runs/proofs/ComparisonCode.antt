@@ -1,5 +1,5 @@
 -- The instructions of comparisons in an event: CMP and a short jump, and what both do.
-use Rattle.std.proofs.Common.{◌≡◌, ℕ, zero, suc, ◌+◌, ◌-◌, ◌*◌, ◌%◌, ◌^◌, ◌<◌, ◌≤◌, Bool, true, false, not, cond, List, [], ◌∷◌, ◌++◌, length, length-append, Some, None, unwrap_or, refl, sym, ap, ap₂, ◌∙◌, subst, arith}
+use Rattle.std.proofs.Common.{◌≡◌, ℕ, zero, suc, ◌+◌, ◌-◌, ◌*◌, ◌%◌, ◌^◌, ◌<◌, ◌≤◌, Bool, true, false, cond, List, [], ◌∷◌, ◌++◌, length, length-append, Some, None, unwrap_or, refl, sym, ap, ap₂, ◌∙◌, subst, arith}
 use Rattle.std.specs.Prelude.{slice_index}
 use Rattle.std.proofs.lemmas.Bool.{and_parts, and_from, and_right}
 use Rattle.std.proofs.lemmas.List.{append_assoc}
@@ -29,7 +29,7 @@ use Rattle.cond_action.specs.Codes.{wide_prefix, compare_code, failing}
 use Rattle.trampoline.proofs.FlagEventInstructions.{AllUnder, under}
 use Rattle.trampoline.proofs.EventSteps.{goes_over}
 use Rattle.trampoline.proofs.ConditionEvents.{failing_low}
-use Rattle.thread_runs.specs.ThreadSteps.{thread_task}
+use Rattle.thread_runs.specs.ThreadSteps.{is_locked_xadd, thread_task}
 use Rattle.thread_runs.specs.ThreadCode.{compare_with, compare_len, checking_len, checking_code, slot}
 
 -- -136 as a displacement
@@ -83,6 +83,11 @@ all_jumps d next = assumption (refl, tt)
 -- CMP of a register is made so
 pub compare_made : (r n next : ℕ) → r < 16 → IsMade (compare_fields r n) next (compare_op r n)
 compare_made r n next h = under 16 (λ z. IsMade (compare_fields z n) next (compare_op z n)) (all_compares n next) r h
+
+-- CMP is no LOCK XADD
+pub compare_alone : (r n : ℕ) → is_locked_xadd (compare_fields r n) ≡ false
+compare_alone zero n = refl
+compare_alone (suc r) n = refl
 
 -- the jump behind a comparison is made so
 pub jump_made : (op : CompareOp) (d next : ℕ) → IsMade (over_fields (failing op) d) next (over_op (failing op) d next)

@@ -41,7 +41,7 @@ module _ (p i at : ℕ) (v : Machine) (h : AtStore p i at v) where
 
   -- the store is the next instruction
   store_known : IsKnown v (mark_fields a) (at + 8) (store_op a)
-  store_known = known_fixed v at (mark_fields a) (at + 8) (store_op a) (mark_is a) h.rip h.stands refl (omega (arith, h.low)) (store_insn a (at + 8)) (store_told a (at + 8) v)
+  store_known = known_fixed v at (mark_fields a) (at + 8) (store_op a) (mark_is a) h.rip h.stands refl (omega (arith, h.low)) (store_insn a (at + 8)) (store_told a (at + 8) v) refl
 
   -- the state after it
   store_after : after_op v (at + 8) (store_op a) ≡ covered p i at v

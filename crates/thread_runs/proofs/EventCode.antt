@@ -1,5 +1,5 @@
 -- The instructions of an event that saves rax: seven, and two for each comparison.
-use Rattle.std.proofs.Common.{◌≡◌, ℕ, ◌+◌, ◌^◌, ◌<◌, ◌≤◌, true, List, [], ◌∷◌, ◌++◌, length, length-append, Some, None, refl, sym, ap, ◌∙◌, subst, arith}
+use Rattle.std.proofs.Common.{◌≡◌, ℕ, ◌+◌, ◌^◌, ◌<◌, ◌≤◌, true, false, List, [], ◌∷◌, ◌++◌, length, length-append, Some, None, refl, sym, ap, ◌∙◌, subst, arith}
 use Rattle.std.proofs.lemmas.List.{append_assoc}
 use Rattle.pun_base.specs.Actions.{AreComparisons}
 use Rattle.pun_base.specs.declared.action.Base.{Base}
@@ -21,7 +21,7 @@ use Rattle.insn_form.specs.Filling.{filled}
 use Rattle.insn_form.specs.FlagsBack.{seto_al, add_al}
 use Rattle.insn_form.specs.Meaning.{effect}
 use Rattle.insn_form.specs.Machine.{Machine}
-use Rattle.thread_runs.specs.ThreadSteps.{thread_task}
+use Rattle.thread_runs.specs.ThreadSteps.{is_locked_xadd, thread_task}
 use Rattle.relocate_insn.specs.Pieces.{four}
 use Rattle.relocate_insn.proofs.FixedCode.{fixed_front, fixed_back}
 use Rattle.relocate_insn.proofs.PieceSteps.{at_fixed}
@@ -30,7 +30,7 @@ use Rattle.thread_runs.specs.ThreadCode.{mark_at, saving_code, restoring_code, m
 use Rattle.thread_runs.specs.Event.{Point, offset, checked, following, is_inside, IsDecided, AreFew, InEvent}
 use Rattle.thread_runs.specs.Event.Point.{At0, At1, At2, AtCompare, AtJump, At3, At4, At5, At6, At7}
 use Rattle.thread_runs.proofs.KnownCodeSteps.{IsKnown, known_fixed}
-use Rattle.thread_runs.proofs.ComparisonCode.{minus_136, below_red_zone, compare_fields, compare_op, compare_made, compare_is, compare_spelled, compare_long, compare_some, compare_told, over_fields, over_op, jump_made, jump_is, jump_told, checking_more, checking_few, checking_long, checking_parts, asked_in}
+use Rattle.thread_runs.proofs.ComparisonCode.{minus_136, below_red_zone, compare_fields, compare_op, compare_made, compare_is, compare_spelled, compare_long, compare_some, compare_told, compare_alone, over_fields, over_op, jump_made, jump_is, jump_told, checking_more, checking_few, checking_long, checking_parts, asked_in}
 
 -- the fields of the instruction that marks at an address
 abbrev pub mark_fields : Base → ℕ → Fields
@@ -176,6 +176,19 @@ told_at b (AtJump ds k es) a next c x = jump_told (failing k.op) (checking_len e
 told_at b At3 a next c x = mark_told b a next c x
 told_at b k a next c x = refl
 
+-- the instruction that marks is no LOCK XADD
+mark_alone : (b : Base) (a : ℕ) → is_locked_xadd (mark_fields b a) ≡ false
+mark_alone Cover a = refl
+mark_alone Count a = refl
+
+-- neither is any other of an event
+alone_at : (b : Base) (k : Point) (a : ℕ) → is_locked_xadd (fields_at b k a) ≡ false
+alone_at b (AtCompare ds k es) a = compare_alone k.reg k.value
+alone_at b At3 a = mark_alone b a
+alone_at b At0 a = refl
+alone_at b At7 a = refl
+alone_at b k a = refl
+
 -- the code of an event before the instruction at a point
 abbrev front_of : Base → List Comparison → Point → ℕ → ℕ → List ℕ
 front_of b cs At0 p i = []
@@ -316,4 +329,4 @@ known_at b cs p i at k c v h e =
     let rest = fixed_back v.mem at (front_of b cs k p i) (spelling f ++ back_of b cs k p i) (omega (arith, n, l, low)) whole in
     known_fixed v (at + offset b cs k) f next (op_at b k a next) (spelled_at b k a fit) e.rip
     (fixed_front v.mem (at + offset b cs k) (spelling f) (back_of b cs k p i) (subst (λ z. IsFixed v.mem (at + z) (spelling f ++ back_of b cs k p i)) n rest))
-    (omega (arith, bytes_at b k p i h)) (omega (arith, l, low)) (insn_at b k a next fit) (told_at b k a next v.core)
+    (omega (arith, bytes_at b k p i h)) (omega (arith, l, low)) (insn_at b k a next fit) (told_at b k a next v.core) (alone_at b k a)

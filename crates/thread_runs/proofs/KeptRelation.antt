@@ -1,43 +1,48 @@
 -- A step of one thread keeps the relation between the watched guest and the original's.
-use Rattle.std.proofs.Common.{◌≡◌, inl, inr, ℕ, zero, suc, ◌+◌, ◌*◌, Bool, true, false, cond, eqb, List, [], ◌∷◌, ◌++◌, Some, refl, sym, ap, ap₂, ◌∙◌, subst, arith}
+use Rattle.std.proofs.Common.{◌≡◌, ◌≢◌, inl, inr, ℕ, zero, suc, ◌+◌, ◌%◌, ◌^◌, ◌<◌, Bool, true, false, cond, List, [], ◌∷◌, ◌++◌, Option, Some, None, refl, sym, ap, ap₂, ◌∙◌, subst, arith}
 use Rattle.std.specs.Prelude.{Contains, count_by, slice_get, slice_set}
-use Rattle.std.proofs.lemmas.Bool.{cond-true, cond-false, cases_eq, and_parts, or_left, or_right, eq-eqb}
+use Rattle.std.proofs.lemmas.Bool.{cond-true, cond-false, cases_eq, and_parts}
 use Rattle.pun_base.specs.Memory.{Bytes}
 use Rattle.pun_base.specs.declared.action.Base.{Base}
 use Rattle.length_decode.specs.Spelling.{Fields}
 use Rattle.cpu_state.specs.declared.state.Core.{Core}
-use Rattle.cpu_state.specs.Bytes.{advanced, allows, byte_of, lacking, number_at}
+use Rattle.cpu_state.specs.Bytes.{advanced, allows, lacking, number_at}
 use Rattle.insn_form.specs.Machine.{Machine}
 use Rattle.insn_form.specs.Step.{next_after}
 use Rattle.insn_form.specs.Touched.{perms_at, reads_none, writes_none}
-use Rattle.insn_form.specs.Laws.{Keeps}
-use Rattle.insn_form.proofs.TouchedMemory.{keeps_permissions, guarded, unwritten, read_and_write}
-use Rattle.thread_runs.specs.ThreadSteps.{thread_task, ThreadStepsBy}
+use Rattle.insn_form.specs.Laws.{Keeps as KeepsBytes}
+use Rattle.insn_form.proofs.TouchedMemory.{read_and_write}
+use Rattle.thread_runs.proofs.Acting.{acting_perms, acting_guarded, acting_unwritten}
+use Rattle.thread_runs.specs.ThreadSteps.{is_locked_xadd, thread_task, ThreadStepsBy}
 use Rattle.relocate_insn.proofs.FixedCode.{SameCode}
 use Rattle.start_entries.specs.declared.entry.StartEntry.{StartEntry}
 use Rattle.thread_runs.specs.Guest.{Thread, Guest, machine_of, thread_of, Moves, last_guest}
 use Rattle.thread_runs.specs.GuestDeliveries.{GuestItem, Goes, LeadsBy, IsInterleavedWith}
 use Rattle.thread_runs.specs.WatchedDeliveries.{made_after}
-use Rattle.thread_runs.specs.ThreadCode.{mark_at, mark_len, slot}
+use Rattle.thread_runs.specs.ThreadCode.{Marks, Keeps, mark_at, mark_len, position_at, slot_at, ring_len, slot, flag_slot, saved_from, saved_len}
+use Rattle.thread_runs.specs.RingEvent.{RingPoint, ring_offset, is_ringing, RingSaved}
+use Rattle.thread_runs.specs.RingEvent.RingPoint.{R0, R1, R2, R3, R4, R5, R6, R7, R8, R9, R10, R11, R12}
 use Rattle.thread_runs.specs.Event.{Point, is_inside, has_point, IsDecided, HasSaved}
 use Rattle.thread_runs.specs.Event.Point.{At0, At7}
 use Rattle.thread_runs.specs.Relation.{offset_if, point_at, has_rax}
 use Rattle.thread_runs.specs.Work.{Tail, InTail}
 use Rattle.thread_runs.specs.Work.Tail.{Out, Back, Jump, Ecx}
 use Rattle.thread_runs.specs.Threading.Part.{Saved}
-use Rattle.thread_runs.specs.Threading.{ThreadSite, Threading, is_part, has_saved, is_one_of, is_saved, IsThreadSound}
+use Rattle.thread_runs.specs.Threading.{ThreadSite, Threading, part_to, is_part, has_saved, is_one_of, is_saved_by, IsThreadSound}
 use Rattle.thread_runs.specs.Watching.{Watched, Watch, EffectStep, is_effect, projection, stale_after, watched_after}
 use Rattle.thread_runs.specs.Premises.{touches_none, LeavesSaved}
-use Rattle.thread_runs.specs.StepLaws.{HoldsSlot}
+use Rattle.thread_runs.specs.StepLaws.{HoldsSlot, HoldsSlots}
 use Rattle.thread_runs.specs.Theorem.{is_recorded, has_marked}
 use Rattle.insn_form.specs.Alike.{AreAlike}
 use Rattle.insn_form.proofs.AlikeMemories.{same_allows}
 use Rattle.image_step.specs.Listed.{is_start}
 use Rattle.thread_runs.specs.Threading.{is_hidden}
 use Rattle.patch_report.proofs.ListPlaces.{some_is, any_at, place_of}
+use Rattle.thread_runs.proofs.ByteRanges.{number_on, range_first, range_rest}
+use Rattle.thread_runs.proofs.RingEventInstructions.{flags_then_rax}
 use Rattle.thread_runs.proofs.ListUpdates.{set_here, set_away, map_set, map_same, get_map, count_set, count_more}
 use Rattle.thread_runs.proofs.ThreadPlaces.{part_true, point_inside, point_saved}
-use Rattle.thread_runs.proofs.WatchedRelation.{ThreadKept, HasRoom, shown_after, marked, Related, Changes, Made}
+use Rattle.thread_runs.proofs.WatchedRelation.{ThreadKept, HasRoom, shown_after, marked, HasRing, RingKept, Related, Changes, Made}
 
 -- runs that grow at the end
 pub run_more : (listed : List StartEntry) (is : List GuestItem) (g : Guest) (gs : List Guest) (i : GuestItem) (h : Guest) → IsInterleavedWith listed is g gs
@@ -56,11 +61,11 @@ last_more g (x ∷ xs) h = last_more x xs h
 pub keeps_code : (m : Bytes) (f : Fields) (s t : Machine) → ThreadStepsBy f s t → SameCode m s.mem → SameCode m t.mem
 keeps_code m f s t st h x a w =
     let e = h x a w in
-    guarded (thread_task f (next_after s.rip f)) (next_after s.rip f) s t st.acts x (ap (allows 2) e ∙ w) ∙ e
+    acting_guarded (is_locked_xadd f) (thread_task f (next_after s.rip f)) (next_after s.rip f) s t st.acts x (ap (allows 2) e ∙ w) ∙ e
 
 -- no step of a thread changes permissions
 pub keeps_perms : (f : Fields) (s t : Machine) → ThreadStepsBy f s t → (x : ℕ) → perms_at t.mem x ≡ perms_at s.mem x
-keeps_perms f s t st x = keeps_permissions (thread_task f (next_after s.rip f)) (next_after s.rip f) s t st.acts x
+keeps_perms f s t st x = acting_perms (is_locked_xadd f) (thread_task f (next_after s.rip f)) (next_after s.rip f) s t st.acts x
 
 -- where permissions are equal, the first byte that lacks one is the same
 pub lacking_on : (p : ℕ) (m w : Bytes) (a n : ℕ) → ((x : ℕ) → perms_at w x ≡ perms_at m x) → lacking p w a n ≡ lacking p m a n
@@ -74,19 +79,20 @@ keeps_room a n f s t st h = record {
   written = lacking_on 2 s.mem t.mem a n (keeps_perms f s t st) ∙ h.written;
 }
 
--- a number whose bytes stay is the same
-pub number_on : (m w : Bytes) (a n : ℕ) → ((x : ℕ) → is_one_of a n x ≡ true → w x ≡ m x) → number_at w a n ≡ number_at m a n
-number_on m w a zero h = refl
-number_on m w a (suc n) h = ap₂ (λ x y. x + 256 * y) (ap byte_of (h a (or_left (eqb a a) (is_one_of (advanced a 1) n a) (eq-eqb a a refl))))
-    (number_on m w (advanced a 1) n (λ x k. h x (or_right (eqb x a) (is_one_of (advanced a 1) n x) k)))
+-- so can a ring's position and slots
+pub keeps_ring : (r : Threading) (n : ℕ) (f : Fields) (s t : Machine) → ThreadStepsBy f s t → HasRing r n s.mem → HasRing r n t.mem
+keeps_ring r n f s t st h = record {
+  position = keeps_room (position_at r.private) 4 f s t st h.position;
+  slots = λ j l. keeps_room (slot_at r.private j) 4 f s t st (h.slots j l);
+}
 
 -- what a step touches none of stays
-pub untouched : (set : ℕ → Bool) (f : Fields) (s t : Machine) → ThreadStepsBy f s t → touches_none set f s ≡ true → Keeps set s t
+pub untouched : (set : ℕ → Bool) (f : Fields) (s t : Machine) → ThreadStepsBy f s t → touches_none set f s ≡ true → KeepsBytes set s t
 untouched set f s t st h =
     let task = thread_task f (next_after s.rip f) in
     let next = next_after s.rip f in
     let e = sym (read_and_write set task next s) ∙ h in
-    unwritten set task next s t (and_parts (reads_none set task next s) (writes_none set task next s) e).1 st.acts
+    acting_unwritten (is_locked_xadd f) task next s t st.acts set (and_parts (reads_none set task next s) (writes_none set task next s) e).1
 
 -- after the effect step where a thread stands doesn't depend on memory
 pub tail_on : (m w : Bytes) (t : Thread) (f : Fields) (next to : ℕ) (k : Tail) (c : Core) (rip : ℕ) → InTail f next to k c rip (machine_of m t) → InTail f next to k c rip (machine_of w t)
@@ -95,7 +101,65 @@ tail_on m w t f next to Back c rip h = h
 tail_on m w t f next to Jump c rip h = h
 tail_on m w t f next to Ecx c rip h = h
 
-module _ (r : Threading) (S : IsThreadSound r) (H : HoldsSlot) where
+-- the eight bytes of rax are saved bytes, with a ring and without one
+pub rax_saved : (o : Option ℕ) (c : Core) (x : ℕ) → is_one_of (slot c) 8 x ≡ true → is_one_of (saved_from o c) (saved_len o) x ≡ true
+rax_saved None c x h = h
+rax_saved (Some n) c x h = range_rest (flag_slot c) 8 8 x (omega arith) (ap (λ z. is_one_of z 8 x) (flags_then_rax c) ∙ h)
+
+-- where events keep a ring, so are those of the flags
+pub flags_saved : (o : Option ℕ) (n : ℕ) (c : Core) (x : ℕ) → o ≡ Some n → is_one_of (flag_slot c) 8 x ≡ true → is_one_of (saved_from o c) (saved_len o) x ≡ true
+flags_saved None n c x e h = absurd cc
+flags_saved (Some m) n c x e h = range_first (flag_slot c) 8 8 x h
+
+-- between saves and restores what is saved stays where its bytes do
+pub ring_saved_on : (m w : Bytes) (p : RingPoint) (c : Core) → (p ≢ R0 → number_at w (slot c) 8 ≡ number_at m (slot c) 8) → (p ≢ R0 → number_at w (flag_slot c) 8 ≡ number_at m (flag_slot c) 8) → RingSaved p c m → RingSaved p c w
+ring_saved_on m w R0 c a b h = tt
+ring_saved_on m w R12 c a b h = tt
+ring_saved_on m w R4 c a b h = (a (λ e. absurd cc) ∙ h.0, b (λ e. absurd cc) ∙ h.1)
+ring_saved_on m w R5 c a b h = (a (λ e. absurd cc) ∙ h.0, b (λ e. absurd cc) ∙ h.1)
+ring_saved_on m w R6 c a b h = (a (λ e. absurd cc) ∙ h.0, b (λ e. absurd cc) ∙ h.1)
+ring_saved_on m w R7 c a b h = (a (λ e. absurd cc) ∙ h.0, b (λ e. absurd cc) ∙ h.1)
+ring_saved_on m w R8 c a b h = (a (λ e. absurd cc) ∙ h.0, b (λ e. absurd cc) ∙ h.1)
+ring_saved_on m w R1 c a b h = a (λ e. absurd cc) ∙ h
+ring_saved_on m w R2 c a b h = a (λ e. absurd cc) ∙ h
+ring_saved_on m w R3 c a b h = a (λ e. absurd cc) ∙ h
+ring_saved_on m w R9 c a b h = a (λ e. absurd cc) ∙ h
+ring_saved_on m w R10 c a b h = a (λ e. absurd cc) ∙ h
+ring_saved_on m w R11 c a b h = a (λ e. absurd cc) ∙ h
+
+-- a point behind the first lies after the event's first byte
+pub ring_late : (p : RingPoint) → p ≢ R0 → 0 < ring_offset p
+ring_late R0 h = absurd (h refl)
+ring_late R1 h = omega arith
+ring_late R2 h = omega arith
+ring_late R3 h = omega arith
+ring_late R4 h = omega arith
+ring_late R5 h = omega arith
+ring_late R6 h = omega arith
+ring_late R7 h = omega arith
+ring_late R8 h = omega arith
+ring_late R9 h = omega arith
+ring_late R10 h = omega arith
+ring_late R11 h = omega arith
+ring_late R12 h = omega arith
+
+-- each point inside the event lies before its end
+pub ring_inside : (p : RingPoint) → is_ringing p ≡ true → ring_offset p < ring_len
+ring_inside R12 h = absurd cc
+ring_inside R0 h = omega arith
+ring_inside R1 h = omega arith
+ring_inside R2 h = omega arith
+ring_inside R3 h = omega arith
+ring_inside R4 h = omega arith
+ring_inside R5 h = omega arith
+ring_inside R6 h = omega arith
+ring_inside R7 h = omega arith
+ring_inside R8 h = omega arith
+ring_inside R9 h = omega arith
+ring_inside R10 h = omega arith
+ring_inside R11 h = omega arith
+
+module _ (r : Threading) (S : IsThreadSound r) (H : HoldsSlot) (H' : HoldsSlots) where
   -- the saved bytes of another thread hold rax where they stay
   saved_on : (m w : Bytes) (p : Point) (c : Core) → (has_rax p ≡ true → number_at w (slot c) 8 ≡ number_at m (slot c) 8) → HasSaved p c m → HasSaved p c w
   saved_on m w At0 c h k = tt
@@ -103,7 +167,7 @@ module _ (r : Threading) (S : IsThreadSound r) (H : HoldsSlot) where
   saved_on m w p c h k = h refl ∙ k
 
   -- where the bytes that another thread has saved stay, so does all that is kept of it
-  pub other_kept : (m w : Bytes) (one : Watched) → (has_saved r one.now.rip ≡ true → (x : ℕ) → is_saved one.now.core x ≡ true → w x ≡ m x) → ThreadKept r S m one → ThreadKept r S w one
+  pub other_kept : (m w : Bytes) (one : Watched) → (has_saved r one.now.rip ≡ true → (x : ℕ) → is_saved_by r one.now.core x ≡ true → w x ≡ m x) → ThreadKept r S m one → ThreadKept r S w one
   other_kept m w one h k = record {
     processor = k.processor;
     words = k.words;
@@ -111,7 +175,27 @@ module _ (r : Threading) (S : IsThreadSound r) (H : HoldsSlot) where
     phase = elim k.phase [
       | inl q ↦ inl q
       | inr (inl q) ↦ inr (inl q)
-      | inr (inr (inl q)) ↦ inr (inr (inl (record {
+      | inr (inr (inl (inr q))) ↦ inr (inr (inl (inr (record {
+        site = q.site;
+        listed = q.listed;
+        slots = q.slots;
+        keeps = q.keeps;
+        point = q.point;
+        inside = q.inside;
+        here = q.here;
+        there = q.there;
+        core = q.core;
+        world = q.world;
+        old = q.old;
+        saved = (let ring = S.rings q.site q.listed (Keeps q.slots) q.keeps in
+            let same : flag_slot one.now.core ≡ flag_slot one.projected.core = H' q.slots q.point one.projected.core one.now.core k.processor q.core in
+            let rax = sym (flags_then_rax one.now.core) ∙ ap (λ z. (z + 8) % 2 ^ 64) same ∙ flags_then_rax one.projected.core in
+            let at : q.point ≢ R0 → has_saved r one.now.rip ≡ true = λ late. ring_there q.site q.listed q.slots q.keeps q.point late q.inside q.here in
+            ring_saved_on m w q.point one.projected.core
+            (λ late. subst (λ (z : ℕ). number_at w z 8 ≡ number_at m z 8) rax (number_on m w (slot one.now.core) 8 (λ x e. h (at late) x (rax_saved r.ring one.now.core x e))))
+            (λ late. subst (λ (z : ℕ). number_at w z 8 ≡ number_at m z 8) same (number_on m w (flag_slot one.now.core) 8 (λ x e. h (at late) x (flags_saved r.ring q.slots one.now.core x ring e)))) q.saved);
+      }))))
+      | inr (inr (inl (inl q))) ↦ inr (inr (inl (inl (record {
         site = q.site;
         listed = q.listed;
         point = q.point;
@@ -124,12 +208,19 @@ module _ (r : Threading) (S : IsThreadSound r) (H : HoldsSlot) where
         old = q.old;
         saved = saved_on m w q.point one.projected.core (λ n.
             let same : slot one.now.core ≡ slot one.projected.core = H q.site.when q.point one.projected.core one.now.core k.processor q.core in
-            subst (λ (z : ℕ). number_at w z 8 ≡ number_at m z 8) same (number_on m w (slot one.now.core) 8 (h (inside q.site q.listed q.point one.projected.core (q.inside (rax_inside q.point n)) q.decided n q.here)))) q.saved;
-      })))
+            subst (λ (z : ℕ). number_at w z 8 ≡ number_at m z 8) same (number_on m w (slot one.now.core) 8 (λ x e.
+            h (inside q.site q.listed q.point one.projected.core (q.inside (rax_inside q.point n)) q.decided n q.here) x (rax_saved r.ring one.now.core x e)))) q.saved;
+      }))))
       | inr (inr (inr q)) ↦ inr (inr (inr (record { site = q.site; listed = q.listed; tail = q.tail; more = q.more; there = tail_on m w one.now (S.sites q.site q.listed).fields _ _ q.tail _ _ q.there; world = q.world })))
     ];
   }
     where
+      ring_there : (s : ThreadSite) → Contains r.sites s → (n : ℕ) → s.event ≡ Some (Keeps n) → (p : RingPoint) → p ≢ R0 → is_ringing p ≡ true → one.now.rip ≡ s.place + ring_offset p → has_saved r one.now.rip ≡ true
+      ring_there s c n e p late i here =
+          let to : part_to Saved s.event s.when ≡ ring_len = ap (λ o. part_to Saved o s.when) e in
+          let z = place_of r.sites s c in
+          any_at (is_part Saved one.now.rip) r.sites z.0 s z.1 (part_true Saved one.now.rip s (omega (arith, here, ring_late p late)) (omega (arith, here, to, ring_inside p i)))
+
       rax_inside : (p : Point) → has_rax p ≡ true → is_inside p ≡ true
       rax_inside At7 h = h
       rax_inside p h = refl
@@ -158,11 +249,11 @@ module _ (r : Threading) (S : IsThreadSound r) (H : HoldsSlot) where
       | inl same ↦ subst (λ (z : Watched). ThreadKept r S to.mem z)
           (some_is one' other (sym (set_here w.threads k one one' there) ∙ subst (λ (z : ℕ). slice_get v.threads z ≡ Some other) same e)) kept
       | inr n ↦ (let g = sym (set_away w.threads k j one' n) ∙ e in
-          other_kept w.mem to.mem other (λ h. untouched (is_saved other.now.core) f (machine_of w.mem one.now) to steps (free j other n g h)) (R.each j other g))
+          other_kept w.mem to.mem other (λ h. untouched (is_saved_by r other.now.core) f (machine_of w.mem one.now) to steps (free j other n g h)) (R.each j other g))
     ]
 
     -- what each event marks in v
-    marks_after : (e : Bool) → is_effect r one.now.rip ≡ e → (s : ThreadSite) → Contains r.sites s → (b : Base) → s.event ≡ Some b
+    marks_after : (e : Bool) → is_effect r one.now.rip ≡ e → (s : ThreadSite) → Contains r.sites s → (b : Base) → s.event ≡ Some (Marks b)
         → Changes r e b s w.mem to.mem one.projected one'.projected one.now.rip to.rip
         → marked r b s to.mem ≡ shown_after b (count_by (is_recorded s) v.log + count_by (has_marked s) v.threads)
     marks_after true e s c b i q =
@@ -181,9 +272,9 @@ module _ (r : Threading) (S : IsThreadSound r) (H : HoldsSlot) where
         q.number (count_by (is_recorded s) w.log + count_by (has_marked s) w.threads) (R.marks s c b i) ∙ ap (shown_after b) n3
 
     -- a step that leaves what is due and touches none of the bytes that others saved keeps the relation, if its projection is at a start
-    pub kept_by : (m' : Bytes) → LeavesSaved r w k f (machine_of w.mem one.now) → is_start r.listed one'.projected.rip ≡ true
+    pub kept_by : (m' : Bytes) → LeavesSaved r w k f (machine_of w.mem one.now) → ((n : ℕ) → r.ring ≡ Some n → RingKept r n v) → is_start r.listed one'.projected.rip ≡ true
         → Made r S (stale_after r w.stale one f (machine_of w.mem one.now)) R.end.mem m' one w.mem to → Related r S a (made_after r k one made) v
-    kept_by m' free start M = elim M.went [
+    kept_by m' free rings start M = elim M.went [
       | inl q ↦ record {
         states = R.states;
         run = subst (λ (z : List GuestItem). IsInterleavedWith r.listed z a R.states) (sym (cond-false (is_effect r one.now.rip) _ _ q.0)) R.run;
@@ -194,7 +285,9 @@ module _ (r : Threading) (S : IsThreadSound r) (H : HoldsSlot) where
         own = subst (λ (z : Bytes). SameCode r.original z) q.1 M.own;
         other = code;
         room = room;
+        ring_room = ring_room;
         marks = marks;
+        rings = rings;
         each = each;
       }
       | inr q ↦ (let h : Guest = record { threads = slice_set R.end.threads k (thread_of q.to); mem = q.to.mem } in
@@ -215,7 +308,9 @@ module _ (r : Threading) (S : IsThreadSound r) (H : HoldsSlot) where
             own = subst (λ (z : Bytes). SameCode r.original z) q.mem M.own;
             other = code;
             room = room;
+            ring_room = ring_room;
             marks = marks;
+            rings = rings;
             each = each;
           })
     ]
@@ -223,10 +318,13 @@ module _ (r : Threading) (S : IsThreadSound r) (H : HoldsSlot) where
         code : SameCode r.patched to.mem
         code = keeps_code r.patched f (machine_of w.mem one.now) to steps R.other
 
-        room : (s : ThreadSite) → Contains r.sites s → (b : Base) → s.event ≡ Some b → HasRoom to.mem (mark_at b r.private s.number) (mark_len b)
+        room : (s : ThreadSite) → Contains r.sites s → (b : Base) → s.event ≡ Some (Marks b) → HasRoom to.mem (mark_at b r.private s.number) (mark_len b)
         room s c b i = keeps_room (mark_at b r.private s.number) (mark_len b) f (machine_of w.mem one.now) to steps (R.room s c b i)
 
-        marks : (s : ThreadSite) → Contains r.sites s → (b : Base) → s.event ≡ Some b
+        ring_room : (n : ℕ) → r.ring ≡ Some n → HasRing r n to.mem
+        ring_room n e = keeps_ring r n f (machine_of w.mem one.now) to steps (R.ring_room n e)
+
+        marks : (s : ThreadSite) → Contains r.sites s → (b : Base) → s.event ≡ Some (Marks b)
             → marked r b s to.mem ≡ shown_after b (count_by (is_recorded s) v.log + count_by (has_marked s) v.threads)
         marks s c b i = marks_after (is_effect r one.now.rip) refl s c b i (M.counted s c b i)
 

@@ -1,5 +1,5 @@
 -- Steps of threads at code of which it is known what stands there.
-use Rattle.std.proofs.Common.{◌≡◌, ℕ, ◌+◌, ◌^◌, ◌<◌, ◌==◌, Bool, true, None, length, Ok, sym, ap, ◌∙◌, subst, not}
+use Rattle.std.proofs.Common.{◌≡◌, ℕ, ◌+◌, ◌^◌, ◌<◌, ◌==◌, Bool, true, false, None, length, Ok, sym, ap, ◌∙◌, subst, not}
 use Rattle.length_decode.specs.Spelling.{Fields, IsInstruction, spelling}
 use Rattle.cpu_state.specs.Fixed.{IsFixed}
 use Rattle.insn_form.specs.declared.form.Op.{Op}
@@ -10,13 +10,13 @@ use Rattle.insn_form.specs.Machine.{Machine, first, act, put_all, avoids_span, a
 use Rattle.insn_form.specs.Step.{IsAt, next_after}
 use Rattle.insn_form.specs.Exactly.{after_op, HasOperands}
 use Rattle.insn_form.specs.Touched.{writes_avoid}
-use Rattle.thread_runs.specs.ThreadSteps.{thread_task, ThreadStepsBy, ThreadStep}
+use Rattle.thread_runs.specs.ThreadSteps.{is_locked_xadd, thread_task, thread_act, ThreadStepsBy, ThreadStep}
 use Rattle.insn_form.specs.Alike.{AreAlike, IsAlike, writes_at, still}
 use Rattle.insn_form.proofs.UniqueSteps.{one_instruction}
 use Rattle.insn_form.proofs.ExactSteps.{exact_acts, exact_told}
 use Rattle.insn_form.proofs.AlikeMemories.{lacking_in_alike, carried_alike, writes_in_same}
 use Rattle.relocate_insn.proofs.PieceSteps.{is_at, next_is}
-use Rattle.thread_runs.proofs.ThreadSteps.{made}
+use Rattle.thread_runs.proofs.ThreadSteps.{made, alone_acts}
 
 -- an operation that asks nothing is the next instruction
 pub record IsKnown (v : Machine) (f : Fields) (next : ℕ) (op : Op) : Type 0 where
@@ -24,16 +24,17 @@ pub record IsKnown (v : Machine) (f : Fields) (next : ℕ) (op : Op) : Type 0 wh
   pub behind : next_after v.rip f ≡ next
   pub insn : (thread_task f next).insn ≡ Exact op
   pub told : (x : ℕ) → ((effect op next v.core).out x).undefined ≡ 0
+  pub alone : is_locked_xadd f ≡ false
 
 -- an instruction that stands at the thread's place, in code that stays, is known
 pub known_fixed : (v : Machine) (at : ℕ) (f : Fields) (next : ℕ) (op : Op) → IsInstruction f → v.rip ≡ at → IsFixed v.mem at (spelling f) → at + length (spelling f) ≡ next → next < 2 ^ 64
-    → (thread_task f next).insn ≡ Exact op → ((x : ℕ) → ((effect op next v.core).out x).undefined ≡ 0) → IsKnown v f next op
-known_fixed v at f next op i r c l k e u = record { at = is_at v at f i r c; behind = next_is v at f (subst (λ z. z < 2 ^ 64) (sym l) k) r ∙ l; insn = e; told = u }
+    → (thread_task f next).insn ≡ Exact op → ((x : ℕ) → ((effect op next v.core).out x).undefined ≡ 0) → is_locked_xadd f ≡ false → IsKnown v f next op
+known_fixed v at f next op i r c l k e u x = record { at = is_at v at f i r c; behind = next_is v at f (subst (λ z. z < 2 ^ 64) (sym l) k) r ∙ l; insn = e; told = u; alone = x }
 
 module _ (v : Machine) (f : Fields) (next : ℕ) (op : Op) (k : IsKnown v f next op) where
   -- what the known operation does is what the instruction there does
-  acts_so : (w : Machine) → act (record { insn = Exact op; asks = (thread_task f next).asks }) next v ≡ Ok w → act (thread_task f (next_after v.rip f)) (next_after v.rip f) v ≡ Ok w
-  acts_so w e = subst (λ z. act (thread_task f z) z v ≡ Ok w) (sym k.behind) (ap (λ i. act (record { insn = i; asks = (thread_task f next).asks }) next v) k.insn ∙ e)
+  acts_so : (w : Machine) → act (record { insn = Exact op; asks = (thread_task f next).asks }) next v ≡ Ok w → thread_act f (next_after v.rip f) v ≡ Ok w
+  acts_so w e = subst (λ z. thread_act f z v ≡ Ok w) (sym k.behind) (alone_acts f next v k.alone ∙ ap (λ i. act (record { insn = i; asks = (thread_task f next).asks }) next v) k.insn ∙ e)
 
   -- an operation that asks nothing steps where it has its operands
   pub known_step : HasOperands v next op → ThreadStepsBy f v (after_op v next op)
@@ -43,8 +44,8 @@ module _ (v : Machine) (f : Fields) (next : ℕ) (op : Op) (k : IsKnown v f next
   pub known_told : (w : Machine) → ThreadStep v w → HasOperands v next op × (w ≡ after_op v next op)
   known_told w st =
       let e : st.0 ≡ f = one_instruction v st.0 f st.1.at k.at in
-      let a : act (thread_task f (next_after v.rip f)) (next_after v.rip f) v ≡ Ok w = subst (λ g. act (thread_task g (next_after v.rip g)) (next_after v.rip g) v ≡ Ok w) e st.1.acts in
-      let b : act (thread_task f next) next v ≡ Ok w = subst (λ z. act (thread_task f z) z v ≡ Ok w) k.behind a in
+      let a : thread_act f (next_after v.rip f) v ≡ Ok w = subst (λ g. thread_act g (next_after v.rip g) v ≡ Ok w) e st.1.acts in
+      let b : act (thread_task f next) next v ≡ Ok w = sym (alone_acts f next v k.alone) ∙ subst (λ z. thread_act f z v ≡ Ok w) k.behind a in
       exact_told v next op (thread_task f next).asks w k.told (sym (ap (λ i. act (record { insn = i; asks = (thread_task f next).asks }) next v) k.insn) ∙ b)
 
 -- two operations that read no memory and write the same to states that are alike

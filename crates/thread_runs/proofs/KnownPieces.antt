@@ -33,7 +33,7 @@ jump_op at target = Jmp (Rel (absolute (at + 5) (integer_of (rel_bytes (at + 5) 
 pub known_jump : (v : Machine) (at target : ℕ) → at + 5 < 2 ^ 31 → v.rip ≡ at → IsFixed v.mem at (jump_code at target) → IsKnown v (jump_fields (rel_bytes (at + 5) target)) (at + 5) (jump_op at target)
 unfolding effect
 known_jump v at target l r c =
-    known_fixed v at (jump_fields (rel_bytes (at + 5) target)) (at + 5) (jump_op at target) (jump_is _ _ _ _) r c refl (omega arith) (ap (resolved_insn (at + 5)) (jump_insn (rel_bytes (at + 5) target))) (λ x. refl)
+    known_fixed v at (jump_fields (rel_bytes (at + 5) target)) (at + 5) (jump_op at target) (jump_is _ _ _ _) r c refl (omega arith) (ap (resolved_insn (at + 5)) (jump_insn (rel_bytes (at + 5) target))) (λ x. refl) refl
 
 -- PUSH imm32
 abbrev pub push_op : ℕ → Op
@@ -42,7 +42,7 @@ push_op n = Push (value.Imm (immediate W64 (four n)))
 -- where the code that pushes a number stands, its PUSH is the next instruction
 pub known_push : (v : Machine) (at n : ℕ) → at + 5 < 2 ^ 31 → v.rip ≡ at → IsFixed v.mem at (push_code n) → IsKnown v (push_fields n) (at + 5) (push_op n)
 unfolding effect
-known_push v at n l r c = known_fixed v at (push_fields n) (at + 5) (push_op n) (push_is n) r c refl (omega arith) (ap (resolved_insn (at + 5)) (push_insn n)) (λ x. refl)
+known_push v at n l r c = known_fixed v at (push_fields n) (at + 5) (push_op n) (push_is n) r c refl (omega arith) (ap (resolved_insn (at + 5)) (push_insn n)) (λ x. refl) refl
 
 -- MOV ecx, imm32
 abbrev pub ecx_op : ℕ → Op
@@ -51,7 +51,7 @@ ecx_op n = Mov W32 (Reg 1) (value.Imm (immediate W32 (four n)))
 -- where the code that moves a number to ecx stands, that MOV is the next instruction
 pub known_ecx : (v : Machine) (at n : ℕ) → at + 5 < 2 ^ 31 → v.rip ≡ at → IsFixed v.mem at (ecx_code n) → IsKnown v (ecx_fields n) (at + 5) (ecx_op n)
 unfolding effect
-known_ecx v at n l r c = known_fixed v at (ecx_fields n) (at + 5) (ecx_op n) (ecx_is n) r c refl (omega arith) (ap (resolved_insn (at + 5)) (ecx_insn n)) (λ x. refl)
+known_ecx v at n l r c = known_fixed v at (ecx_fields n) (at + 5) (ecx_op n) (ecx_is n) r c refl (omega arith) (ap (resolved_insn (at + 5)) (ecx_insn n)) (λ x. refl) refl
 
 -- JMP to a register
 abbrev pub reg_fields : ℕ → Fields
@@ -103,7 +103,7 @@ pub known_reg : (v : Machine) (at r : ℕ) → r < 16 → at + 4 < 2 ^ 31 → v.
 unfolding effect
 known_reg v at r h l p c =
     let q = reg_is r h in let n = reg_length (nat_lt r 8) (0xe0 + r % 8) in
-    known_fixed v at (reg_fields r) (at + length (jump_reg r)) (Jmp (Through (Reg r))) q.0 p c refl (omega (arith, n)) (q.1 (at + length (jump_reg r))) (λ x. refl)
+    known_fixed v at (reg_fields r) (at + length (jump_reg r)) (Jmp (Through (Reg r))) q.0 p c refl (omega (arith, n)) (q.1 (at + length (jump_reg r))) (λ x. refl) refl
 
 -- the register of a call is one of sixteen
 code_small : (m r : ℕ) → m % 8 + 8 * (r % 2) < 16

@@ -1,4 +1,4 @@
--- One step of a thread: that of LOCK INC is the step of INC one address further, and each other one is a single processor's.
+-- One step of a thread: that of LOCK INC is the step of INC one address further, and each other one but that of LOCK XADD is a single processor's.
 use Rattle.std.proofs.Common.{◌≡◌, ℕ, eqb, Bool, true, false, List, [], ◌∷◌, ◌++◌, length, drop, Option, Some, None, Result, Ok, Err, refl, sym, ap, ◌∙◌, subst, arith}
 use Rattle.std.specs.Prelude.{nat_le}
 use Rattle.std.proofs.lemmas.Bool.{and_parts, eqb-true}
@@ -7,7 +7,6 @@ use Rattle.pun_base.specs.Memory.{Bytes}
 use Rattle.length_decode.specs.declared.field_bytes.Stop as reading
 use Rattle.length_decode.specs.Spelling.{Fields, IsInstruction, spelling}
 use Rattle.length_decode.specs.Parse.{parse}
-use Rattle.length_decode.proofs.SpelledFields.{parse_again}
 use Rattle.cpu_state.specs.declared.state.Core.{Core}
 use Rattle.cpu_state.specs.declared.state.State.{State}
 use Rattle.cpu_state.specs.declared.world.Entry.{Entry}
@@ -31,11 +30,12 @@ use Rattle.cpu_step.specs.Steps.{Steps, Uses, told}
 use Rattle.cpu_step.proofs.JudgedSteps.{judged_there, read_is_at}
 use Rattle.cpu_step.proofs.Windows.{stands}
 use Rattle.image_step.proofs.RunnerSteps.{told_err}
-use Rattle.thread_runs.specs.ThreadSteps.{is_locked_inc, unlocked, thread_task, ThreadStep}
-use Rattle.thread_runs.specs.ThreadJudging.{thread_reading, thread_code, thread_judgement, UsesOne, StepsThread, begins_locked}
+use Rattle.thread_runs.specs.ThreadSteps.{is_locked_inc, is_locked_xadd, unlocked, thread_task, thread_act, ThreadStep}
+use Rattle.thread_runs.specs.ThreadJudging.{loading, thread_reading, thread_code, thread_judgement, UsesOne, StepsThread, begins_locked, begins_xadd}
 use Rattle.thread_runs.proofs.LockInc.{locked}
-use Rattle.thread_runs.proofs.LockIncSpelling.{locked_formed, locked_spelled}
-use Rattle.thread_runs.proofs.ThreadSteps.{made, thread_step, unlocked_task}
+use Rattle.thread_runs.proofs.LockIncSpelling.{locked_formed, locked_spelled, xadd_spelled}
+use Rattle.thread_runs.proofs.ThreadJudgements.{thread_there}
+use Rattle.thread_runs.proofs.ThreadSteps.{IsPlain as IsPlainFields, made, thread_step, unlocked_task, plain_acts}
 
 -- ---- LOCK INC
 
@@ -125,25 +125,10 @@ from_thread s t h x =
     let b = behind s in
     let n = next_after b.rip (unlocked f) in
     let e = one_instruction s x.0 f x.1.at h.at in
-    let acts = subst (λ (g : Fields). act (thread_task g (next_after s.rip g)) (next_after s.rip g) s ≡ Ok t) e x.1.acts in
+    let acts = subst (λ (g : Fields). thread_act g (next_after s.rip g) s ≡ Ok t) e x.1.acts in
     (unlocked f, record { at = h.behind; apart = leaves_nowhere (task_of (unlocked f) n) n b; acts = acts_alike h.disp s (next_after s.rip f) n h.next ∙ acts })
 
 -- ---- what is judged
-
--- bytes that are read as an instruction are judged by that instruction's task
-thread_at : (bs : List ℕ) (f : Fields) (c : Core) (rip : ℕ) (m : Bytes) (entry : Option Entry) → parse bs ≡ Ok f
-    → thread_code bs c rip m entry ≡ judged_task (thread_task f (next_after rip f)) (next_after rip f) c rip m entry
-thread_at [] f c rip m entry e = absurd cc
-thread_at (b ∷ bs) f c rip m entry e = ap (λ (r : Result Fields reading.Stop). thread_reading (length (b ∷ bs)) r c rip m entry) e
-
--- the instruction that stands at the instruction pointer
-thread_there : (s : Machine) (f : Fields) → IsAt s f
-    → thread_judgement s ≡ judged_task (thread_task f (next_after s.rip f)) (next_after s.rip f) s.core s.rip s.mem (first s.world)
-thread_there s f at =
-    let bytes = front s.mem s.rip 15 (spelling f) at.spelled.short at.here in
-    let read : parse (code_at s.mem s.rip 15) ≡ Ok f = ap parse bytes
-    ∙ parse_again f (drop (length (spelling f)) (code_at s.mem s.rip 15)) at.spelled.formed in
-    thread_at (code_at s.mem s.rip 15) f s.core s.rip s.mem (first s.world) read
 
 -- a stop that names no instruction is the same at each place
 abbrev IsPlain : Result Plan Halt → Type 0
@@ -197,6 +182,12 @@ begins a b c d rest =
     let e : nat_le 9 (length (0xf0 ∷ 0x48 ∷ 0xff ∷ 0x04 ∷ 0x25 ∷ a ∷ b ∷ c ∷ d ∷ rest)) ≡ true = grind (arith, nat_tests) in
     rw e refl
 
+-- so do those of LOCK XADD pass theirs
+begins_too : (a b c d : ℕ) (rest : List ℕ) → begins_xadd (0xf0 ∷ 0x0f ∷ 0xc1 ∷ 0x04 ∷ 0x25 ∷ a ∷ b ∷ c ∷ d ∷ rest) ≡ true
+begins_too a b c d rest =
+    let e : nat_le 9 (length (0xf0 ∷ 0x0f ∷ 0xc1 ∷ 0x04 ∷ 0x25 ∷ a ∷ b ∷ c ∷ d ∷ rest)) ≡ true = grind (arith, nat_tests) in
+    rw e refl
+
 -- where the bytes at rip don't pass the test, the instruction that stands there isn't LOCK INC
 not_begun : (s : Machine) (f : Fields) → IsAt s f → begins_locked (code_at s.mem s.rip 15) ≡ false → is_locked_inc f ≡ false
 not_begun s f at h = by_test (is_locked_inc f) refl
@@ -209,31 +200,52 @@ not_begun s f at h = by_test (is_locked_inc f) refl
         let rest = drop (length (spelling f)) (code_at s.mem s.rip 15) in
         sym (ap begins_locked bytes ∙ ap (λ bs. begins_locked (bs ++ rest)) l.spelled ∙ begins l.a l.b l.c l.d rest) ∙ h
 
--- where LOCK INC doesn't stand at rip, what is read there is judged as a processor's
-alone_reading : (s : Machine) (n : ℕ) (r : Result Fields reading.Stop) → parse (code_at s.mem s.rip 15) ≡ r → begins_locked (code_at s.mem s.rip 15) ≡ false
+-- nor LOCK XADD
+not_exchanging : (s : Machine) (f : Fields) → IsAt s f → begins_xadd (code_at s.mem s.rip 15) ≡ false → is_locked_xadd f ≡ false
+not_exchanging s f at h = by_test (is_locked_xadd f) refl
+  where
+    by_test : (b : Bool) → is_locked_xadd f ≡ b → b ≡ false
+    by_test false k = refl
+    by_test true k =
+        let l = (xadd_spelled f at.spelled).0 k in
+        let bytes = front s.mem s.rip 15 (spelling f) at.spelled.short at.here in
+        let rest = drop (length (spelling f)) (code_at s.mem s.rip 15) in
+        sym (ap begins_xadd bytes ∙ ap (λ bs. begins_xadd (bs ++ rest)) l.spelled ∙ begins_too l.a l.b l.c l.d rest) ∙ h
+
+-- neither of the two stands at the instruction pointer
+abbrev pub IsAlone : Machine → Type 0
+IsAlone s = (begins_locked (code_at s.mem s.rip 15) ≡ false) × (begins_xadd (code_at s.mem s.rip 15) ≡ false)
+
+-- where neither stands at rip, the instruction there is plain
+plain_there : (s : Machine) (f : Fields) → IsAt s f → IsAlone s → IsPlainFields f
+plain_there s f at h = (not_begun s f at h.0, not_exchanging s f at h.1)
+
+-- there what is read is judged as a processor's
+alone_reading : (s : Machine) (n : ℕ) (r : Result Fields reading.Stop) → parse (code_at s.mem s.rip 15) ≡ r → IsAlone s
     → thread_reading n r s.core s.rip s.mem (first s.world) ≡ judged_reading n r s.core s.rip s.mem (first s.world)
 alone_reading s n (Ok f) e h =
     let next = next_after s.rip f in
-    ap (λ (t : Task). judged_task t next s.core s.rip s.mem (first s.world)) (unlocked_task f next (not_begun s f (read_is_at s f e) h))
+    let k = plain_there s f (read_is_at s f e) h in
+    ap (λ x. loading x (thread_task f next) next s.core s.mem (judged_task (thread_task f next) next s.core s.rip s.mem (first s.world))) k.1
+    ∙ ap (λ (t : Task). judged_task t next s.core s.rip s.mem (first s.world)) (unlocked_task f next k)
 alone_reading s n (Err k) e h = refl
 
--- where LOCK INC doesn't stand at rip, the bytes there are judged as a processor's
-alone_code : (s : Machine) (bs : List ℕ) → code_at s.mem s.rip 15 ≡ bs → begins_locked (code_at s.mem s.rip 15) ≡ false
+-- so are the bytes there
+alone_code : (s : Machine) (bs : List ℕ) → code_at s.mem s.rip 15 ≡ bs → IsAlone s
     → thread_code bs s.core s.rip s.mem (first s.world) ≡ judged_code bs s.core s.rip s.mem (first s.world)
 alone_code s [] e h = refl
 alone_code s (b ∷ bs) e h = alone_reading s (length (b ∷ bs)) (parse (b ∷ bs)) (ap parse e) h
 
--- a thread that isn't at LOCK INC is judged as a processor
-judged_alone : (s : Machine) → begins_locked (code_at s.mem s.rip 15) ≡ false → thread_judgement s ≡ judgement s
+-- a thread that is at neither is judged as a processor
+judged_alone : (s : Machine) → IsAlone s → thread_judgement s ≡ judgement s
 judged_alone s h = alone_code s (code_at s.mem s.rip 15) refl h
 
--- a thread's step is a processor's where it isn't at LOCK INC
-alone_step : (s t : Machine) → begins_locked (code_at s.mem s.rip 15) ≡ false → ThreadStep s t → Step nowhere s t
+-- a thread's step is a processor's where it is at neither
+alone_step : (s t : Machine) → IsAlone s → ThreadStep s t → Step nowhere s t
 alone_step s t h x =
     let f = x.0 in
     let next = next_after s.rip f in
-    let e = unlocked_task f next (not_begun s f x.1.at h) in
-    (f, record { at = x.1.at; apart = leaves_nowhere (task_of f next) next s; acts = subst (λ (z : Task). act z next s ≡ Ok t) e x.1.acts })
+    (f, record { at = x.1.at; apart = leaves_nowhere (task_of f next) next s; acts = sym (plain_acts f next s (plain_there s f x.1.at h)) ∙ x.1.acts })
 
 -- ---- calls of step
 
@@ -268,17 +280,18 @@ locked_err old new next stop h t st e = (
 )
 
 -- at any other instruction a single processor's step is the thread's step
-pub alone_ok : (old new : State) (next : Option Entry) (info : StepInfo) → begins_locked (code_at (cell_at old.mem) old.rip 15) ≡ false
+pub alone_ok : (old new : State) (next : Option Entry) (info : StepInfo) → (begins_locked (code_at (cell_at old.mem) old.rip 15) ≡ false) × (begins_xadd (code_at (cell_at old.mem) old.rip 15) ≡ false)
     → Steps next old new (Ok info) → Uses next old new (Ok info) → StepsThread next old new (Ok info.used)
 alone_ok old new next info h st u = (
   uses_one old new next info u,
   λ world f. (let s = machine_of old world in
       let x = st world f in
-      (x.0, thread_step nowhere x.0 s _ (not_begun s x.0 x.1.at h) x.1)),
+      let k = plain_there s x.0 x.1.at h in
+      (x.0, thread_step nowhere x.0 s _ k.0 k.1 x.1)),
 )
 
 -- at any other instruction, where a single processor has no step, the thread has none, for the same reason, and stays
-pub alone_err : (old new : State) (next : Option Entry) (stop : Stop) → begins_locked (code_at (cell_at old.mem) old.rip 15) ≡ false
+pub alone_err : (old new : State) (next : Option Entry) (stop : Stop) → (begins_locked (code_at (cell_at old.mem) old.rip 15) ≡ false) × (begins_xadd (code_at (cell_at old.mem) old.rip 15) ≡ false)
     → ◌≡◌ {A = Result StepInfo Stop} (Err stop) (told (judged_in old next)) → Steps next old new (Err stop) → new ≡ old → StepsThread next old new (Err stop)
 alone_err old new next stop h t st e = (
   e,

@@ -16,8 +16,8 @@ use Rattle.thread_runs.specs.Event.Point.{At0, At1, At2, At3, At4, At5, At6}
 use Rattle.thread_runs.specs.Threading.{is_one_of}
 use Rattle.thread_runs.specs.Alone.{CanCountAlone, HasCountedAlone, EventCountsAlone}
 use Rattle.thread_runs.proofs.ThreadEventInstructions.{event_goes, saved_back}
-use Rattle.thread_runs.proofs.KeptRelation.{keeps_code, keeps_perms, lacking_on, number_on}
-use Rattle.thread_runs.proofs.ThreadEventSteps.{put_elsewhere}
+use Rattle.thread_runs.proofs.ByteRanges.{number_on, put_elsewhere}
+use Rattle.thread_runs.proofs.KeptRelation.{keeps_code, keeps_perms, lacking_on}
 
 module _ (p i place : ℕ) (s : Machine) (h : CanCountAlone p i place s) where
   abbrev a : ℕ

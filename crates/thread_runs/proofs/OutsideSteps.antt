@@ -1,5 +1,5 @@
 -- Steps of threads outside the trampolines: at kept starts, and at displaced ones.
-use Rattle.std.proofs.Common.{◌≡◌, ◌⊎◌, inl, inr, ℕ, ◌+◌, Bool, true, false, not, ◌&&◌, cond, eqb, Option, Some, None, Ok, ℤ, refl, sym, ap, ◌∙◌, subst, arith}
+use Rattle.std.proofs.Common.{◌≡◌, ◌⊎◌, inl, inr, ℕ, ◌+◌, Bool, true, false, not, ◌&&◌, cond, eqb, List, [], ◌++◌, Option, Some, None, Ok, ℤ, refl, sym, ap, ap₂, ◌∙◌, subst, arith}
 use Rattle.std.specs.Prelude.{Contains}
 use Rattle.std.proofs.lemmas.Bool.{or_right, not_from_true, and_parts, and_left, and_right, cond-true, cond-false, ne_eqb, eq-eqb, true≢false, false≢true, not-true, false_from_ne_true}
 use Rattle.pun_base.specs.Memory.{Bytes}
@@ -18,16 +18,18 @@ use Rattle.insn_form.specs.Operands.{word_of}
 use Rattle.insn_form.specs.Instruction.{insn_of}
 use Rattle.insn_form.specs.Resolving.{resolved_insn}
 use Rattle.insn_form.specs.Meaning.{effect}
-use Rattle.insn_form.specs.Machine.{Machine, Task, first, act}
+use Rattle.insn_form.specs.Machine.{Machine, Task, first}
 use Rattle.insn_form.specs.Step.{IsAt, next_after, task_of, question_of}
 use Rattle.insn_form.specs.Touched.{writes_none, writes_avoid}
 use Rattle.insn_form.specs.Processor.{IsProcessorState}
-use Rattle.thread_runs.specs.ThreadSteps.{thread_task, ThreadStepsBy, ThreadStep}
+use Rattle.thread_runs.specs.ThreadSteps.{is_locked_xadd, thread_task, thread_act, ThreadStepsBy, ThreadStep}
+use Rattle.thread_runs.specs.ThreadCode.{Kind, Marks, Keeps}
+use Rattle.thread_runs.specs.RingEvent.RingPoint.{R0}
+use Rattle.thread_runs.specs.Ring.{ringing_at, claimed_at}
 use Rattle.insn_form.specs.Alike.{AreAlike, IsAlike, writes_at, still}
 use Rattle.insn_form.proofs.UniqueSteps.{one_instruction, same_ok}
-use Rattle.insn_form.proofs.FrameRule.{keep}
-use Rattle.insn_form.proofs.RegisterSizes.{after}
-use Rattle.thread_runs.proofs.ThreadSteps.{unlocked_task}
+use Rattle.thread_runs.proofs.Acting.{acting_keep, acting_after}
+use Rattle.thread_runs.proofs.ThreadSteps.{unlocked_task, plain_acts}
 use Rattle.relocate_insn.proofs.FixedCode.{fixed_stands, fixed_on}
 use Rattle.relocate_insn.proofs.PieceSteps.{gone_to}
 use Rattle.start_entries.specs.Standing.{AreEntries}
@@ -35,19 +37,19 @@ use Rattle.image_step.specs.Listed.{is_start, is_listed_byte}
 use Rattle.thread_runs.specs.Guest.{Thread, machine_of, thread_of}
 use Rattle.thread_runs.specs.Event.{Point, is_inside, has_point, Holds, IsDecided, HasSaved}
 use Rattle.thread_runs.specs.Event.Point.{At0, At7}
-use Rattle.thread_runs.specs.Threading.Part.{Whole, Save, Marked}
-use Rattle.thread_runs.specs.Threading.{ThreadSite, Threading, is_new, is_hidden, is_site, is_kept, in_event, saves, is_part, is_met_by, is_counted, relocated_at, ByTwoJumps, IsThreadSound}
+use Rattle.thread_runs.specs.Threading.Part.{Whole, Save, Marked, Unfilled}
+use Rattle.thread_runs.specs.Threading.{ThreadSite, Threading, is_new, is_hidden, is_site, is_kept, in_event, saves, is_keeping, is_part, is_met_by, is_counted, is_unfilled, relocated_at, ByTwoJumps, IsThreadSound}
 use Rattle.thread_runs.specs.Watching.{Watched, Watch, is_effect, behind, projection, stale_after}
 use Rattle.thread_runs.specs.Premises.{IsQuietAt, reads_nothing_of}
 use Rattle.thread_runs.specs.StepLaws.{StepLaws}
 use Rattle.patch_report.proofs.ListPlaces.{any_at, place_of}
 use Rattle.image_check.proofs.LoadedCode.{jump_acts}
-use Rattle.thread_runs.proofs.ThreadPlaces.{start_old, part_never, start_no_site, site_of, effect_kept, effect_never, old_uncounted, part_in, place_in, plain_len, mark_late, offset_first, point_first, part_is}
-use Rattle.thread_runs.proofs.StandingCode.{own_at, mark_kept}
+use Rattle.thread_runs.proofs.ThreadPlaces.{start_old, part_never, start_no_site, site_of, effect_kept, effect_never, old_uncounted, part_in, place_in, plain_len, mark_late, offset_first, point_first, part_is, part_only, part_low, claimed_here, old_unclaimed, old_unclaiming, old_unfilling, ringing_none}
+use Rattle.thread_runs.proofs.StandingCode.{own_at, mark_kept, position_kept, slot_kept}
 use Rattle.thread_runs.proofs.KeptRelation.{keeps_code}
 use Rattle.start_entries.specs.Leading.{JumpsTo}
 use Rattle.thread_runs.specs.Relation.{point_at, has_rax, Outside, AtSecond}
-use Rattle.thread_runs.proofs.WatchedRelation.{Phase, ThreadKept, shown_after, marked, Ground, Made}
+use Rattle.thread_runs.proofs.WatchedRelation.{Phase, ThreadKept, shown_after, marked, Ground, RingMoves, Made}
 
 -- memories that are alike are so by each set that has the same stale bytes
 pub alike_on : (hidden p q : ℕ → Bool) (m w : Bytes) → ((x : ℕ) → q x ≡ p x) → AreAlike hidden p m w → AreAlike hidden q m w
@@ -101,6 +103,14 @@ module _ (r : Threading) (A : AreEntries r.original r.listed) (S : IsThreadSound
       let late = mark_late t.event t.when (omega (arith, v.1, e, p)) in
       omega (arith, v.0, e, p, late))
 
+  -- nor is a slot claimed there
+  pub place_unringing : (x : ℕ) (site : ThreadSite) → Contains r.sites site → x ≡ site.place → (is_unfilled r x ≡ false) × (claimed_at r.sites x ≡ [])
+  place_unringing x site h e =
+      let c = place_in r A S L.long site h x e in (
+        part_only r A S L.long site h x Unfilled c ∙ part_low Unfilled x site (omega (arith, e)),
+        claimed_here r A S L.long site h x c ∙ cond-false (is_keeping site.event && is_part Marked x site) _ _ (and_right (is_keeping site.event) (is_part Marked x site) (place_uncounted x site h e site h)),
+      )
+
   -- a thread that comes to a site's trampoline, with its projection at the site, is at the first point
   pub come : (site : ThreadSite) → Contains r.sites site → (m : Bytes) (now projected : Thread) → now.rip ≡ site.place → projected.rip ≡ site.entry.addr → now.core ≡ projected.core
       → now.world ≡ projected.world → Phase r S m now projected
@@ -109,7 +119,7 @@ module _ (r : Threading) (A : AreEntries r.original r.listed) (S : IsThreadSound
       -- the phase at a point at which the thread has the registers and flags of its projection
       standing : (point : Point) → (is_inside point ≡ true → has_point site.event site.when point ≡ true) → now.rip ≡ point_at site point → Holds site.when point projected.core now.core
           → IsDecided site.when point projected.core → HasSaved point projected.core m → has_rax point ≡ false → Phase r S m now projected
-      standing point inside place holds decided saved free = inr (inr (inl (record {
+      standing point inside place holds decided saved free = inr (inr (inl (inl (record {
         site = site;
         listed = h;
         point = point;
@@ -121,10 +131,24 @@ module _ (r : Threading) (A : AreEntries r.original r.listed) (S : IsThreadSound
         world = world;
         saved = saved;
         old = λ e. absurd (false≢true (sym free ∙ e));
-      })))
+      }))))
 
-      by_event : (o : Option Base) → site.event ≡ o → Phase r S m now projected
-      by_event (Some b) e = standing At0 (λ i. ap (λ (z : Option Base). has_point z site.when At0) e ∙ point_first b site.when) (omega (arith, here, offset_first site.event site.when)) core tt tt refl
+      by_event : (o : Option Kind) → site.event ≡ o → Phase r S m now projected
+      by_event (Some (Marks b)) e = standing At0 (λ i. ap (λ (z : Option Kind). has_point z site.when At0) e ∙ point_first b site.when) (omega (arith, here, offset_first site.event site.when)) core tt tt refl
+      by_event (Some (Keeps n)) e = inr (inr (inl (inr (record {
+        site = site;
+        listed = h;
+        slots = n;
+        keeps = e;
+        point = R0;
+        inside = refl;
+        here = omega (arith, here);
+        there = there;
+        core = core;
+        world = world;
+        saved = tt;
+        old = inl refl;
+      }))))
       by_event None e = standing At7 (λ i. absurd (false≢true i)) (omega (arith, here, plain_len site e)) core tt tt refl
 
   module _ (M : Bytes) (w : Watch) (one : Watched) (f : Fields) (to : Machine)
@@ -159,9 +183,8 @@ module _ (r : Threading) (A : AreEntries r.original r.listed) (S : IsThreadSound
         let at_u : IsAt u j.fields = record { spelled = j.spelled; here = fixed_stands w.mem x0 (spelling j.fields) (fixed_on r.patched w.mem x0 (spelling j.fields) R.other j.stands) } in
         let g : j.fields ≡ f = one_instruction u j.fields f at_u steps.at in
         let i : insn_of f ≡ Exact (Jmp (Rel j.rel)) = subst (λ (z : Fields). insn_of z ≡ Exact (Jmp (Rel j.rel))) g j.jump in
-        let task : thread_task f next ≡ task_of f next = unlocked_task f next (L.not_locked f (Jmp (Rel j.rel)) i) in
         let leads : advanced next (word_of j.rel) ≡ target = ap (λ (h : Fields). advanced (next_after x0 h) (word_of j.rel)) (sym g) ∙ j.leads in
-        let acts : act (thread_task f next) next u ≡ Ok (gone_to u target) = ap (λ (t : Task). act t next u) task ∙ jump_acts u next target (insn_of f) (question_of f next) j.rel i leads in
+        let acts : thread_act f next u ≡ Ok (gone_to u target) = plain_acts f next u (L.not_locked f (Jmp (Rel j.rel)) i) ∙ jump_acts u next target (insn_of f) (question_of f next) j.rel i leads in
         same_ok to (gone_to u target) (sym steps.acts ∙ acts)
 
     -- a direct jump writes nothing
@@ -173,10 +196,24 @@ module _ (r : Threading) (A : AreEntries r.original r.listed) (S : IsThreadSound
         let task : thread_task f next ≡ task_of f next = unlocked_task f next (L.not_locked f (Jmp (Rel j.rel)) i) in
         not_from_true _ (ap (λ (t : Task). writes_none (λ y. eqb x y) t next s) task ∙ jump_writes (λ y. eqb x y) next (insn_of f) j.rel s.core (first s.world) i)
 
+    -- a step outside the trampolines leaves a ring, where it leaves what is new, leads to no place between a claim and its fill or behind a claim, and its
+    -- effect step, where it is one, is at no site
+    pub ring_rests : ((x : ℕ) → is_new r x ≡ true → to.mem x ≡ w.mem x) → is_unfilled r to.rip ≡ false → claimed_at r.sites to.rip ≡ [] → cond (is_effect r x0) (ringing_at r.sites one.projected.rip) [] ≡ []
+        → (n : ℕ) → r.ring ≡ Some n → RingMoves r n (is_effect r x0) one w.mem to
+    ring_rests stays free' none even n e = inl (record {
+      position = position_kept r A S n e w.mem to.mem stays;
+      slots = slot_kept r A S n e w.mem to.mem stays;
+      free = part_never r A S L.long x0 Unfilled old;
+      free' = free';
+      quiet = old_unclaiming r A S L.long x0 old;
+      dry = old_unfilling r A S L.long x0 old;
+      even = ap₂ (λ (l m : List ℕ). l ++ m) even none ∙ sym (old_unclaimed r A S L.long x0 old);
+    })
+
     -- a step by a direct jump leaves what is due, in the phase that it leads to, where nothing is counted: the original makes no step
-    made_jump : (target : ℕ) → JumpsTo r.patched x0 target → is_kept r x0 ≡ false → ((t : ThreadSite) → Contains r.sites t → is_part Marked target t ≡ false)
+    made_jump : (target : ℕ) → JumpsTo r.patched x0 target → is_kept r x0 ≡ false → ((t : ThreadSite) → Contains r.sites t → is_part Marked target t ≡ false) → (is_unfilled r target ≡ false) × (claimed_at r.sites target ≡ [])
         → Phase r S to.mem (thread_of to) one.projected → Made r S stale' M M one w.mem to
-    made_jump target j calm free phase =
+    made_jump target j calm free ring phase =
         let end = jumped target j in
         let none = start_no_site r A S L.long x0 old in
         let p = calm_projection r one w.mem to calm none in
@@ -194,6 +231,7 @@ module _ (r : Threading) (A : AreEntries r.original r.listed) (S : IsThreadSound
             even = none_even t (is_effect r x0) one.projected (projection r one w.mem to) x0 to.rip (and_left (is_effect r x0) (eqb one.projected.rip t.entry.addr) eff)
                 (ap (λ x. is_part Marked x t) rip ∙ free t h) (old_uncounted r A S L.long x0 t h old);
           };
+          ring = ring_rests (λ x e. ap (λ (z : Bytes). z x) mem) (ap (is_unfilled r) rip ∙ ring.0) (ap (claimed_at r.sites) rip ∙ ring.1) (cond-false (is_effect r x0) _ _ eff);
           processor = subst (λ (t : Thread). IsProcessorCore t.core) (sym p) kept.processor;
           words = subst (λ (t : Thread). GiveWords t.world) (sym p) kept.words;
           phase = subst (λ (t : Thread). Phase r S to.mem (thread_of to) t) (sym p) phase;
@@ -209,7 +247,7 @@ module _ (r : Threading) (A : AreEntries r.original r.listed) (S : IsThreadSound
         let j : JumpsTo r.patched x0 q.site.place = subst (λ (z : ℕ). JumpsTo r.patched z q.site.place) (sym q.here) q.jumps.on in
         let end = jumped q.site.place j in
         let calm : is_kept r x0 ≡ false = and_left (is_start r.listed x0) (not (is_site r x0)) (ap (is_start r.listed) q.here ∙ q.jumps.unlisted) in
-        made_jump q.site.place j calm (λ t h. place_uncounted q.site.place q.site q.listed refl t h)
+        made_jump q.site.place j calm (λ t h. place_uncounted q.site.place q.site q.listed refl t h) (place_unringing q.site.place q.site q.listed refl)
         (come q.site q.listed to.mem (thread_of to) one.projected (ap (λ (z : Machine). z.rip) end) q.there (ap (λ (z : Machine). z.core) end ∙ q.core) (ap (λ (z : Machine). z.world) end ∙ q.world))
 
     -- a step at a kept start leaves what is due: the original makes the same step
@@ -225,14 +263,14 @@ module _ (r : Threading) (A : AreEntries r.original r.listed) (S : IsThreadSound
         let quiet' = q.leaves f steps.at.spelled (fixed_stands r.original x0 (spelling f) there') in
         let reads = fresh (part_never r A S L.long x0 Whole old) in
         let both : IsAlike (is_hidden r) w.stale s u = record { core = refl; world = refl; mem = R.alike } in
-        let X = (L.alike thread_task (is_hidden r) w.stale f s u both refl at_s steps.at quiet' reads).1 to steps in
+        let X = (L.alike (is_hidden r) w.stale f s u both refl at_s steps.at quiet' reads).1 to steps in
         let p : projection r one w.mem to ≡ thread_of to = cond-true (is_kept r x0) (thread_of to) _ here in
         let e : thread_of X.0 ≡ thread_of to = λ i. record { core = X.1.alike.core i; rip = X.1.rip i; world = X.1.alike.world i } in
         let z : projection r one w.mem to ≡ thread_of X.0 = p ∙ sym e in
         let before : IsProcessorState s = record { core = subst (λ (t : Thread). IsProcessorCore t.core) (sym o.same) kept.processor; world = subst (λ (t : Thread). GiveWords t.world) (sym o.same) kept.words } in
-        let P : IsProcessorState X.0 = after (thread_task f next) next s X.0 (omega arith) before X.1.own.acts in
+        let P : IsProcessorState X.0 = acting_after (is_locked_xadd f) (thread_task f next) next s X.0 X.1.own.acts (omega arith) before in
         let go : is_start r.listed to.rip ≡ true = ap (λ (t : Thread). is_start r.listed t.rip) (sym p) ∙ stand in
-        let still_new : (x : ℕ) → is_new r x ≡ true → to.mem x ≡ w.mem x = λ x n. keep (is_hidden r) (thread_task f next) next u to quiet' steps.acts x (new_hidden x n) in (
+        let still_new : (x : ℕ) → is_new r x ≡ true → to.mem x ≡ w.mem x = λ x n. acting_keep (is_locked_xadd f) (thread_task f next) next u to steps.acts (is_hidden r) quiet' x (new_hidden x n) in (
           X.0.mem,
           record {
             went = inr (record { is = effect_kept r A S L.long x0 here; to = X.0; steps = subst (λ (t : Thread). ThreadStep (machine_of M t) X.0) o.same (f, X.1.own); mem = refl; thread = z });
@@ -245,12 +283,21 @@ module _ (r : Threading) (A : AreEntries r.original r.listed) (S : IsThreadSound
                   (and_right (is_effect r x0) (eqb one.projected.rip t.entry.addr) (ne_eqb one.projected.rip t.entry.addr (λ same. no_site t h (ap (λ (y : Thread). y.rip) o.same ∙ same))))
                   (start_uncounted to.rip t h go) (start_uncounted x0 t h o.start);
             };
+            ring = ring_rests still_new (part_never r A S L.long to.rip Unfilled (start_old r A S L.long to.rip go)) (old_unclaimed r A S L.long to.rip (start_old r A S L.long to.rip go))
+                (ap (λ l. cond (is_effect r x0) l []) (ringing_none r A S L.long one.projected.rip (ap (λ (y : Thread). is_site r y.rip) (sym o.same) ∙ unpatched)) ∙ none (is_effect r x0));
             processor = subst (λ (t : Thread). IsProcessorCore t.core) (sym z) P.core;
             words = subst (λ (t : Thread). GiveWords t.world) (sym z) P.world;
             phase = inl (record { same = sym p; start = go });
           },
         )
       where
+        unpatched : is_site r x0 ≡ false
+        unpatched = not-true (is_site r x0) (and_parts (is_start r.listed x0) (not (is_site r x0)) here).1
+
+        none : (b : Bool) → ◌≡◌ {A = List ℕ} (cond b [] []) []
+        none true = refl
+        none false = refl
+
         new_hidden : (x : ℕ) → is_new r x ≡ true → is_hidden r x ≡ true
         new_hidden x n = or_right (is_listed_byte r.listed x) (is_new r x) n
 
@@ -277,13 +324,13 @@ module _ (r : Threading) (A : AreEntries r.original r.listed) (S : IsThreadSound
         by_jump (inl k) =
             let j : JumpsTo r.patched x0 q.0.place = subst (λ (z : ℕ). JumpsTo r.patched z q.0.place) q.2 k in
             let end = jumped q.0.place j in
-            made_jump q.0.place j calm (λ t h. place_uncounted q.0.place q.0 q.1 refl t h)
+            made_jump q.0.place j calm (λ t h. place_uncounted q.0.place q.0 q.1 refl t h) (place_unringing q.0.place q.0 q.1 refl)
             (come q.0 q.1 to.mem (thread_of to) one.projected (ap (λ (z : Machine). z.rip) end) at (ap (λ (z : Machine). z.core) end ∙ ap (λ (t : Thread). t.core) o.same)
             (ap (λ (z : Machine). z.world) end ∙ ap (λ (t : Thread). t.world) o.same))
         by_jump (inr k) =
             let j : JumpsTo r.patched x0 k.second = subst (λ (z : ℕ). JumpsTo r.patched z k.second) q.2 k.there in
             let end = jumped k.second j in
-            made_jump k.second j calm (λ t h. old_uncounted r A S L.long k.second t h k.old) (inr (inl (record {
+            made_jump k.second j calm (λ t h. old_uncounted r A S L.long k.second t h k.old) (part_never r A S L.long k.second Unfilled k.old, old_unclaimed r A S L.long k.second k.old) (inr (inl (record {
               site = q.0;
               listed = q.1;
               jumps = k;

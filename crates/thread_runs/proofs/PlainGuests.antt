@@ -8,6 +8,7 @@ use Rattle.thread_runs.specs.Threading.{Threading}
 use Rattle.thread_runs.specs.Watching.{Watched, Watch, EffectStep, is_effect, logged, Watches}
 use Rattle.thread_runs.specs.Premises.{StandAtStarts, IsProperRun}
 use Rattle.thread_runs.specs.Theorem.{IsGuestFollowed, AreCounted, AreCovered, last_watch}
+use Rattle.thread_runs.specs.Ring.{AreKept}
 use Rattle.thread_runs.specs.GuestDeliveries.{GuestItem, Goes, IsInterleavedWith}
 use Rattle.thread_runs.specs.WatchedDeliveries.{WatchWith, made_after, IsProperItem, IsProperRunWith, last_with}
 use Rattle.thread_runs.specs.TheoremWithDeliveries.{IsGuestFollowedWith}
@@ -74,9 +75,9 @@ pub runs_plain : (ks : List ℕ) (g : Guest) (gs hs : List Guest) → IsInterlea
 runs_plain ks g gs hs p q = runs_same [] (items_of ks) g gs hs (goes_with [] ks g gs p) (goes_with [] ks g hs q)
 
 -- guests that are followed with deliveries are followed, where there are none
-pub all_plain : (r : Threading) (a : Guest) (ws : List Watch) → AllByRecursion (λ x. IsGuestFollowedWith r a x × AreCounted r x.watch × AreCovered r x.watch) (map plain ws)
-    → AllByRecursion (λ w. IsGuestFollowed r a w × AreCounted r w × AreCovered r w) ws
+pub all_plain : (r : Threading) (a : Guest) (ws : List Watch) → AllByRecursion (λ x. IsGuestFollowedWith r a x × AreCounted r x.watch × AreCovered r x.watch × AreKept r x.watch) (map plain ws)
+    → AllByRecursion (λ w. IsGuestFollowed r a w × AreCounted r w × AreCovered r w × AreKept r w) ws
 all_plain r a [] h = tt
 all_plain r a (w ∷ ws) h =
     let f = h.0.0 in
-    ((record { states = f.states; run = goes_plain r.listed (map (λ (e : EffectStep). e.thread) w.log) a f.states f.run; beside = f.beside }, h.0.1, h.0.2), all_plain r a ws h.1)
+    ((record { states = f.states; run = goes_plain r.listed (map (λ (e : EffectStep). e.thread) w.log) a f.states f.run; beside = f.beside }, h.0.1, h.0.2, h.0.3), all_plain r a ws h.1)

@@ -29,12 +29,13 @@ use Rattle.insn_form.specs.Plan.{Plan, lacking_in, number_in, writes_in, lacking
 use Rattle.insn_form.specs.Machine.{Machine, Task, first, avoids_span}
 use Rattle.insn_form.specs.Step.{IsAt, next_after, task_of}
 use Rattle.insn_form.specs.Touched.{reads_avoid, writes_avoid, reads_none, writes_none}
-use Rattle.thread_runs.specs.ThreadSteps.{is_locked_inc, unlocked, thread_task}
+use Rattle.thread_runs.specs.ThreadSteps.{is_locked_inc, is_locked_xadd, unlocked, adding, thread_task}
 use Rattle.insn_form.proofs.UniqueSteps.{one_instruction}
 use Rattle.insn_form.proofs.FrameRule.{unless_ok, ask_ok, same_Ok, carry_ok}
 use Rattle.insn_form.proofs.RepeatedSteps.{exact_target}
 use Rattle.insn_form.proofs.AlikeMemories.{reads_anywhere, writes_anywhere}
 use Rattle.insn_form.proofs.ConditionCodes.{condition_code}
+use Rattle.thread_runs.proofs.Acting.{base, rip_is}
 use Rattle.thread_runs.proofs.ThreadSteps.{unlocked_task}
 use Rattle.relocate_insn.specs.Pieces.{jump_code, push_code, ecx_code}
 use Rattle.relocate_insn.specs.Relocating.{copy_of, asked_code}
@@ -52,7 +53,7 @@ use Rattle.thread_runs.proofs.KnownCodeSteps.{IsKnown, known_fixed, known_told}
 use Rattle.thread_runs.proofs.EventCode.{op_at, fields_at, known_at}
 use Rattle.thread_runs.proofs.ComparisonCode.{slot_place}
 use Rattle.thread_runs.proofs.ThreadEventInstructions.{slot_of, rsp_of}
-use Rattle.thread_runs.proofs.LockInc.{same_thread, thread_insn, not_locked, locked, locked_is, locked_task}
+use Rattle.thread_runs.proofs.LockInc.{same_thread, thread_insn, not_locked, locked, locked_is, locked_task, exchanging, xadd_is, xadd_task, Reading, Incs, Adds, Plain, reading}
 use Rattle.thread_runs.proofs.KnownPieces.{jump_op, known_jump, push_op, known_push}
 use Rattle.thread_runs.proofs.EffectSteps.{rip_low, atomic, has_length, relocated_stands, relocated_low}
 
@@ -71,7 +72,7 @@ saves_held b cs p i place' c v w h st =
 pub worked_core : WorkedCore
 worked_core hidden stale f next to s u s' u' w q = q.core
 
--- an instruction that is exact is no LOCK INC
+-- an instruction that is exact is neither LOCK INC nor LOCK XADD
 pub not_locked_is : NotLocked
 not_locked_is = not_locked
 
@@ -94,6 +95,11 @@ inc_leads : (d im : List ℕ) (next : ℕ) (c : Core) (m : Bytes) → leads_to (
 unfolding template filled effect
 inc_leads d im next c m = refl
 
+-- so does LOCK XADD
+sum_leads : (d im : List ℕ) (next : ℕ) (c : Core) (m : Bytes) → leads_to (task_of (adding (exchanging d im)) next).insn next c m ≡ leads_to (resolved_insn next (insn_of (exchanging d im))) next c m
+unfolding template filled effect
+sum_leads d im next c m = refl
+
 -- LOCK INC leads a thread to where it leads a processor
 locked_leads : (f : Fields) (next : ℕ) (c : Core) (m : Bytes) → is_locked_inc f ≡ true → leads_to (thread_task f next).insn next c m ≡ leads_to (resolved_insn next (insn_of f)) next c m
 locked_leads f next c m k =
@@ -102,13 +108,18 @@ locked_leads f next c m k =
 -- an instruction that acts leads where its operands say
 pub leads_told : LeadsTold
 leads_told f next s s' e =
-    let q = carry_ok next s.mem s.world _ s' e in
+    let x = is_locked_xadd f in
     let t = thread_task f next in
-    ap (λ (z : Machine). z.rip) q.2 ∙ plan_leads t.insn t.asks next s.core s.mem (first s.world) q.0 q.1 ∙ by_lock (is_locked_inc f) refl
+    let b = base x t next s s' e in
+    let q = carry_ok next s.mem s.world _ b.plain b.acts in
+    rip_is x t next s s' e ∙ ap (λ (z : Machine). z.rip) q.2 ∙ plan_leads t.insn t.asks next s.core s.mem (first s.world) q.0 q.1 ∙ by_reading (reading f)
   where
-    by_lock : (b : Bool) → is_locked_inc f ≡ b → leads_to (thread_task f next).insn next s.core s.mem ≡ leads_to (resolved_insn next (insn_of f)) next s.core s.mem
-    by_lock false k = ap (λ (z : Task). leads_to z.insn next s.core s.mem) (unlocked_task f next k)
-    by_lock true k = locked_leads f next s.core s.mem k
+    by_reading : Reading f → leads_to (thread_task f next).insn next s.core s.mem ≡ leads_to (resolved_insn next (insn_of f)) next s.core s.mem
+    by_reading (Plain k) = ap (λ (z : Task). leads_to z.insn next s.core s.mem) (unlocked_task f next k)
+    by_reading (Incs k) = locked_leads f next s.core s.mem k
+    by_reading (Adds n k) =
+        ap (λ (z : Task). leads_to z.insn next s.core s.mem) (xadd_task f next n k) ∙ sum_leads f.disp f.imm next s.core s.mem
+        ∙ ap (λ z. leads_to (resolved_insn next (insn_of z)) next s.core s.mem) (sym (xadd_is f k))
 
 -- an instruction of known operation
 known_reads : (set : ℕ → Bool) (v : Machine) (f : Fields) (next : ℕ) (op : Op) → next_after v.rip f ≡ next → (thread_task f next).insn ≡ Exact op → reads_nothing_of set f v ≡ avoids_span set (effect op next v.core).read
@@ -187,7 +198,7 @@ module _ (f : Fields) (next to : ℕ) (s u : Machine) (w : IsWork f s.rip next t
       let op' = Jcc c (absolute (to + 6) (integer_of d)) in
       let short : c < 16 = ltb-true c 16 (subst (λ (y : Insn). has_condition y ≡ true) e (condition_code f)) in
       let is : IsInstruction g = record { formed = formed_branch c _ _ _ _ short; short = omega arith } in
-      let k : IsKnown u g (to + 6) op' = known_fixed u to g (to + 6) op' is there (relocated_stands f s.rip next to u w x e) refl (omega (arith, l)) (ap (resolved_insn (to + 6)) (branch_insn c d short)) (λ y. refl) in
+      let k : IsKnown u g (to + 6) op' = known_fixed u to g (to + 6) op' is there (relocated_stands f s.rip next to u w x e) refl (omega (arith, l)) (ap (resolved_insn (to + 6)) (branch_insn c d short)) (λ y. refl) refl in
       pair_touches g (to + 6) (Jcc c z) (Jcc c (absolute next z)) op' e refl k refl refl
   touches_by (Exact (Loop kind z short)) e h = absurd cc
   touches_by (Exact (Jmp (Rel z))) e h =

@@ -17,14 +17,14 @@ use Rattle.start_entries.specs.Standing.{AreEntries}
 use Rattle.image_step.specs.Listed.{is_start, is_known_start}
 use Rattle.image_check.proofs.LoadedCode.{stands_fixed, fixed_at}
 use Rattle.image_check.proofs.RelatedStates.{allowed_some}
-use Rattle.thread_runs.specs.ThreadCode.{mark_at, mark_len, thread_event, event_len, event_if, thread_work, code_if}
+use Rattle.thread_runs.specs.ThreadCode.{Kind, Marks, Keeps, mark_at, mark_len, position_at, slot_at, ring_event, thread_event, event_len, event_if, thread_work, code_if}
 use Rattle.trampoline.specs.Atomic.{thread_len}
 use Rattle.thread_runs.specs.Work.{IsWork}
 use Rattle.thread_runs.specs.Threading.{ThreadSite, Threading, next_of, work_at, is_new, is_site, is_kept, is_one_of, IsThreadSound}
 use Rattle.patch_report.proofs.ListPlaces.{found, any_at, contains_at, place_of}
 use Rattle.thread_runs.proofs.ThreadTrampolines.{event_long}
 use Rattle.thread_runs.proofs.ThreadPlaces.{any_none}
-use Rattle.thread_runs.proofs.KeptRelation.{number_on}
+use Rattle.thread_runs.proofs.ByteRanges.{number_on}
 
 -- the instruction at a start, in the original and in the patched image
 pub record Own (r : Threading) (a : ℕ) : Type 0 where
@@ -78,8 +78,13 @@ module _ (r : Threading) (A : AreEntries r.original r.listed) (S : IsThreadSound
       stands_fixed r.original s.entry.addr (spelling k.fields) (omega (arith, i.low, k.len)) (λ x l g. (i.executed x l (omega (arith, k.len, g))).1) k.stands
 
   -- the event of a site stands at its trampoline's place in each memory that has the patched image's code
-  pub event_stands : (s : ThreadSite) (h : Contains r.sites s) (b : Base) → s.event ≡ Some b → (m : Bytes) → SameCode r.patched m → IsFixed m s.place (thread_event b s.when r.private s.number)
-  event_stands s h b e m c = subst (λ (z : Option Base). IsFixed m s.place (event_if z s.when r.private s.number)) e
+  pub event_stands : (s : ThreadSite) (h : Contains r.sites s) (b : Base) → s.event ≡ Some (Marks b) → (m : Bytes) → SameCode r.patched m → IsFixed m s.place (thread_event b s.when r.private s.number)
+  event_stands s h b e m c = subst (λ (z : Option Kind). IsFixed m s.place (event_if z s.when r.private s.number)) e
+      (fixed_front m s.place (event_if s.event s.when r.private s.number) (thread_work (fields_of s h) (next_of s) (work_at s)) (fixed_on r.patched m s.place (code_if s.event s.when r.private s.number (fields_of s h) (next_of s) s.place) c (S.sites s h).code))
+
+  -- so does that of a site that keeps a ring
+  pub ring_stands : (s : ThreadSite) (h : Contains r.sites s) (n : ℕ) → s.event ≡ Some (Keeps n) → (m : Bytes) → SameCode r.patched m → IsFixed m s.place (ring_event n r.private s.number)
+  ring_stands s h n e m c = subst (λ (z : Option Kind). IsFixed m s.place (event_if z s.when r.private s.number)) e
       (fixed_front m s.place (event_if s.event s.when r.private s.number) (thread_work (fields_of s h) (next_of s) (work_at s)) (fixed_on r.patched m s.place (code_if s.event s.when r.private s.number (fields_of s h) (next_of s) s.place) c (S.sites s h).code))
 
   -- the trampoline of a site has the event's bytes and those of the relocated code
@@ -107,7 +112,7 @@ module _ (r : Threading) (A : AreEntries r.original r.listed) (S : IsThreadSound
       }
 
   -- what an event marks is new
-  pub mark_new : (s : ThreadSite) (h : Contains r.sites s) (b : Base) → s.event ≡ Some b → (x : ℕ) → mark_at b r.private s.number ≤ x → x < mark_at b r.private s.number + mark_len b → is_new r x ≡ true
+  pub mark_new : (s : ThreadSite) (h : Contains r.sites s) (b : Base) → s.event ≡ Some (Marks b) → (x : ℕ) → mark_at b r.private s.number ≤ x → x < mark_at b r.private s.number + mark_len b → is_new r x ≡ true
   mark_new s h b e x i j =
       let q = S.marks s h b e x i j in
       ap₂ (λ (o p : Option Cell). is_some o && not (is_some p)) q.0 q.1
@@ -124,8 +129,24 @@ module _ (r : Threading) (A : AreEntries r.original r.listed) (S : IsThreadSound
       by_test false e go k = let q = go k in (omega (arith, q.0), omega (arith, q.1))
 
   -- what keeps new bytes keeps the numbers that events mark
-  pub mark_kept : (s : ThreadSite) (h : Contains r.sites s) (b : Base) → s.event ≡ Some b → (m w : Bytes) → ((x : ℕ) → is_new r x ≡ true → w x ≡ m x)
+  pub mark_kept : (s : ThreadSite) (h : Contains r.sites s) (b : Base) → s.event ≡ Some (Marks b) → (m w : Bytes) → ((x : ℕ) → is_new r x ≡ true → w x ≡ m x)
       → number_at w (mark_at b r.private s.number) (mark_len b) ≡ number_at m (mark_at b r.private s.number) (mark_len b)
   mark_kept s h b c m w k = number_on m w (mark_at b r.private s.number) (mark_len b) (λ x e.
       let low = S.low s h b c in
       let q = one_in (mark_at b r.private s.number) (mark_len b) x (omega (arith, low)) e in k x (mark_new s h b c x q.0 q.1))
+
+  -- the position and the slots of a ring are new
+  pub ring_new : (n : ℕ) → r.ring ≡ Some n → (x : ℕ) → position_at r.private ≤ x → x < slot_at r.private n → is_new r x ≡ true
+  ring_new n e x i j = let q = (S.ring n e).zeros x i j in ap₂ (λ (o p : Option Cell). is_some o && not (is_some p)) q.0 q.1
+
+  -- what keeps new bytes keeps the position
+  pub position_kept : (n : ℕ) → r.ring ≡ Some n → (m w : Bytes) → ((x : ℕ) → is_new r x ≡ true → w x ≡ m x) → number_at w (position_at r.private) 4 ≡ number_at m (position_at r.private) 4
+  position_kept n e m w k = number_on m w (position_at r.private) 4 (λ x h.
+      let low = (S.ring n e).low in
+      let q = one_in (position_at r.private) 4 x (omega (arith, low)) h in k x (ring_new n e x q.0 (omega (arith, q.1))))
+
+  -- and the slots
+  pub slot_kept : (n : ℕ) → r.ring ≡ Some n → (m w : Bytes) → ((x : ℕ) → is_new r x ≡ true → w x ≡ m x) → (j : ℕ) → j < n → number_at w (slot_at r.private j) 4 ≡ number_at m (slot_at r.private j) 4
+  slot_kept n e m w k j l = number_on m w (slot_at r.private j) 4 (λ x h.
+      let low = (S.ring n e).low in
+      let q = one_in (slot_at r.private j) 4 x (omega (arith, low, l)) h in k x (ring_new n e x (omega (arith, q.0)) (omega (arith, q.1, l))))

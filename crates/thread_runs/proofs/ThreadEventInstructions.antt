@@ -37,11 +37,11 @@ use Rattle.thread_runs.proofs.EventCode.{mark_op, op_at, fields_at, insn_len, Is
 use Rattle.thread_runs.proofs.ComparisonCode.{below_red_zone, slot_place, compare_op, over_op, leads_over, checking_more, all_more, not_empty}
 
 -- setting rax leaves each other register as it is
-reg_other : (c : Core) (r v : ℕ) → reg (with_reg c rax v) (suc r) ≡ reg c (suc r)
+pub reg_other : (c : Core) (r v : ℕ) → reg (with_reg c rax v) (suc r) ≡ reg c (suc r)
 reg_other c r v = get_or-set_other c.regs 0 (suc r) v 0 (λ e. absurd cc)
 
 -- so do the flags that are kept in ax
-ax_other : (c : Core) (r : ℕ) → reg (kept_in_ax c) (suc r) ≡ reg c (suc r)
+pub ax_other : (c : Core) (r : ℕ) → reg (kept_in_ax c) (suc r) ≡ reg c (suc r)
 unfolding effect is_met
 ax_other c r = reg_other (core_after Lahf 0 c) r _ ∙ reg_other c r _
 
@@ -68,15 +68,15 @@ slot_at : (cs : List Comparison) (k : Point) (c d : Core) → Holds cs k c d →
 slot_at cs k c d h = slot_place d ∙ slot_of c d (rsp_of cs k c d h)
 
 -- setting rax twice is setting it to the second value
-twice : (c : Core) (x y : ℕ) → with_reg (with_reg c rax x) rax y ≡ with_reg c rax y
+pub twice : (c : Core) (x y : ℕ) → with_reg (with_reg c rax x) rax y ≡ with_reg c rax y
 twice c x y = let e = set-set c.regs 0 x y in λ i. record { regs = e i; flags = c.flags; fs = c.fs; gs = c.gs }
 
 -- setting rax to what it is changes nothing
-same_reg : (c : Core) (x : ℕ) → x ≡ reg c rax → with_reg c rax x ≡ c
+pub same_reg : (c : Core) (x : ℕ) → x ≡ reg c rax → with_reg c rax x ≡ c
 same_reg c x e = let q = ap (set c.regs 0) e ∙ set-get_or c.regs 0 0 in λ i. record { regs = q i; flags = c.flags; fs = c.fs; gs = c.gs }
 
 -- numbers of 64 bits
-low_word : (x : ℕ) → x < 2 ^ 64 → x % 2 ^ 64 % 2 ^ 64 ≡ x
+pub low_word : (x : ℕ) → x < 2 ^ 64 → x % 2 ^ 64 % 2 ^ 64 ≡ x
 low_word x h = omega arith
 
 -- adding one in 64 bits is adding one, modulo 2^64
@@ -92,7 +92,7 @@ low_twice : (y : ℕ) → y % 256 % 256 ≡ y % 256
 low_twice y = omega arith
 
 -- ADD al, 7F gives OF back, and leaves the flags in AH as they are
-given : (c : Core) (f : Flags) → IsProcessorCore c → f.rest ≡ c.flags.rest → IsGivingBack c (core_after add_al 0 (with_flags (kept_in_ax c) f))
+pub given : (c : Core) (f : Flags) → IsProcessorCore c → f.rest ≡ c.flags.rest → IsGivingBack c (core_after add_al 0 (with_flags (kept_in_ax c) f))
 unfolding effect is_met
 given c f h r =
     let d = with_flags (kept_in_ax c) f in
@@ -111,7 +111,7 @@ given c f h r =
     }
 
 -- SAHF
-back : (c : Core) (v : ℕ) (f : Flags) → IsProcessorCore c → v / 256 % 256 ≡ low_flags c.flags → f.of ≡ c.flags.of → f.rest ≡ c.flags.rest
+pub back : (c : Core) (v : ℕ) (f : Flags) → IsProcessorCore c → v / 256 % 256 ≡ low_flags c.flags → f.of ≡ c.flags.of → f.rest ≡ c.flags.rest
     → core_after Sahf 0 (with_flags (with_reg c rax v) f) ≡ with_reg c rax v
 unfolding effect
 back c v f h a o r =

@@ -10,7 +10,7 @@ use Rattle.pun_base.specs.declared.action.Base.TheVariants.{Cover, Count}
 use Rattle.pun_base.specs.declared.action.Comparison.{Comparison}
 use Rattle.length_decode.specs.Spelling.{Fields}
 use Rattle.cpu_state.specs.declared.state.Core.{Core}
-use Rattle.cpu_state.specs.Bytes.{advanced, avoids, lacking, number_at, put, put_list, with_byte, bytes_of}
+use Rattle.cpu_state.specs.Bytes.{advanced, avoids, lacking, number_at, put_list, bytes_of}
 use Rattle.cpu_state.specs.Fixed.{IsFixed}
 use Rattle.cpu_state.specs.Processor.{IsProcessorCore, GiveWords}
 use Rattle.cpu_state.proofs.Readback.{bytes_of_length, read_back}
@@ -23,15 +23,16 @@ use Rattle.patch_report.proofs.ListPlaces.{some_is}
 use Rattle.start_entries.specs.Standing.{AreEntries}
 use Rattle.image_step.specs.Listed.{is_listed_byte}
 use Rattle.thread_runs.specs.Guest.{Thread, machine_of, thread_of}
-use Rattle.thread_runs.specs.ThreadCode.{mark_at, mark_len, marking_len, compare_len, checking_len, is_saving, saving_len, thread_event, event_len, slot}
+use Rattle.thread_runs.specs.ThreadCode.{Kind, Marks, saved_from, saved_len, mark_at, mark_len, marking_len, compare_len, checking_len, is_saving, saving_len, thread_event, event_len, slot}
 use Rattle.thread_runs.specs.Event.{Point, offset, checked, following, is_inside, has_point, Holds, IsDecided, HasSaved, InEvent, marks_with, EventNext, AtStore, covered}
 use Rattle.thread_runs.specs.Event.Point.{At0, At1, At2, AtCompare, AtJump, At3, At4, At5, At6, At7}
 use Rattle.thread_runs.specs.Threading.Part.{Whole, Save, Marked}
-use Rattle.thread_runs.specs.Threading.{ThreadSite, Threading, work_at, is_new, is_hidden, part_from, part_to, is_part, in_event, saves, is_met_by, is_counted, is_one_of, is_saved, is_code_of, IsThreadSound}
+use Rattle.thread_runs.specs.Threading.{ThreadSite, Threading, work_at, is_new, is_hidden, part_from, part_to, is_part, in_event, saves, is_met_by, is_counted, is_one_of, is_saved_by, is_code_of, IsThreadSound}
 use Rattle.thread_runs.specs.Watching.{Watched, Watch, is_effect, stale_after}
 use Rattle.thread_runs.specs.StepLaws.{StepLaws}
 use Rattle.thread_runs.proofs.ThreadPlaces.{saving_code_is, saving_mark, saving_points, inside_low, counted_len, point_counted, part_only, kept_not, no_site, effect_never, in_code, part_in, longer, mark_from, mark_end, mark_some, part_is, part_true, part_low, part_high}
-use Rattle.thread_runs.proofs.KeptRelation.{keeps_perms, number_on}
+use Rattle.thread_runs.proofs.ByteRanges.{number_on, put_elsewhere}
+use Rattle.thread_runs.proofs.KeptRelation.{keeps_perms}
 use Rattle.thread_runs.proofs.StandingCode.{event_stands, mark_new, mark_kept, one_in}
 use Rattle.thread_runs.proofs.OutsideSteps.{none_more, uncounted, calm_projection}
 use Rattle.thread_runs.proofs.ComparisonCode.{checking_more, all_fail}
@@ -44,16 +45,8 @@ same_test true c f g = sym (f refl)
 same_test false true f g = absurd (false≢true (g refl))
 same_test false false f g = refl
 
--- bytes that are put elsewhere leave an address
-pub put_elsewhere : (m : Bytes) (a n : ℕ) (bs : List ℕ) (x : ℕ) → length bs ≡ n → is_one_of a n x ≡ false → put_list m a bs x ≡ m x
-put_elsewhere m a n [] x e h = refl
-put_elsewhere m a zero (b ∷ bs) x e h = absurd (omega (arith, e))
-put_elsewhere m a (suc n) (b ∷ bs) x e h =
-    let q = or_parts (eqb x a) (is_one_of (advanced a 1) n x) h in
-    put_elsewhere (put m a b) (advanced a 1) n bs x (omega (arith, e)) q.1 ∙ cond-false (eqb x a) (with_byte b (m x)) (m x) q.0
-
 -- what a range avoids isn't one of it
-not_of : (set : ℕ → Bool) (a n x : ℕ) → avoids set a n ≡ true → is_one_of a n x ≡ true → set x ≡ false
+pub not_of : (set : ℕ → Bool) (a n x : ℕ) → avoids set a n ≡ true → is_one_of a n x ≡ true → set x ≡ false
 not_of set a zero x h e = absurd (false≢true e)
 not_of set a (suc n) x h e =
     let q = and_parts (not (set a)) (avoids set (advanced a 1) n) h in
@@ -109,7 +102,7 @@ module _ (r : Threading) (A : AreEntries r.original r.listed) (S : IsThreadSound
     -- what of a step to a point makes it good
     pub record Good (p : Point) : Type 0 where
       pub calm : (x : ℕ) → is_hidden r x ≡ false → stale' x ≡ false → (w.stale x ≡ false) × (to.mem x ≡ w.mem x)
-      pub numbers : (t : ThreadSite) → Contains r.sites t → (b : Base) → t.event ≡ Some b → Changes r false b t w.mem to.mem one.projected one.projected x0 to.rip
+      pub numbers : (t : ThreadSite) → Contains r.sites t → (b : Base) → t.event ≡ Some (Marks b) → Changes r false b t w.mem to.mem one.projected one.projected x0 to.rip
       pub saved : HasSaved p c to.mem
       pub old : has_rax p ≡ true → avoids (is_new r) (slot c) 8 ≡ true
 
@@ -129,10 +122,10 @@ module _ (r : Threading) (A : AreEntries r.original r.listed) (S : IsThreadSound
     pub stale_stays : site.place ≤ x0 → x0 < work_at site → site.place + part_to Save site.event site.when ≤ x0 → (x : ℕ) → stale' x ≡ w.stale x
     stale_stays a b n x = cond-false (saves r x0) _ _ (save_is a b ∙ part_high Save x0 site n) ∙ cond-true (in_event r x0) _ _ (inside a b)
 
-    -- a step to a good point of an event keeps the relation
-    good : (p : Point) → site.place ≤ x0 → x0 < work_at site → (is_inside p ≡ true → has_point site.event site.when p ≡ true) → to.rip ≡ point_at site p → Holds site.when p c to.core → IsDecided site.when p c → to.world ≡ one.projected.world
+    -- a step to a good point of an event that marks keeps the relation
+    good : r.ring ≡ None → (p : Point) → site.place ≤ x0 → x0 < work_at site → (is_inside p ≡ true → has_point site.event site.when p ≡ true) → to.rip ≡ point_at site p → Holds site.when p c to.core → IsDecided site.when p c → to.world ≡ one.projected.world
         → one.projected.rip ≡ site.entry.addr → Good p → Made r S stale' M M one w.mem to
-    good p a b has rip core decided world at G =
+    good unringed p a b has rip core decided world at G =
         let code = at_event a b in
         let calm = kept_not r A S L.long site listed x0 code in
         let none = no_site r A S L.long site listed x0 code (λ e. omega (arith, e, b)) in
@@ -147,9 +140,10 @@ module _ (r : Threading) (A : AreEntries r.original r.listed) (S : IsThreadSound
           own = R.own;
           counted = λ t h b v. subst (λ (z : Thread). Changes r (is_effect r x0) b t w.mem to.mem one.projected z x0 to.rip) (sym q)
               (subst (λ e. Changes r e b t w.mem to.mem one.projected one.projected x0 to.rip) (sym eff) (G.numbers t h b v));
+          ring = λ n e. absurd (some_none n (sym e ∙ unringed));
           processor = subst (λ (t : Thread). IsProcessorCore t.core) (sym q) kept.processor;
           words = subst (λ (t : Thread). GiveWords t.world) (sym q) kept.words;
-          phase = subst (λ (t : Thread). Phase r S to.mem (thread_of to) t) (sym q) (inr (inr (inl (record {
+          phase = subst (λ (t : Thread). Phase r S to.mem (thread_of to) t) (sym q) (inr (inr (inl (inl (record {
             site = site;
             listed = listed;
             point = p;
@@ -161,11 +155,14 @@ module _ (r : Threading) (A : AreEntries r.original r.listed) (S : IsThreadSound
             world = world;
             saved = G.saved;
             old = G.old;
-          }))));
+          })))));
         }
+      where
+        some_none : (n : ℕ) → Some n ≡ None → ⊥
+        some_none n e = absurd cc
 
     -- a step that leaves what is new, and before and after which a site is counted alike, leaves its number as it is
-    unchanged : (t : ThreadSite) → is_counted t x0 c ≡ is_counted t to.rip c → ((x : ℕ) → is_new r x ≡ true → to.mem x ≡ w.mem x) → Contains r.sites t → (b : Base) → t.event ≡ Some b
+    unchanged : (t : ThreadSite) → is_counted t x0 c ≡ is_counted t to.rip c → ((x : ℕ) → is_new r x ≡ true → to.mem x ≡ w.mem x) → Contains r.sites t → (b : Base) → t.event ≡ Some (Marks b)
         → Changes r false b t w.mem to.mem one.projected one.projected x0 to.rip
     unchanged t z stays h d v =
         let e : ◌≡◌ {A = ℕ} (cond (is_counted t to.rip c) 1 0) (cond (is_counted t x0 c) 1 0) = ap (λ b. cond b 1 0) (sym z) in
@@ -178,11 +175,11 @@ module _ (r : Threading) (A : AreEntries r.original r.listed) (S : IsThreadSound
     -- a step that neither marks nor passes the mark leaves each number as it is, where it leaves what is new
     unmarked : site.place ≤ x0 → x0 < work_at site → site.place ≤ to.rip → to.rip ≤ work_at site
         → (site.place + part_from Marked site.event site.when ≤ x0 → site.place + part_from Marked site.event site.when ≤ to.rip) → (site.place + part_from Marked site.event site.when ≤ to.rip → site.place + part_from Marked site.event site.when ≤ x0)
-        → ((x : ℕ) → is_new r x ≡ true → to.mem x ≡ w.mem x) → (t : ThreadSite) → Contains r.sites t → (b : Base) → t.event ≡ Some b → Changes r false b t w.mem to.mem one.projected one.projected x0 to.rip
+        → ((x : ℕ) → is_new r x ≡ true → to.mem x ≡ w.mem x) → (t : ThreadSite) → Contains r.sites t → (b : Base) → t.event ≡ Some (Marks b) → Changes r false b t w.mem to.mem one.projected one.projected x0 to.rip
     unmarked a b a' b' f g stays t h d v = unchanged t (ap (λ e. is_met_by t c && e) (counted_same site t listed h x0 to.rip a (omega (arith, b)) a' b' f g)) stays h d v
 
     -- a step that writes what the site's event marks, and passes the mark
-    module _ (b : Base) (has : site.event ≡ Some b) (bytes : List ℕ) (size : length bytes ≡ mark_len b) (mem : to.mem ≡ put_list w.mem (mark_at b r.private site.number) bytes) where
+    module _ (b : Base) (has : site.event ≡ Some (Marks b)) (bytes : List ℕ) (size : length bytes ≡ mark_len b) (mem : to.mem ≡ put_list w.mem (mark_at b r.private site.number) bytes) where
       -- leaves all other bytes
       away : (x : ℕ) → (x < mark_at b r.private site.number) ⊎ (mark_at b r.private site.number + mark_len b ≤ x) → to.mem x ≡ w.mem x
       away x n =
@@ -222,23 +219,26 @@ module _ (r : Threading) (A : AreEntries r.original r.listed) (S : IsThreadSound
       -- and changes the numbers as they are due
       pub passes : is_met_by site c ≡ true → site.place ≤ x0 → x0 < site.place + part_from Marked site.event site.when → site.place + part_from Marked site.event site.when ≤ to.rip → to.rip ≤ work_at site
           → ((n : ℕ) → marked r b site w.mem ≡ shown_after b n → marked r b site to.mem ≡ shown_after b (n + 1))
-          → (t : ThreadSite) → Contains r.sites t → (d : Base) → t.event ≡ Some d → Changes r false d t w.mem to.mem one.projected one.projected x0 to.rip
+          → (t : ThreadSite) → Contains r.sites t → (d : Base) → t.event ≡ Some (Marks d) → Changes r false d t w.mem to.mem one.projected one.projected x0 to.rip
       passes met i j i' j' counts t h d v = elim (cases_eq t.number site.number) [
         | inl same ↦ own (S.numbers t site h listed (some v) (some has) same)
         | inr n ↦ other n
       ]
         where
-          some : {o : Option Base} {d : Base} → o ≡ Some d → is_some o ≡ true
+          some : {o : Option Kind} {d : Kind} → o ≡ Some d → is_some o ≡ true
           some e = ap is_some e
 
+          same_base : (d b : Base) → Marks d ≡ Marks b → d ≡ b
+          same_base d b e = cc
+
           kind : d ≡ b
-          kind = some_is d b (sym v ∙ S.kinds t site h listed (some v) (some has) ∙ has)
+          kind = same_base d b (some_is (Marks d) (Marks b) (sym v ∙ S.kinds t site h listed (some v) (some has) ∙ has))
 
           own : t ≡ site → Changes r false d t w.mem to.mem one.projected one.projected x0 to.rip
           own s =
               let b1 : is_counted t to.rip c ≡ true = ap (λ (y : ThreadSite). is_counted y to.rip c) s
               ∙ and_from (is_met_by site c) (is_part Marked to.rip site) met
-              (part_true Marked to.rip site i' (let z = mark_end site.event site.when (mark_some site.event site.when b has) in omega (arith, z, j'))) in
+              (part_true Marked to.rip site i' (let z = mark_end site.event site.when (mark_some site.event site.when (Marks b) has) in omega (arith, z, j'))) in
               let b2 : is_counted t x0 c ≡ false = ap (λ (y : ThreadSite). is_counted y x0 c) s ∙ uncounted site x0 c (part_low Marked x0 site j) in
               let c1 : ◌≡◌ {A = ℕ} (cond (is_counted t to.rip c) 1 0) 1 = cond-true (is_counted t to.rip c) 1 0 b1 in
               let c2 : ◌≡◌ {A = ℕ} (cond (is_counted t x0 c) 1 0) 0 = cond-false (is_counted t x0 c) 1 0 b2 in
@@ -264,14 +264,18 @@ module _ (r : Threading) (A : AreEntries r.original r.listed) (S : IsThreadSound
 
     -- ---- an event that saves rax
 
-    module _ (avoided : saves r x0 ≡ true → avoids (is_new r) (slot one.now.core) 8 ≡ true) (b : Base) (has : site.event ≡ Some b) (saving : is_saving site.event site.when ≡ true) where
+    module _ (avoided : saves r x0 ≡ true → avoids (is_new r) (slot one.now.core) 8 ≡ true) (b : Base) (has : site.event ≡ Some (Marks b)) (saving : is_saving site.event site.when ≡ true) where
       -- its comparisons
       abbrev cs : List Comparison
       cs = site.when
 
       -- the event saves rax, as one of its base
-      saving' : is_saving (Some b) cs ≡ true
+      saving' : is_saving (Some (Marks b)) cs ≡ true
       saving' = sym (ap (λ o. is_saving o cs) has) ∙ saving
+
+      -- no event keeps a ring
+      unringed : r.ring ≡ None
+      unringed = S.rings site listed (Marks b) has
 
       -- it has the bytes that are said
       len : event_len site.event cs ≡ saving_len b cs
@@ -283,7 +287,7 @@ module _ (r : Threading) (A : AreEntries r.original r.listed) (S : IsThreadSound
 
       -- rax is saved from the event's first byte on
       save_end : part_to Save site.event cs ≡ 1
-      save_end = cond-true (is_saving site.event cs) 1 0 saving
+      save_end = ap (λ o. part_to Save o cs) has ∙ cond-true (is_saving (Some (Marks b)) cs) 1 0 saving'
 
       -- what an event marks has a byte
       mark_wide : (b : Base) → 0 < marking_len b
@@ -298,7 +302,7 @@ module _ (r : Threading) (A : AreEntries r.original r.listed) (S : IsThreadSound
 
       -- a step that doesn't write
       quiet : (p : Point) (n : ℕ) → x0 ≡ site.place + n → 0 < n → n < saving_len b cs → to.mem ≡ w.mem → HasSaved p c w.mem → avoids (is_new r) (slot c) 8 ≡ true
-          → ((t : ThreadSite) → Contains r.sites t → (b : Base) → t.event ≡ Some b → Changes r false b t w.mem to.mem one.projected one.projected x0 to.rip)
+          → ((t : ThreadSite) → Contains r.sites t → (b : Base) → t.event ≡ Some (Marks b) → Changes r false b t w.mem to.mem one.projected one.projected x0 to.rip)
           → Good p
       quiet p n e k l same saved old numbers = record {
         calm = λ x i j. (sym (stale_stays (omega (arith, e)) (omega (arith, e, l, len)) (omega (arith, e, k, save_end)) x) ∙ j, ap (λ (z : Bytes). z x) same);
@@ -363,8 +367,8 @@ module _ (r : Threading) (A : AreEntries r.original r.listed) (S : IsThreadSound
           ∙ put_elsewhere w.mem (slot c) 8 (bytes_of 8 (reg c rax)) x (bytes_of_length 8 (reg c rax)) n in
           record {
             calm = λ x g h.
-                let q = or_parts (w.stale x) (is_saved one.now.core x) (sym (cond-true (saves r x0) (w.stale x || is_saved one.now.core x) _ yes') ∙ h) in
-                (q.0, away x (ap (λ z. is_one_of z 8 x) (sym same) ∙ q.1));
+                let q = or_parts (w.stale x) (is_saved_by r one.now.core x) (sym (cond-true (saves r x0) (w.stale x || is_saved_by r one.now.core x) _ yes') ∙ h) in
+                (q.0, away x (ap (λ z. is_one_of z 8 x) (sym same) ∙ ap (λ o. is_one_of (saved_from o one.now.core) (saved_len o) x) (sym unringed) ∙ q.1));
             numbers = unmarked (omega (arith, e0)) (omega (arith, e0, len)) (omega (arith, N.rip)) (omega (arith, N.rip, len))
                 (λ h. absurd (omega (arith, h, e0, from))) (λ h. absurd (omega (arith, h, N.rip, from))) (λ x n. away x (new_apart free x n));
             saved = subst (λ (z : Bytes). number_at z (slot c) 8 ≡ reg c rax) (sym N.mem) (L.saved c w.mem kept.processor (L.held b cs r.private site.number site.place c u to E (f, steps)));
@@ -426,7 +430,7 @@ module _ (r : Threading) (A : AreEntries r.original r.listed) (S : IsThreadSound
 
       -- an event that saves rax has each point
       pub all_points : (p : Point) → is_inside p ≡ true → has_point site.event cs p ≡ true
-      all_points p i = ap (λ (z : Option Base). has_point z cs p) has ∙ saving_points b cs p saving' ∙ i
+      all_points p i = ap (λ (z : Option Kind). has_point z cs p) has ∙ saving_points b cs p saving' ∙ i
 
       -- a thread at a point of the event is in it
       pub in_it : (p : Point) → x0 ≡ site.place + offset b cs p → Holds cs p c one.now.core → IsDecided cs p c → HasSaved p c w.mem → InEvent b cs r.private site.number site.place p c u
@@ -453,12 +457,12 @@ module _ (r : Threading) (A : AreEntries r.original r.listed) (S : IsThreadSound
           let E = in_it p e core decided saved in
           let l = inside_low b cs p c i decided in
           let N = L.events b cs r.private site.number site.place p c u to i E (f, steps) in
-          good (following cs c p) (omega (arith, e)) (omega (arith, e, l, len)) (all_points (following cs c p)) (N.rip ∙ sym (point_counted site b (following cs c p) has saving)) N.core N.decided (N.world ∙ world) at
+          good unringed (following cs c p) (omega (arith, e)) (omega (arith, e, l, len)) (all_points (following cs c p)) (N.rip ∙ sym (point_counted site b (following cs c p) has saving)) N.core N.decided (N.world ∙ world) at
           (good_at p i E old N)
 
     -- ---- an event that covers by one store
 
-    module _ (covers : site.event ≡ Some Cover) (alone : site.when ≡ []) where
+    module _ (covers : site.event ≡ Some (Marks Cover)) (alone : site.when ≡ []) where
       -- the event is the store alone
       store_len : event_len site.event site.when ≡ 8
       store_len = ap₂ event_len covers alone
@@ -491,7 +495,7 @@ module _ (r : Threading) (A : AreEntries r.original r.listed) (S : IsThreadSound
           ap (λ (z : Bytes). marked r Cover site z) mem
           ∙ read_back w.mem 2 (mark_at Cover r.private site.number) 1 1 (omega (arith, low)) (omega arith) (R.room site listed Cover covers).written
           ∙ sym (cond-false (eqb (n + 1) 0) 0 1 (ne_eqb (n + 1) 0 (λ z. omega (arith, z)))) in
-          good At7 (omega (arith, e)) (omega (arith, e, len)) (λ i. absurd (false≢true i)) (omega (arith, rip, len)) (ap (λ (z : Machine). z.core) N ∙ core) tt (ap (λ (z : Machine). z.world) N ∙ world) at (record {
+          good (S.rings site listed (Marks Cover) covers) At7 (omega (arith, e)) (omega (arith, e, len)) (λ i. absurd (false≢true i)) (omega (arith, rip, len)) (ap (λ (z : Machine). z.core) N ∙ core) tt (ap (λ (z : Machine). z.world) N ∙ world) at (record {
             calm = λ x g h. (
               sym (stale_stays (omega (arith, e)) (omega (arith, e, len)) (omega (arith, e, to')) x) ∙ h,
               old_away Cover covers (1 ∷ []) refl mem x (or_parts (is_listed_byte r.listed x) (is_new r x) g).1,

@@ -13,12 +13,13 @@ use Rattle.cpu_state.specs.declared.state.Core.{Core}
 use Rattle.start_entries.specs.declared.entry.StartEntry.{StartEntry}
 use Rattle.start_entries.specs.Standing.{AreEntries}
 use Rattle.image_step.specs.Listed.{is_start}
-use Rattle.thread_runs.specs.ThreadCode.{is_saving, saving_event, saving_len, thread_event, event_len, event_if, thread_work, code_if}
-use Rattle.thread_runs.specs.Threading.{ThreadSite, Threading, next_of, work_at, is_new, is_site, is_kept, Part, part_from, part_to, is_part, site_if, relocated_at, is_code_of, IsThreadSound}
-use Rattle.thread_runs.specs.Threading.Part.{Whole, Save, Saved, Marked}
+use Rattle.thread_runs.specs.ThreadCode.{Kind, Marks, Keeps, ring_len, is_saving, saving_event, saving_len, thread_event, event_len, event_if, thread_work, code_if}
+use Rattle.thread_runs.specs.Threading.{ThreadSite, Threading, next_of, work_at, is_new, is_site, is_kept, is_keeping, Part, part_from, part_to, is_part, site_if, relocated_at, claims_at, fills_at, claiming_at, is_filling, is_unfilled, is_code_of, IsThreadSound}
+use Rattle.thread_runs.specs.Threading.Part.{Whole, Save, Saved, Marked, Unfilled}
 use Rattle.thread_runs.specs.Watching.{is_effect, is_there}
 use Rattle.thread_runs.specs.StepLaws.{WorkLong}
-use Rattle.thread_runs.specs.Theorem.{when_at}
+use Rattle.thread_runs.specs.Ring.{ringing_at, claimed_at}
+use Rattle.thread_runs.specs.Theorem.{when_at, further_at}
 use Rattle.thread_runs.specs.Event.{Point, offset, is_inside, has_point, IsDecided}
 use Rattle.thread_runs.specs.Event.Point.{At0, At1, At2, AtCompare, AtJump, At3, At4, At5, At6, At7}
 use Rattle.thread_runs.specs.Relation.{offset_if, point_at, has_rax}
@@ -64,6 +65,54 @@ when_here x s (t ∷ ts) h (suc i) e f = by_test (eqb t.entry.addr x) refl (when
     by_test true k g = ap (λ (z : ThreadSite). z.when) (h 0 t refl (eqb-true t.entry.addr x k))
     by_test false k g = g
 
+-- and so is how many instructions its event has more
+pub further_here : (x : ℕ) (s : ThreadSite) (ss : List ThreadSite) → ((i : ℕ) (t : ThreadSite) → slice_get ss i ≡ Some t → t.entry.addr ≡ x → t ≡ s)
+    → (i : ℕ) → slice_get ss i ≡ Some s → s.entry.addr ≡ x → further_at ss x ≡ cond (is_keeping s.event) 5 0
+further_here x s [] h i e f = absurd cc
+further_here x s (t ∷ ts) h zero e f =
+    let same : t ≡ s = some_is t s e in
+    cond-true (eqb t.entry.addr x) (cond (is_keeping t.event) 5 0) (further_at ts x) (eq-eqb t.entry.addr x (ap (λ (z : ThreadSite). z.entry.addr) same ∙ f))
+    ∙ ap (λ (z : ThreadSite). cond (is_keeping z.event) 5 0) same
+further_here x s (t ∷ ts) h (suc i) e f = by_test (eqb t.entry.addr x) refl (further_here x s ts (λ j u k g. h (suc j) u k g) i e f)
+  where
+    by_test : (b : Bool) → eqb t.entry.addr x ≡ b → further_at ts x ≡ cond (is_keeping s.event) 5 0 → cond b (cond (is_keeping t.event) 5 0) (further_at ts x) ≡ cond (is_keeping s.event) 5 0
+    by_test true k g = ap (λ (z : ThreadSite). cond (is_keeping z.event) 5 0) (h 0 t refl (eqb-true t.entry.addr x k))
+    by_test false k g = g
+
+-- where one site alone passes a test, the first site found by it is that one
+pub first_site : (p : ThreadSite → Bool) (found : List ThreadSite → Option ThreadSite) → found [] ≡ None → ((t : ThreadSite) (ts : List ThreadSite) → found (t ∷ ts) ≡ site_if (p t) t (found ts))
+    → (s : ThreadSite) (ss : List ThreadSite) → ((i : ℕ) (t : ThreadSite) → slice_get ss i ≡ Some t → p t ≡ true → t ≡ s) → (i : ℕ) → slice_get ss i ≡ Some s → p s ≡ true → found ss ≡ Some s
+first_site p found none next s [] h i e f = absurd cc
+first_site p found none next s (t ∷ ts) h zero e f = next t ts ∙ ap (λ b. site_if b t (found ts)) (ap p (some_is t s e) ∙ f) ∙ ap Some (some_is t s e)
+first_site p found none next s (t ∷ ts) h (suc i) e f = next t ts ∙ by_test (p t) refl (first_site p found none next s ts (λ j u k g. h (suc j) u k g) i e f)
+  where
+    by_test : (b : Bool) → p t ≡ b → found ts ≡ Some s → site_if b t (found ts) ≡ Some s
+    by_test true k g = ap Some (h 0 t refl k)
+    by_test false k g = g
+
+-- where no site passes it, none is found
+pub no_first : (p : ThreadSite → Bool) (found : List ThreadSite → Option ThreadSite) → found [] ≡ None → ((t : ThreadSite) (ts : List ThreadSite) → found (t ∷ ts) ≡ site_if (p t) t (found ts))
+    → (ss : List ThreadSite) → ((i : ℕ) (t : ThreadSite) → slice_get ss i ≡ Some t → p t ≡ false) → found ss ≡ None
+no_first p found none next [] h = none
+no_first p found none next (t ∷ ts) h = next t ts ∙ ap (λ b. site_if b t (found ts)) (h 0 t refl) ∙ no_first p found none next ts (λ j u k. h (suc j) u k)
+
+-- the number of the one site that passes a test
+pub first_number : (p : ThreadSite → Bool) (found : List ThreadSite → List ℕ) → found [] ≡ [] → ((t : ThreadSite) (ts : List ThreadSite) → found (t ∷ ts) ≡ cond (p t) (t.number ∷ []) (found ts))
+    → (s : ThreadSite) (ss : List ThreadSite) → ((i : ℕ) (t : ThreadSite) → slice_get ss i ≡ Some t → p t ≡ true → t ≡ s) → (i : ℕ) → slice_get ss i ≡ Some s → p s ≡ true → found ss ≡ s.number ∷ []
+first_number p found none next s [] h i e f = absurd cc
+first_number p found none next s (t ∷ ts) h zero e f = next t ts ∙ cond-true (p t) _ _ (ap p (some_is t s e) ∙ f) ∙ ap (λ (z : ThreadSite). z.number ∷ []) (some_is t s e)
+first_number p found none next s (t ∷ ts) h (suc i) e f = next t ts ∙ by_test (p t) refl (first_number p found none next s ts (λ j u k g. h (suc j) u k g) i e f)
+  where
+    by_test : (b : Bool) → p t ≡ b → found ts ≡ s.number ∷ [] → cond b (t.number ∷ []) (found ts) ≡ s.number ∷ []
+    by_test true k g = ap (λ (z : ThreadSite). z.number ∷ []) (h 0 t refl k)
+    by_test false k g = g
+
+-- where none passes, there is no number
+pub no_number : (p : ThreadSite → Bool) (found : List ThreadSite → List ℕ) → found [] ≡ [] → ((t : ThreadSite) (ts : List ThreadSite) → found (t ∷ ts) ≡ cond (p t) (t.number ∷ []) (found ts))
+    → (ss : List ThreadSite) → ((i : ℕ) (t : ThreadSite) → slice_get ss i ≡ Some t → p t ≡ false) → found ss ≡ []
+no_number p found none next [] h = none
+no_number p found none next (t ∷ ts) h = next t ts ∙ cond-false (p t) _ _ (h 0 t refl) ∙ no_number p found none next ts (λ j u k. h (suc j) u k)
+
 -- where no site's relocated code begins at an address, no site is found for it
 pub relocated_none : (x : ℕ) (ss : List ThreadSite) → ((i : ℕ) (t : ThreadSite) → slice_get ss i ≡ Some t → work_at t ≡ x → ⊥) → relocated_at ss x ≡ None
 relocated_none x [] h = refl
@@ -88,11 +137,13 @@ pub part_high : (p : Part) (x : ℕ) (s : ThreadSite) → s.place + part_to p s.
 part_high p x s h = false_from_ne_true (is_part p x s) (λ k. let q = part_is p x s k in omega (arith, q.1, h))
 
 -- no part goes beyond the first byte after the event
-pub part_small : (p : Part) (e : Option Base) (cs : List Comparison) → part_to p e cs ≤ event_len e cs + 1
+pub part_small : (p : Part) (e : Option Kind) (cs : List Comparison) → part_to p e cs ≤ event_len e cs + 1
 part_small Whole e cs = omega arith
-part_small Save e cs = by_test (is_saving e cs)
+part_small Save None cs = omega arith
+part_small Save (Some (Keeps n)) cs = omega arith
+part_small Save (Some (Marks d)) cs = by_test (is_saving (Some (Marks d)) cs)
   where
-    by_test : (b : Bool) → cond b 1 0 ≤ event_len e cs + 1
+    by_test : (b : Bool) → cond b 1 0 ≤ event_len (Some (Marks d)) cs + 1
     by_test true = omega arith
     by_test false = omega arith
 part_small Saved e cs = by_test (is_saving e cs)
@@ -100,72 +151,78 @@ part_small Saved e cs = by_test (is_saving e cs)
     by_test : (b : Bool) → cond b (event_len e cs) 0 ≤ event_len e cs + 1
     by_test true = omega arith
     by_test false = omega arith
-part_small Marked (Some b) cs = omega arith
+part_small Marked (Some k) cs = omega arith
 part_small Marked None cs = omega arith
+part_small Unfilled (Some (Keeps n)) cs = omega arith
+part_small Unfilled (Some (Marks b)) cs = omega arith
+part_small Unfilled None cs = omega arith
 
 -- the instruction that saves rax is one of the event's
-pub save_small : (e : Option Base) (cs : List Comparison) → part_to Save e cs ≤ event_len e cs
-save_small (Some Cover) [] = omega arith
-save_small (Some Cover) (c ∷ cs) = omega arith
-save_small (Some Count) cs = omega arith
+pub save_small : (e : Option Kind) (cs : List Comparison) → part_to Save e cs ≤ event_len e cs
+save_small (Some (Marks Cover)) [] = omega arith
+save_small (Some (Marks Cover)) (c ∷ cs) = omega arith
+save_small (Some (Marks Count)) cs = omega arith
+save_small (Some (Keeps n)) cs = omega arith
 save_small None cs = omega arith
 
 -- an event marks before the relocated code
-pub mark_from : (e : Option Base) (cs : List Comparison) → part_from Marked e cs ≤ event_len e cs
-mark_from (Some Cover) [] = omega arith
-mark_from (Some Cover) (c ∷ cs) = omega arith
-mark_from (Some Count) cs = omega arith
+pub mark_from : (e : Option Kind) (cs : List Comparison) → part_from Marked e cs ≤ event_len e cs
+mark_from (Some (Marks Cover)) [] = omega arith
+mark_from (Some (Marks Cover)) (c ∷ cs) = omega arith
+mark_from (Some (Marks Count)) cs = omega arith
+mark_from (Some (Keeps n)) cs = omega arith
 mark_from None cs = omega arith
 
 -- it doesn't mark before its first instruction
-pub mark_late : (e : Option Base) (cs : List Comparison) → 0 < part_to Marked e cs → 0 < part_from Marked e cs
-mark_late (Some Cover) [] h = omega arith
-mark_late (Some Cover) (c ∷ cs) h = omega arith
-mark_late (Some Count) cs h = omega arith
+pub mark_late : (e : Option Kind) (cs : List Comparison) → 0 < part_to Marked e cs → 0 < part_from Marked e cs
+mark_late (Some (Marks Cover)) [] h = omega arith
+mark_late (Some (Marks Cover)) (c ∷ cs) h = omega arith
+mark_late (Some (Marks Count)) cs h = omega arith
+mark_late (Some (Keeps n)) cs h = omega arith
 mark_late None cs h = absurd (omega (arith, h))
 
 -- what is after the mark ends with the first byte of the relocated code
-pub mark_end : (e : Option Base) (cs : List Comparison) → 0 < part_to Marked e cs → part_to Marked e cs ≡ event_len e cs + 1
-mark_end (Some b) cs h = refl
+pub mark_end : (e : Option Kind) (cs : List Comparison) → 0 < part_to Marked e cs → part_to Marked e cs ≡ event_len e cs + 1
+mark_end (Some k) cs h = refl
 mark_end None cs h = absurd (omega (arith, h))
 
 -- each event marks
-pub mark_some : (e : Option Base) (cs : List Comparison) (b : Base) → e ≡ Some b → 0 < part_to Marked e cs
-mark_some (Some d) cs b h = omega arith
-mark_some None cs b h = absurd cc
+pub mark_some : (e : Option Kind) (cs : List Comparison) (k : Kind) → e ≡ Some k → 0 < part_to Marked e cs
+mark_some (Some d) cs k h = omega arith
+mark_some None cs k h = absurd cc
 
 -- an event that saves rax has the bytes that it is said
-pub saving_size : (b : Base) (cs : List Comparison) → is_saving (Some b) cs ≡ true → event_len (Some b) cs ≡ saving_len b cs
+pub saving_size : (b : Base) (cs : List Comparison) → is_saving (Some (Marks b)) cs ≡ true → event_len (Some (Marks b)) cs ≡ saving_len b cs
 saving_size Cover [] h = absurd (false≢true h)
 saving_size Cover (c ∷ cs) h = refl
 saving_size Count cs h = refl
 
 -- and its instructions
-pub saving_code_is : (b : Base) (cs : List Comparison) (p i : ℕ) → is_saving (Some b) cs ≡ true → thread_event b cs p i ≡ saving_event b cs p i
+pub saving_code_is : (b : Base) (cs : List Comparison) (p i : ℕ) → is_saving (Some (Marks b)) cs ≡ true → thread_event b cs p i ≡ saving_event b cs p i
 saving_code_is Cover [] p i h = absurd (false≢true h)
 saving_code_is Cover (c ∷ cs) p i h = refl
 saving_code_is Count cs p i h = refl
 
 -- what is after its mark begins at the fourth point of those that it always has
-pub saving_mark : (b : Base) (cs : List Comparison) → is_saving (Some b) cs ≡ true → part_from Marked (Some b) cs ≡ offset b cs At4
+pub saving_mark : (b : Base) (cs : List Comparison) → is_saving (Some (Marks b)) cs ≡ true → part_from Marked (Some (Marks b)) cs ≡ offset b cs At4
 saving_mark Cover [] h = absurd (false≢true h)
 saving_mark Cover (c ∷ cs) h = refl
 saving_mark Count cs h = refl
 
 -- it has each point
-pub saving_points : (b : Base) (cs : List Comparison) (k : Point) → is_saving (Some b) cs ≡ true → has_point (Some b) cs k ≡ is_inside k
+pub saving_points : (b : Base) (cs : List Comparison) (k : Point) → is_saving (Some (Marks b)) cs ≡ true → has_point (Some (Marks b)) cs k ≡ is_inside k
 saving_points Cover [] k h = absurd (false≢true h)
 saving_points Cover (c ∷ cs) k h = refl
 saving_points Count cs k h = refl
 
 -- an event that doesn't save rax, though there is one, covers under no condition
-pub store_alone : (b : Base) (cs : List Comparison) → is_saving (Some b) cs ≡ false → (b ≡ Cover) × (cs ≡ [])
+pub store_alone : (b : Base) (cs : List Comparison) → is_saving (Some (Marks b)) cs ≡ false → (b ≡ Cover) × (cs ≡ [])
 store_alone Cover [] h = (refl, refl)
 store_alone Cover (c ∷ cs) h = absurd (true≢false h)
 store_alone Count cs h = absurd (true≢false h)
 
 -- the event of a site that saves rax has the bytes that it is said
-pub counted_len : (s : ThreadSite) (b : Base) → s.event ≡ Some b → is_saving s.event s.when ≡ true → event_len s.event s.when ≡ saving_len b s.when
+pub counted_len : (s : ThreadSite) (b : Base) → s.event ≡ Some (Marks b) → is_saving s.event s.when ≡ true → event_len s.event s.when ≡ saving_len b s.when
 counted_len s b e h = ap (λ o. event_len o s.when) e ∙ saving_size b s.when (sym (ap (λ o. is_saving o s.when) e) ∙ h)
 
 -- a site without an event has no code before its relocated code
@@ -177,7 +234,7 @@ pub point_inside : (s : ThreadSite) (k : Point) → is_inside k ≡ true → poi
 point_inside s k i = cond-true (is_inside k) (s.place + offset_if s.event s.when k) (work_at s) i
 
 -- so does each point of a site whose event saves rax
-pub point_counted : (s : ThreadSite) (b : Base) (k : Point) → s.event ≡ Some b → is_saving s.event s.when ≡ true → point_at s k ≡ s.place + offset b s.when k
+pub point_counted : (s : ThreadSite) (b : Base) (k : Point) → s.event ≡ Some (Marks b) → is_saving s.event s.when ≡ true → point_at s k ≡ s.place + offset b s.when k
 point_counted s b At7 e h = ap (λ z. s.place + z) (counted_len s b e h)
 point_counted s b At0 e h = ap (λ o. s.place + offset_if o s.when At0) e
 point_counted s b At1 e h = ap (λ o. s.place + offset_if o s.when At1) e
@@ -194,12 +251,13 @@ pub inside_low : (b : Base) (cs : List Comparison) (k : Point) (c : Core) → is
 inside_low b cs k c i d = let n = ends_low b cs k c i d in let m = insn_some b k in omega (arith, n, m)
 
 -- past its first point only an event that saves rax has points
-pub point_saving : (e : Option Base) (cs : List Comparison) (k : Point) → has_point e cs k ≡ true → has_rax k ≡ true → is_saving e cs ≡ true
+pub point_saving : (e : Option Kind) (cs : List Comparison) (k : Point) → has_point e cs k ≡ true → has_rax k ≡ true → is_saving e cs ≡ true
 point_saving None cs k h n = absurd (false≢true h)
-point_saving (Some Cover) [] At0 h n = absurd (false≢true n)
-point_saving (Some Cover) [] k h n = absurd (false≢true h)
-point_saving (Some Cover) (c ∷ cs) k h n = refl
-point_saving (Some Count) cs k h n = refl
+point_saving (Some (Keeps m)) cs k h n = absurd (false≢true h)
+point_saving (Some (Marks Cover)) [] At0 h n = absurd (false≢true n)
+point_saving (Some (Marks Cover)) [] k h n = absurd (false≢true h)
+point_saving (Some (Marks Cover)) (c ∷ cs) k h n = refl
+point_saving (Some (Marks Count)) cs k h n = refl
 
 -- each of them lies after the first byte
 rax_late : (b : Base) (cs : List Comparison) (k : Point) → has_rax k ≡ true → 0 < offset b cs k
@@ -209,34 +267,37 @@ rax_late b cs At1 h = omega arith
 rax_late b cs k h = omega arith
 
 -- and so between the save of rax and its restore
-pub point_saved : (e : Option Base) (cs : List Comparison) (k : Point) (c : Core) → has_point e cs k ≡ true → has_rax k ≡ true → IsDecided cs k c
+pub point_saved : (e : Option Kind) (cs : List Comparison) (k : Point) (c : Core) → has_point e cs k ≡ true → has_rax k ≡ true → IsDecided cs k c
     → (part_from Saved e cs ≤ offset_if e cs k) × (offset_if e cs k < part_to Saved e cs)
 point_saved None cs k c h n d = absurd (false≢true h)
-point_saved (Some Cover) [] At0 c h n d = absurd (false≢true n)
-point_saved (Some Cover) [] k c h n d = absurd (false≢true h)
-point_saved (Some Cover) (x ∷ xs) k c h n d = (rax_late Cover (x ∷ xs) k n, inside_low Cover (x ∷ xs) k c h d)
-point_saved (Some Count) cs k c h n d = (rax_late Count cs k n, inside_low Count cs k c h d)
+point_saved (Some (Keeps m)) cs k c h n d = absurd (false≢true h)
+point_saved (Some (Marks Cover)) [] At0 c h n d = absurd (false≢true n)
+point_saved (Some (Marks Cover)) [] k c h n d = absurd (false≢true h)
+point_saved (Some (Marks Cover)) (x ∷ xs) k c h n d = (rax_late Cover (x ∷ xs) k n, inside_low Cover (x ∷ xs) k c h d)
+point_saved (Some (Marks Count)) cs k c h n d = (rax_late Count cs k n, inside_low Count cs k c h d)
 
 -- a point that an event has lies in its code
-pub point_low : (e : Option Base) (cs : List Comparison) (k : Point) (c : Core) → has_point e cs k ≡ true → IsDecided cs k c → offset_if e cs k < event_len e cs
+pub point_low : (e : Option Kind) (cs : List Comparison) (k : Point) (c : Core) → has_point e cs k ≡ true → IsDecided cs k c → offset_if e cs k < event_len e cs
 point_low None cs k c h d = absurd (false≢true h)
-point_low (Some Cover) [] At0 c h d = omega arith
-point_low (Some Cover) [] k c h d = absurd (false≢true h)
-point_low (Some Cover) (x ∷ xs) k c h d = inside_low Cover (x ∷ xs) k c h d
-point_low (Some Count) cs k c h d = inside_low Count cs k c h d
+point_low (Some (Keeps m)) cs k c h d = absurd (false≢true h)
+point_low (Some (Marks Cover)) [] At0 c h d = omega arith
+point_low (Some (Marks Cover)) [] k c h d = absurd (false≢true h)
+point_low (Some (Marks Cover)) (x ∷ xs) k c h d = inside_low Cover (x ∷ xs) k c h d
+point_low (Some (Marks Count)) cs k c h d = inside_low Count cs k c h d
 
 -- which is its first byte
-pub offset_first : (e : Option Base) (cs : List Comparison) → offset_if e cs At0 ≡ 0
+pub offset_first : (e : Option Kind) (cs : List Comparison) → offset_if e cs At0 ≡ 0
 offset_first None cs = refl
-offset_first (Some b) cs = refl
+offset_first (Some (Marks b)) cs = refl
+offset_first (Some (Keeps n)) cs = refl
 
 -- an event that covers by one store has no other
-pub store_first : (k : Point) → has_point (Some Cover) [] k ≡ true → k ≡ At0
+pub store_first : (k : Point) → has_point (Some (Marks Cover)) [] k ≡ true → k ≡ At0
 store_first At0 h = refl
 store_first k h = absurd (false≢true h)
 
 -- each event has a first point
-pub point_first : (b : Base) (cs : List Comparison) → has_point (Some b) cs At0 ≡ true
+pub point_first : (b : Base) (cs : List Comparison) → has_point (Some (Marks b)) cs At0 ≡ true
 point_first Cover [] = refl
 point_first Cover (c ∷ cs) = refl
 point_first Count cs = refl
@@ -354,3 +415,120 @@ module _ (r : Threading) (A : AreEntries r.original r.listed) (S : IsThreadSound
   -- a step where relocated code begins is an effect step
   pub effect_there : (x : ℕ) (s : ThreadSite) → is_kept r x ≡ false → relocated_at r.sites x ≡ Some s → is_effect r x ≡ true
   effect_there x s h e = ap₂ (λ b o. b || is_there o) h e
+
+  -- an address in a ring's event is in the code of its site
+  pub ring_in : (s : ThreadSite) (h : Contains r.sites s) (n x : ℕ) → s.event ≡ Some (Keeps n) → s.place ≤ x → x ≤ s.place + ring_len → is_code_of r s (S.sites s h) x
+  ring_in s h n x e a b = let len : event_len s.event s.when ≡ ring_len = ap (λ o. event_len o s.when) e in in_code s h x a (omega (arith, b, len))
+
+  -- so the site is the one at whose code the address is
+  pub ring_site : (s t : ThreadSite) (h : Contains r.sites s) (k : Contains r.sites t) (n x : ℕ) → t.event ≡ Some (Keeps n) → t.place ≤ x → x ≤ t.place + ring_len → is_code_of r s (S.sites s h) x → t ≡ s
+  ring_site s t h k n x e a b c = S.apart t s k h x (ring_in t k n x e a b) c
+
+  -- an event that keeps a ring says so
+  pub keeping_is : (o : Option Kind) → is_keeping o ≡ true → (n : ℕ) × (o ≡ Some (Keeps n))
+  keeping_is None e = absurd (false≢true e)
+  keeping_is (Some (Marks b)) e = absurd (false≢true e)
+  keeping_is (Some (Keeps n)) e = (n, refl)
+
+  -- a site at whose LOCK XADD, or at whose fill, the address is has it in its code
+  pub claims_in : (s : ThreadSite) (h : Contains r.sites s) (x : ℕ) → claims_at x s ≡ true → is_code_of r s (S.sites s h) x
+  claims_in s h x e =
+      let q = and_parts (is_keeping s.event) (eqb (s.place + 25) x) e in
+      let k = keeping_is s.event q.0 in
+      let z = eqb-true (s.place + 25) x q.1 in
+      ring_in s h k.0 x k.1 (omega (arith, z)) (omega (arith, z))
+
+  -- where the slot is filled, too
+  pub fills_in : (s : ThreadSite) (h : Contains r.sites s) (x : ℕ) → fills_at x s ≡ true → is_code_of r s (S.sites s h) x
+  fills_in s h x e =
+      let q = and_parts (is_keeping s.event) (eqb (s.place + 37) x) e in
+      let k = keeping_is s.event q.0 in
+      let z = eqb-true (s.place + 37) x q.1 in
+      ring_in s h k.0 x k.1 (omega (arith, z)) (omega (arith, z))
+
+  -- in the code of a site no other claims
+  pub claiming_only : (s : ThreadSite) (h : Contains r.sites s) (x : ℕ) → is_code_of r s (S.sites s h) x → claims_at x s ≡ false → claiming_at r.sites x ≡ None
+  claiming_only s h x c e = no_first (claims_at x) (λ ss. claiming_at ss x) refl (λ t ts. refl) r.sites (λ i t g. false_from_ne_true (claims_at x t) (λ k.
+      let m = contains_at r.sites i t g in
+      true≢false (sym k ∙ ap (claims_at x) (S.apart t s m h x (claims_in t m x k) c) ∙ e)))
+
+  -- nor fills
+  pub filling_only : (s : ThreadSite) (h : Contains r.sites s) (x : ℕ) → is_code_of r s (S.sites s h) x → is_filling r x ≡ fills_at x s
+  filling_only s h x c = any_only (fills_at x) r.sites s h (λ t k e. S.apart t s k h x (fills_in t k x e) c)
+
+  -- a site that claims at an address is found there
+  pub claiming_here : (s : ThreadSite) (h : Contains r.sites s) (x : ℕ) → claims_at x s ≡ true → claiming_at r.sites x ≡ Some s
+  claiming_here s h x e =
+      let i = place_of r.sites s h in
+      first_site (claims_at x) (λ ss. claiming_at ss x) refl (λ t ts. refl) s r.sites (λ j t g k. S.apart t s (contains_at r.sites j t g) h x (claims_in t (contains_at r.sites j t g) x k) (claims_in s h x e)) i.0 i.1 e
+
+  -- the thread's claim, where it is still to come to its effect step, by the one site in whose code it is
+  pub claimed_here : (s : ThreadSite) (h : Contains r.sites s) (x : ℕ) → is_code_of r s (S.sites s h) x → claimed_at r.sites x ≡ cond (is_keeping s.event && is_part Marked x s) (s.number ∷ []) []
+  claimed_here s h x c = by_test (is_keeping s.event && is_part Marked x s) refl
+    where
+      test : ThreadSite → Bool
+      test t = is_keeping t.event && is_part Marked x t
+
+      same : (t : ThreadSite) → Contains r.sites t → test t ≡ true → t ≡ s
+      same t k e = S.apart t s k h x (part_in Marked t k x (and_parts (is_keeping t.event) (is_part Marked x t) e).1) c
+
+      by_test : (b : Bool) → test s ≡ b → claimed_at r.sites x ≡ cond b (s.number ∷ []) []
+      by_test true e = let i = place_of r.sites s h in
+          first_number test (λ ss. claimed_at ss x) refl (λ t ts. refl) s r.sites (λ j t g k. same t (contains_at r.sites j t g) k) i.0 i.1 e
+      by_test false e = no_number test (λ ss. claimed_at ss x) refl (λ t ts. refl) r.sites (λ j t g. false_from_ne_true (test t) (λ k.
+          true≢false (sym k ∙ ap test (same t (contains_at r.sites j t g) k) ∙ e)))
+
+  -- at an address that isn't new nothing is claimed
+  pub old_unclaimed : (x : ℕ) → is_new r x ≡ false → claimed_at r.sites x ≡ []
+  old_unclaimed x n = no_number (λ t. is_keeping t.event && is_part Marked x t) (λ ss. claimed_at ss x) refl (λ t ts. refl) r.sites (λ j t g. false_from_ne_true (is_keeping t.event && is_part Marked x t) (λ k.
+      true≢false (sym (and_parts (is_keeping t.event) (is_part Marked x t) k).1 ∙ old_uncounted x t (contains_at r.sites j t g) n)))
+
+  -- nor is a slot claimed there
+  pub old_unclaiming : (x : ℕ) → is_new r x ≡ false → claiming_at r.sites x ≡ None
+  old_unclaiming x n = no_first (claims_at x) (λ ss. claiming_at ss x) refl (λ t ts. refl) r.sites (λ i t g. false_from_ne_true (claims_at x t) (λ k.
+      let m = contains_at r.sites i t g in true≢false (sym (code_new t m x (claims_in t m x k)) ∙ n)))
+
+  -- nor filled
+  pub old_unfilling : (x : ℕ) → is_new r x ≡ false → is_filling r x ≡ false
+  old_unfilling x n = any_none (fills_at x) r.sites (λ t k e. true≢false (sym (code_new t k x (fills_in t k x e)) ∙ n))
+
+  -- the number of the site at its address
+  pub ringing_here : (s : ThreadSite) (h : Contains r.sites s) (x : ℕ) → s.entry.addr ≡ x → ringing_at r.sites x ≡ cond (is_keeping s.event) (s.number ∷ []) []
+  ringing_here s h x e = by_test (is_keeping s.event) refl
+    where
+      test : ThreadSite → Bool
+      test t = is_keeping t.event && eqb t.entry.addr x
+
+      same : (t : ThreadSite) → Contains r.sites t → test t ≡ true → t ≡ s
+      same t k g = S.once t s k h (eqb-true t.entry.addr x (and_parts (is_keeping t.event) (eqb t.entry.addr x) g).1 ∙ sym e)
+
+      by_test : (b : Bool) → is_keeping s.event ≡ b → ringing_at r.sites x ≡ cond b (s.number ∷ []) []
+      by_test true k = let i = place_of r.sites s h in
+          first_number test (λ ss. ringing_at ss x) refl (λ t ts. refl) s r.sites (λ j t g m. same t (contains_at r.sites j t g) m) i.0 i.1 (and_from (is_keeping s.event) (eqb s.entry.addr x) k (eq-eqb s.entry.addr x e))
+      by_test false k = no_number test (λ ss. ringing_at ss x) refl (λ t ts. refl) r.sites (λ j t g. false_from_ne_true (test t) (λ m.
+          true≢false (sym (and_parts (is_keeping t.event) (eqb t.entry.addr x) m).0 ∙ ap (λ (z : ThreadSite). is_keeping z.event) (same t (contains_at r.sites j t g) m) ∙ k)))
+
+  -- at an address of no site there is none
+  pub ringing_none : (x : ℕ) → is_site r x ≡ false → ringing_at r.sites x ≡ []
+  ringing_none x n = no_number (λ t. is_keeping t.event && eqb t.entry.addr x) (λ ss. ringing_at ss x) refl (λ t ts. refl) r.sites (λ j t g. false_from_ne_true (is_keeping t.event && eqb t.entry.addr x) (λ m.
+      true≢false (sym (any_at (λ (z : ThreadSite). eqb z.entry.addr x) r.sites j t g (and_parts (is_keeping t.event) (eqb t.entry.addr x) m).1) ∙ n)))
+
+  -- from its relocated code on a site's code neither claims nor fills, and no thread is between a claim and its fill there
+  pub behind_event : (s : ThreadSite) (h : Contains r.sites s) (x : ℕ) → is_code_of r s (S.sites s h) x → work_at s ≤ x → (is_unfilled r x ≡ false) × (claiming_at r.sites x ≡ None) × (is_filling r x ≡ false)
+  behind_event s h x c l = (
+    part_only s h x Unfilled c ∙ part_past Unfilled x s (small s.event s.when) l,
+    claiming_only s h x c (false_from_ne_true (claims_at x s) (λ e. never (s.place + 25) (and_parts (is_keeping s.event) (eqb (s.place + 25) x) e) (omega arith))),
+    filling_only s h x c ∙ false_from_ne_true (fills_at x s) (λ e. never (s.place + 37) (and_parts (is_keeping s.event) (eqb (s.place + 37) x) e) (omega arith)),
+  )
+    where
+      small : (e : Option Kind) (cs : List Comparison) → part_to Unfilled e cs ≤ event_len e cs
+      small (Some (Keeps n)) cs = omega arith
+      small (Some (Marks b)) cs = omega arith
+      small None cs = omega arith
+
+      never : (y : ℕ) → (is_keeping s.event ≡ true) × (eqb y x ≡ true) → y < s.place + ring_len → ⊥
+      never y q b =
+          let k = keeping_is s.event q.0 in
+          let z = eqb-true y x q.1 in
+          let len : event_len s.event s.when ≡ ring_len = ap (λ o. event_len o s.when) k.1 in
+          omega (arith, z, len, l, b)

@@ -4,6 +4,8 @@ use Rattle.std.specs.Option.{option_map}
 use Rattle.std.proofs.lemmas.List.{append-nil}
 use Rattle.pun_base.specs.declared.action.Base.{Base}
 use Rattle.pun_base.specs.declared.action.Base.TheVariants.{Cover, Count}
+use Rattle.pun_base.specs.declared.action.Action.{Action}
+use Rattle.pun_base.specs.declared.action.Action.TheVariants as action
 use Rattle.pun_base.specs.declared.action.Comparison.{Comparison}
 use Rattle.pun_base.specs.declared.action.Comparisons.{Comparisons}
 use Rattle.pun_base.specs.declared.action.Comparisons.TheVariants.{One, Two, Three}
@@ -19,7 +21,7 @@ use Rattle.relocate_insn.specs.Relocating.{relocated_by}
 use Rattle.relocate_insn.proofs.CodeRuns.{told_low}
 use Rattle.trampoline.specs.Trampolines.{back_if}
 use Rattle.trampoline.proofs.TrampolineBytes.{back_long}
-use Rattle.thread_runs.specs.ThreadCode.{thread_relocated, call_reg_code, thread_event, checking_len, restoring_code, marking_code, marking_len, checking_code, saving_event, saving_len, event_len, event_if}
+use Rattle.thread_runs.specs.ThreadCode.{Kind, Marks, Keeps, thread_relocated, call_reg_code, thread_event, checking_len, restoring_code, marking_code, marking_len, checking_code, saving_event, saving_len, event_len, event_if}
 use Rattle.thread_runs.specs.Building.{call_register, some_register, work_by, when_of, size_if}
 use Rattle.thread_runs.proofs.ComparisonCode.{checking_few, checking_long}
 use Rattle.thread_runs.proofs.EventCode.{mark_bytes}
@@ -43,7 +45,7 @@ work_is (Asked form) p f next to r work goes h e g = let q : r ≡ None = cc in 
 work_is Ending p f next to r work goes h e g = let q : r ≡ None = cc in λ i. work_by (q i) (e i) (g i) to next
 
 -- a trampoline that calls through no register has as many bytes as its size says
-plain : (b : Option Base) (cs : List Comparison) (x : Insn) (len addr next to : ℕ) (r : Option ℕ) (work : List ℕ) (goes : Bool) → r ≡ None → goes ≡ falls x → displaced_len x len addr ≡ Some (length work)
+plain : (b : Option Kind) (cs : List Comparison) (x : Insn) (len addr next to : ℕ) (r : Option ℕ) (work : List ℕ) (goes : Bool) → r ≡ None → goes ≡ falls x → displaced_len x len addr ≡ Some (length work)
     → option_map (λ n. event_len b cs + n + cond (falls x) 5 0) (displaced_len x len addr) ≡ Some (event_len b cs + length (work_by r work goes to next))
 plain b cs x len addr next to r work goes q g d =
     let l : length (work_by r work goes to next) ≡ length work + length (back_if goes (to + length work) next) = ap (λ z. length (work_by z work goes to next)) q ∙ length-append work (back_if goes (to + length work) next) in
@@ -51,7 +53,7 @@ plain b cs x len addr next to r work goes q g d =
     ap (option_map (λ n. event_len b cs + n + cond (falls x) 5 0)) d ∙ ap Some (omega (arith, l, back))
 
 -- the work has as many bytes as the relocated code of elsewhere and the jump back
-pub work_long : (b : Option Base) (cs : List Comparison) (x : Insn) (len addr next to : ℕ) (r : Option ℕ) (work : List ℕ) (goes : Bool) → call_register x ≡ Some r → goes ≡ falls x → displaced_len x len addr ≡ Some (length work)
+pub work_long : (b : Option Kind) (cs : List Comparison) (x : Insn) (len addr next to : ℕ) (r : Option ℕ) (work : List ℕ) (goes : Bool) → call_register x ≡ Some r → goes ≡ falls x → displaced_len x len addr ≡ Some (length work)
     → size_if b cs x len addr ≡ Some (event_len b cs + length (work_by r work goes to next))
 work_long b cs (Exact (Call (Through (Reg a)))) len addr next to r work goes h g d = by_rsp (eqb a 4) h
   where
@@ -82,14 +84,15 @@ saving_long b cs p i = omega (
 )
 
 -- an event has as many bytes as it is said
-pub event_long : (b : Option Base) (cs : List Comparison) (p i : ℕ) → length (event_if b cs p i) ≡ event_len b cs
-event_long (Some Cover) [] p i = refl
-event_long (Some Cover) (c ∷ cs) p i = saving_long Cover (c ∷ cs) p i
-event_long (Some Count) cs p i = saving_long Count cs p i
+pub event_long : (b : Option Kind) (cs : List Comparison) (p i : ℕ) → length (event_if b cs p i) ≡ event_len b cs
+event_long (Some (Marks Cover)) [] p i = refl
+event_long (Some (Marks Cover)) (c ∷ cs) p i = saving_long Cover (c ∷ cs) p i
+event_long (Some (Marks Count)) cs p i = saving_long Count cs p i
+event_long (Some (Keeps n)) cs p i = refl
 event_long None cs p i = refl
 
 -- a trampoline has the bytes of its event, where there is one, and those after it
-pub event_more : (b : Option Base) (cs : List Comparison) (p i : ℕ) (w : List ℕ) → event_len b cs + length w ≡ length (event_if b cs p i ++ w)
+pub event_more : (b : Option Kind) (cs : List Comparison) (p i : ℕ) (w : List ℕ) → event_len b cs + length w ≡ length (event_if b cs p i ++ w)
 event_more b cs p i w = let n = event_long b cs p i in omega (arith, n, length-append (event_if b cs p i) w)
 
 -- a condition that is asked has a comparison: the event saves rax
@@ -100,22 +103,26 @@ asked_code Cover (Three x y z) p i = refl
 asked_code Count list p i = refl
 
 -- and has these bytes
-pub asked_len : (b : Base) (list : Comparisons) → event_len (Some b) (listed list) ≡ 23 + marking_len b + checking_len (listed list)
+pub asked_len : (b : Base) (list : Comparisons) → event_len (Some (Marks b)) (listed list) ≡ 23 + marking_len b + checking_len (listed list)
 asked_len Cover (One x) = omega arith
 asked_len Cover (Two x y) = omega arith
 asked_len Cover (Three x y z) = omega arith
 asked_len Count list = omega arith
 
 -- it has up to three
-pub listed_few : (when : Option Comparisons) → length (when_of when) ≤ 3
+pub listed_few : (event : Option Action) → length (when_of event) ≤ 3
 listed_few None = omega arith
-listed_few (Some (One x)) = omega arith
-listed_few (Some (Two x y)) = omega arith
-listed_few (Some (Three x y z)) = omega arith
+listed_few (Some action.Cover) = omega arith
+listed_few (Some action.Count) = omega arith
+listed_few (Some (action.Ring n)) = omega arith
+listed_few (Some (action.When b (One x))) = omega arith
+listed_few (Some (action.When b (Two x y))) = omega arith
+listed_few (Some (action.When b (Three x y z))) = omega arith
 
 -- no event has more than 74 bytes
-pub event_few : (e : Option Base) (cs : List Comparison) → length cs ≤ 3 → event_len e cs ≤ 74
-event_few (Some Cover) [] h = omega arith
-event_few (Some Cover) (c ∷ cs) h = let n = checking_few (c ∷ cs) in omega (arith, h, n)
-event_few (Some Count) cs h = let n = checking_few cs in omega (arith, h, n)
+pub event_few : (e : Option Kind) (cs : List Comparison) → length cs ≤ 3 → event_len e cs ≤ 74
+event_few (Some (Marks Cover)) [] h = omega arith
+event_few (Some (Marks Cover)) (c ∷ cs) h = let n = checking_few (c ∷ cs) in omega (arith, h, n)
+event_few (Some (Marks Count)) cs h = let n = checking_few cs in omega (arith, h, n)
+event_few (Some (Keeps n)) cs h = omega arith
 event_few None cs h = omega arith

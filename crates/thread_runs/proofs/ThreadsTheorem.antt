@@ -9,6 +9,7 @@ use Rattle.thread_runs.specs.Guest.{Guest, last_guest}
 use Rattle.thread_runs.specs.Premises.{StandAtStarts}
 use Rattle.thread_runs.specs.StepLaws.{StepLaws}
 use Rattle.thread_runs.specs.Theorem.{AreCounted, AreCovered, last_watch, CanGo, GetsOut, AreFollowed, GetOut, ThreadsAreFollowed}
+use Rattle.thread_runs.specs.Ring.{AreKept}
 use Rattle.thread_runs.specs.GuestDeliveries.{GuestItem, Goes, Takes}
 use Rattle.thread_runs.specs.WatchedDeliveries.{WatchWith, watch_with, IsGone, IsGiven, IsProperRunWith, last_with}
 use Rattle.thread_runs.specs.TheoremWithDeliveries.{IsGuestFollowedWith, AreFollowedWith, GetOutWith, ThreadsAreFollowedWith}
@@ -37,9 +38,9 @@ module _ (r : Threading) (A : AreEntries r.original r.listed) (S : IsThreadSound
       subst (λ (z : List GuestItem). Related r S a z y.watch) (sym g.made)
       (subst (λ (z : Watch). Related r S a (x.made ++ Takes k d ∷ []) z) (sym g.after) (given_kept r A S L a k d x y R g))
 
-  -- along a proper run each guest is followed, counted and covered, and the last one keeps the relation
+  -- along a proper run each guest is followed, counted, covered and kept, and the last one keeps the relation
   along : (a : Guest) (is : List GuestItem) (x : WatchWith) (xs : List WatchWith) → Related r S a x.made x.watch → IsProperRunWith r is x xs
-      → AllByRecursion (λ y. IsGuestFollowedWith r a y × AreCounted r y.watch × AreCovered r y.watch) (x ∷ xs) × Related r S a (last_with x xs).made (last_with x xs).watch
+      → AllByRecursion (λ y. IsGuestFollowedWith r a y × AreCounted r y.watch × AreCovered r y.watch × AreKept r y.watch) (x ∷ xs) × Related r S a (last_with x xs).made (last_with x xs).watch
   along a [] x [] R P = ((shown r A S L a x R, tt), R)
   along a [] x (y ∷ ys) R P = absurd P
   along a (i ∷ is) x [] R P = absurd P

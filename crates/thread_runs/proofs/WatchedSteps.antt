@@ -15,14 +15,15 @@ use Rattle.start_entries.specs.declared.entry.StartEntry.{StartEntry}
 use Rattle.start_entries.specs.Standing.{AreEntries}
 use Rattle.image_step.specs.Listed.{is_start, is_listed_byte}
 use Rattle.thread_runs.specs.Guest.{Thread, Guest, machine_of, thread_of}
-use Rattle.thread_runs.specs.ThreadCode.{mark_at, mark_len, is_saving, slot}
+use Rattle.thread_runs.specs.ThreadCode.{Kind, Marks, Keeps, mark_at, mark_len, position_at, slot_at, ring_len, is_saving, slot, saved_from, saved_len}
 use Rattle.thread_runs.specs.Event.{Point, is_inside, has_point, Holds, IsDecided, HasSaved}
 use Rattle.thread_runs.specs.Event.Point.{At0, At7}
 use Rattle.thread_runs.specs.Threading.{ThreadSite, Threading, next_of, work_at, is_new, is_hidden, is_site, is_kept, relocated_at, is_code_of, IsThreadSound}
-use Rattle.thread_runs.specs.Watching.{Watched, Watch, watch_of, projection, stale_after, watched_after, Watches}
+use Rattle.thread_runs.specs.Watching.{Watched, Claim, Watch, watch_of, projection, stale_after, watched_after, Watches}
 use Rattle.thread_runs.specs.Premises.{StandAtStarts, IsProper}
-use Rattle.thread_runs.specs.Relation.{offset_if, has_rax, point_at, Outside, AtSecond, AtEvent, BehindEffect, IsBeside}
+use Rattle.thread_runs.specs.Relation.{offset_if, has_rax, point_at, Outside, AtSecond, AtEvent, AtRing, BehindEffect, IsBeside}
 use Rattle.thread_runs.specs.Theorem.{AreStartGuests, is_recorded, has_marked, AreCounted, AreCovered}
+use Rattle.thread_runs.specs.Ring.{AreKept}
 use Rattle.thread_runs.specs.GuestDeliveries.{GuestItem}
 use Rattle.thread_runs.specs.WatchedDeliveries.{WatchWith, made_after}
 use Rattle.thread_runs.specs.TheoremWithDeliveries.{IsGuestFollowedWith}
@@ -31,13 +32,16 @@ use Rattle.patch_report.proofs.ListPlaces.{any_at, place_of, some_is, all_in, al
 use Rattle.image_check.proofs.RelatedStates.{allowed_some}
 use Rattle.image_check.proofs.StartPairs.{held_first}
 use Rattle.thread_runs.proofs.ListUpdates.{set_here}
-use Rattle.thread_runs.proofs.ThreadPlaces.{point_counted, store_alone, store_first, offset_first, any_none, effect_kept, effect_there, kept_not, site_here, work_in, point_in, start_old, code_unlisted}
+use Rattle.thread_runs.proofs.ThreadPlaces.{point_counted, store_alone, store_first, offset_first, any_none, effect_kept, effect_there, kept_not, site_here, work_in, point_in, start_old, code_unlisted, ring_in, old_unclaimed}
 use Rattle.thread_runs.proofs.KeptRelation.{kept_by}
 use Rattle.thread_runs.proofs.StandingCode.{fields_of, code_length, work_stands}
 use Rattle.thread_runs.proofs.OutsideSteps.{made_kept, made_displaced, made_second, uncounted, start_uncounted}
 use Rattle.thread_runs.proofs.ThreadEventSteps.{made_event, made_cover}
+use Rattle.thread_runs.proofs.ThreadRingSteps.{made_ring}
+use Rattle.thread_runs.proofs.RingCode.{ring_low}
+use Rattle.thread_runs.proofs.RingLaw.{ring_shown, ring_after}
 use Rattle.thread_runs.proofs.DisplacedSteps.{made_tail, reads_too, at_work, effect_told, made_effect}
-use Rattle.thread_runs.proofs.WatchedRelation.{OnWay, Phase, ThreadKept, shown_after, Ground, Related, base_of, Made}
+use Rattle.thread_runs.proofs.WatchedRelation.{OnWay, Phase, ThreadKept, HasRoom, shown_after, Ground, Related, base_of, Made}
 
 -- where each byte of a range has a permission, none of the range lacks it
 held_none : (p : ℕ) (m : Bytes) (a n : ℕ) → a + n < 2 ^ 64 → ((x : ℕ) → a ≤ x → x < a + n → allows p (m x) ≡ true) → lacking p m a n ≡ None
@@ -128,7 +132,8 @@ module _ (r : Threading) (A : AreEntries r.original r.listed) (S : IsThreadSound
           (k, set_here w.threads k m.one (record { now = thread_of m.to; projected = projection r m.one w.mem m.to }) m.there)
 
       done : (m' : Bytes) → Made r S (stale_after r w.stale m.one m.fields (machine_of w.mem m.one.now)) R.end.mem m' m.one w.mem m.to → Related r S a (made_after r k m.one made) (watched_after r k w m.one m.fields m.to)
-      done m' M = kept_by r S L.slots a made w k m.one m.there m.fields m.to m.steps R m' P.apart stand M
+      done m' M = kept_by r S L.slots L.ring_slots a made w k m.one m.there m.fields m.to m.steps R m' P.apart
+          (λ n e. ring_after r A S L.long n k w m.one m.fields m.to m.there (S.ring n e).size (R.rings n e) (M.ring n e)) stand M
 
       outside : Outside r m.one.now m.one.projected → (b : Bool) → is_site r m.one.now.rip ≡ b → Related r S a (made_after r k m.one made) (watched_after r k w m.one m.fields m.to)
       outside o true e = done R.end.mem (made_displaced r A S L R.end.mem w m.one m.fields m.to m.steps B (start_old r A S L.long m.one.now.rip o.start) o e)
@@ -142,13 +147,15 @@ module _ (r : Threading) (A : AreEntries r.original r.listed) (S : IsThreadSound
           → (has_rax p ≡ true → avoids (is_new r) (slot m.one.projected.core) 8 ≡ true) → Related r S a (made_after r k m.one made) (watched_after r k w m.one m.fields m.to)
       event site listed p h i e at core decided world saved old = by_event site.event (is_saving site.event site.when) refl refl
         where
-          by_event : (o : Option Base) (s : Bool) → site.event ≡ o → is_saving site.event site.when ≡ s → Related r S a (made_after r k m.one made) (watched_after r k w m.one m.fields m.to)
+          by_event : (o : Option Kind) (s : Bool) → site.event ≡ o → is_saving site.event site.when ≡ s → Related r S a (made_after r k m.one made) (watched_after r k w m.one m.fields m.to)
           by_event None s is z = absurd (false≢true (sym (ap (λ o. has_point o site.when p) is) ∙ h))
-          by_event (Some b) true is z =
-              done R.end.mem (made_event r A S L R.end.mem w m.one m.fields m.to m.steps B site listed P.saved b is z p i (e ∙ point_counted site b p is z) at core decided world saved old)
-          by_event (Some b) false is z =
+          by_event (Some (Keeps n)) s is z = absurd (false≢true (sym (ap (λ o. has_point o site.when p) is) ∙ h))
+          by_event (Some (Marks b)) true is z =
+              done R.end.mem (made_event r A S L R.end.mem w m.one m.fields m.to m.steps B site listed
+              (λ s. ap (λ o. avoids (is_new r) (saved_from o m.one.now.core) (saved_len o)) (sym (S.rings site listed (Marks b) is)) ∙ P.saved s) b is z p i (e ∙ point_counted site b p is z) at core decided world saved old)
+          by_event (Some (Marks b)) false is z =
               let q = store_alone b site.when (sym (ap (λ o. is_saving o site.when) is) ∙ z) in
-              let covers : site.event ≡ Some Cover = is ∙ ap Some q.0 in
+              let covers : site.event ≡ Some (Marks Cover) = is ∙ ap (λ d. Some (Marks d)) q.0 in
               let first : p ≡ At0 = store_first p (sym (ap₂ (λ o l. has_point o l p) covers q.1) ∙ h) in
               let here : m.one.now.rip ≡ site.place + offset_if site.event site.when At0 = e ∙ ap (point_at site) first in
               done R.end.mem (made_cover r A S L R.end.mem w m.one m.fields m.to m.steps B site listed covers q.1 (omega (arith, here, offset_first site.event site.when)) at
@@ -171,7 +178,9 @@ module _ (r : Threading) (A : AreEntries r.original r.listed) (S : IsThreadSound
       by_phase : Phase r S w.mem m.one.now m.one.projected → Related r S a (made_after r k m.one made) (watched_after r k w m.one m.fields m.to)
       by_phase (inl o) = outside o (is_site r m.one.now.rip) refl
       by_phase (inr (inl q)) = done R.end.mem (made_second r A S L R.end.mem w m.one m.fields m.to m.steps B (second_old m.one.now m.one.projected q) q)
-      by_phase (inr (inr (inl q))) = by_point q.site q.listed q.point q.inside q.here q.there q.core q.decided q.world q.saved q.old
+      by_phase (inr (inr (inl (inr q)))) =
+          done R.end.mem (made_ring r A S L R.end.mem w m.one m.fields m.to m.steps B q.site q.listed q.slots q.keeps q.point q.inside q.here q.there q.core q.world q.saved P.saved q.old)
+      by_phase (inr (inr (inl (inl q)))) = by_point q.site q.listed q.point q.inside q.here q.there q.core q.decided q.world q.saved q.old
       by_phase (inr (inr (inr q))) = done R.end.mem (made_tail r A S L q.site q.listed R.end.mem w m.one m.fields m.to m.steps B q.tail q.more q.there q.world)
 
   -- what the relation shows. A thread on its way out is in the code: told in the original's memory, where the code stands
@@ -185,12 +194,16 @@ module _ (r : Threading) (A : AreEntries r.original r.listed) (S : IsThreadSound
   pub phase_outside : (m : Bytes) (now projected : Thread) → SameCode r.patched m → Phase r S m now projected → is_start r.listed now.rip ≡ true → now ≡ projected
   phase_outside m now projected c (inl o) h = o.same
   phase_outside m now projected c (inr (inl q)) h = absurd (true≢false (sym h ∙ ap (is_start r.listed) q.here ∙ q.jumps.unlisted))
-  phase_outside m now projected c (inr (inr (inl q))) h = absurd (true≢false (sym h ∙ code_unlisted r A S L.long q.site q.listed now.rip
+  phase_outside m now projected c (inr (inr (inl (inr q)))) h =
+      let e = q.here in
+      let l = ring_low q.point in
+      absurd (true≢false (sym h ∙ code_unlisted r A S L.long q.site q.listed now.rip (ring_in r A S L.long q.site q.listed q.slots now.rip q.keeps (omega (arith, e)) (omega (arith, e, l)))))
+  phase_outside m now projected c (inr (inr (inl (inl q)))) h = absurd (true≢false (sym h ∙ code_unlisted r A S L.long q.site q.listed now.rip
       (point_in r A S L.long q.site q.listed q.point projected.core now.rip q.inside q.decided q.here)))
   phase_outside m now projected c (inr (inr (inr q))) h = absurd (true≢false (sym h ∙ code_unlisted r A S L.long q.site q.listed now.rip (way_inside m now projected c q)))
 
   -- where a thread stands beside its projection
-  beside_at : (m : Bytes) (now projected : Thread) → Phase r S m now projected → Outside r now projected ⊎ AtSecond r now projected ⊎ AtEvent r m now projected ⊎ BehindEffect r m now projected
+  beside_at : (m : Bytes) (now projected : Thread) → Phase r S m now projected → Outside r now projected ⊎ AtSecond r now projected ⊎ (AtEvent r m now projected ⊎ AtRing r m now projected) ⊎ BehindEffect r m now projected
   beside_at m now projected (inl o) = inl o
   beside_at m now projected (inr (inl q)) = inr (inl q)
   beside_at m now projected (inr (inr (inl e))) = inr (inr (inl e))
@@ -209,7 +222,7 @@ module _ (r : Threading) (A : AreEntries r.original r.listed) (S : IsThreadSound
   beside m one K = record { processor = K.processor; words = K.words; start = K.start; place = beside_at m one.now one.projected K.phase }
 
   -- the relation shows that the guest is followed, that each counter has its number, and each byte that covers is 1 where its site was reached
-  pub shown : (a : Guest) (x : WatchWith) → Related r S a x.made x.watch → IsGuestFollowedWith r a x × AreCounted r x.watch × AreCovered r x.watch
+  pub shown : (a : Guest) (x : WatchWith) → Related r S a x.made x.watch → IsGuestFollowedWith r a x × AreCounted r x.watch × AreCovered r x.watch × AreKept r x.watch
   shown a x R = let w = x.watch in (
     record {
       states = R.states;
@@ -223,11 +236,13 @@ module _ (r : Threading) (A : AreEntries r.original r.listed) (S : IsThreadSound
         own = λ x e n. ap (λ (g : Guest). g.mem x) R.last ∙ R.own x e n;
         other = R.other;
         marks = λ s c b i. ((R.room s c b i).read, (R.room s c b i).written);
+        ring = λ n e. (let h = R.ring_room n e in (h.position.read, h.position.written, λ j l. ((h.slots j l).read, (h.slots j l).written)));
       };
     },
     λ s c i. R.marks s c Count i,
     λ s c i. one_byte w.mem (mark_at Cover r.private s.number) ∙ R.marks s c Cover i
         ∙ any_counted (is_recorded s) w.log (has_marked s) w.threads,
+    λ n e. ring_shown r n w (S.ring n e).size (R.rings n e),
   )
 
   -- guests that start together are in the relation
@@ -245,6 +260,22 @@ module _ (r : Threading) (A : AreEntries r.original r.listed) (S : IsThreadSound
       read = held_none 4 b.mem (mark_at d r.private s.number) (mark_len d) (omega (arith, low)) (λ x i j. ap (allows 4) (zero_at s c d v x i j));
       written = held_none 2 b.mem (mark_at d r.private s.number) (mark_len d) (omega (arith, low)) (λ x i j. ap (allows 2) (zero_at s c d v x i j));
     };
+    ring_room = λ n e. (let low = (S.ring n e).low in record {
+      position = free_room n e (position_at r.private) (omega arith) (omega arith);
+      slots = λ j l. free_room n e (slot_at r.private j) (omega arith) (omega (arith, l));
+    });
+    rings = λ n e. (let low = (S.ring n e).low in record {
+      position = free_number n e (position_at r.private) (omega arith) (omega arith);
+      own = λ k one i. (let q = map_back (λ (t : Thread). record { now = t; projected = t }) b.threads k one i in
+          let s = all_in (λ (t : Watched). is_start r.listed t.projected.rip ≡ true) (watch_of b).threads one stand (k, i) in
+          let h = subst (λ (z : Watched). is_start r.listed z.projected.rip ≡ true → is_start r.listed z.now.rip ≡ true) q.2 (λ y. y) s in
+          sym (old_unclaimed r A S L.long one.now.rip (start_old r A S L.long one.now.rip h)));
+      filled = λ i c h. absurd (no_claim i c h);
+      slots = λ j l. free_number n e (slot_at r.private j) (omega arith) (omega (arith, l));
+      sorted = tt;
+      reducing = λ k one i s h v p. absurd (no_ring k one i s h n v 34 (omega arith) p);
+      filling = λ k one i s h v p. absurd (no_ring k one i s h n v 37 (omega arith) p);
+    });
     marks = λ s c d v. let low = S.low s c d v in
         let n = zero_number b.mem (mark_at d r.private s.number) (mark_len d) (omega (arith, low)) (λ x i j. ap byte_of (zero_at s c d v x i j)) in
         let k = count_none (has_marked s) (watch_of b).threads (λ i t e. unmarked s c i t e) in
@@ -288,11 +319,33 @@ module _ (r : Threading) (A : AreEntries r.original r.listed) (S : IsThreadSound
       same : (x : ℕ) → is_hidden r x ≡ false → a.mem x ≡ b.mem x
       same x h = at_a x ∙ ap (λ o. or_else o (G.further x)) (images x h) ∙ sym (at_b x)
 
+      free_at : (n : ℕ) → r.ring ≡ Some n → (x : ℕ) → position_at r.private ≤ x → x < slot_at r.private n → b.mem x ≡ Some (record { byte = 0; perms = 6 })
+      free_at n e x i j = let z = ((S.ring n e).zeros x i j).0 in at_b x ∙ held_first (r.patched x) (G.further x) (ap is_some z) ∙ z
+
+      free_room : (n : ℕ) → r.ring ≡ Some n → (a : ℕ) → position_at r.private ≤ a → a + 4 ≤ slot_at r.private n → HasRoom b.mem a 4
+      free_room n e a i j = let low = (S.ring n e).low in record {
+        read = held_none 4 b.mem a 4 (omega (arith, low, j)) (λ x k l. ap (allows 4) (free_at n e x (omega (arith, i, k)) (omega (arith, j, l))));
+        written = held_none 2 b.mem a 4 (omega (arith, low, j)) (λ x k l. ap (allows 2) (free_at n e x (omega (arith, i, k)) (omega (arith, j, l))));
+      }
+
+      free_number : (n : ℕ) → r.ring ≡ Some n → (a : ℕ) → position_at r.private ≤ a → a + 4 ≤ slot_at r.private n → number_at b.mem a 4 ≡ 0
+      free_number n e a i j = let low = (S.ring n e).low in zero_number b.mem a 4 (omega (arith, low, j)) (λ x k l. ap byte_of (free_at n e x (omega (arith, i, k)) (omega (arith, j, l))))
+
+      no_claim : (i : ℕ) (c : Claim) → slice_get (watch_of b).claims i ≡ Some c → ⊥
+      no_claim i c h = absurd cc
+
+      no_ring : (k : ℕ) (one : Watched) → slice_get (watch_of b).threads k ≡ Some one → (s : ThreadSite) → Contains r.sites s → (n : ℕ) → s.event ≡ Some (Keeps n) → (m : ℕ) → m ≤ ring_len → one.now.rip ≡ s.place + m → ⊥
+      no_ring k one i s h n v m l p =
+          let q = map_back (λ (t : Thread). record { now = t; projected = t }) b.threads k one i in
+          let z = all_in (λ (t : Watched). is_start r.listed t.projected.rip ≡ true) (watch_of b).threads one stand (k, i) in
+          let g = subst (λ (y : Watched). is_start r.listed y.projected.rip ≡ true → is_start r.listed y.now.rip ≡ true) q.2 (λ y. y) z in
+          true≢false (sym g ∙ code_unlisted r A S L.long s h one.now.rip (ring_in r A S L.long s h n one.now.rip v (omega (arith, p)) (omega (arith, p, l))))
+
       shown_first : (d : Base) → shown_after d 0 ≡ 0
       shown_first Cover = refl
       shown_first Count = refl
 
-      zero_at : (s : ThreadSite) → Contains r.sites s → (d : Base) → s.event ≡ Some d → (x : ℕ) → mark_at d r.private s.number ≤ x → x < mark_at d r.private s.number + mark_len d → b.mem x ≡ Some (record { byte = 0; perms = 6 })
+      zero_at : (s : ThreadSite) → Contains r.sites s → (d : Base) → s.event ≡ Some (Marks d) → (x : ℕ) → mark_at d r.private s.number ≤ x → x < mark_at d r.private s.number + mark_len d → b.mem x ≡ Some (record { byte = 0; perms = 6 })
       zero_at s c d v x i j = let z = (S.marks s c d v x i j).0 in at_b x ∙ held_first (r.patched x) (G.further x) (ap is_some z) ∙ z
 
       unmarked : (s : ThreadSite) → Contains r.sites s → (i : ℕ) (t : Watched) → slice_get (watch_of b).threads i ≡ Some t → has_marked s t ≡ false

@@ -1,6 +1,7 @@
 -- Scheduled alone, a thread gets through a trampoline.
 use Rattle.std.proofs.Common.{◌≡◌, ◌≢◌, ◌⊎◌, inl, inr, ℕ, zero, suc, ◌+◌, ◌*◌, ◌<◌, ◌≤◌, Bool, true, false, not, ◌&&◌, ◌||◌, cond, eqb, List, [], ◌∷◌, ◌++◌, length, replicate, Option, Some, None, Ok, refl, sym, ap, ap₂, ◌∙◌, subst, arith}
 use Rattle.std.specs.Prelude.{Contains, slice_get, slice_set}
+use Rattle.std.specs.Option.{is_some}
 use Rattle.std.proofs.lemmas.Bool.{and_parts, and_from, and_left, and_right, or_from, or_parts, not_from_false, not_from_true, cond-true, cond-false, eq-eqb, false≢true, true≢false}
 use Rattle.pun_base.specs.Memory.{Bytes}
 use Rattle.pun_base.specs.declared.action.Base.{Base}
@@ -18,15 +19,13 @@ use Rattle.insn_form.specs.declared.form.Target.TheVariants.{Rel}
 use Rattle.insn_form.specs.Operands.{word_of, reg}
 use Rattle.insn_form.specs.Instruction.{insn_of}
 use Rattle.insn_form.specs.Meaning.{effect}
-use Rattle.insn_form.specs.Machine.{Machine, Task, act, avoids_span, leaves, put_all}
+use Rattle.insn_form.specs.Machine.{Machine, avoids_span, leaves, put_all}
 use Rattle.insn_form.specs.Step.{IsAt, next_after, question_of}
 use Rattle.insn_form.specs.Touched.{perms_at, reads_avoid}
-use Rattle.thread_runs.specs.ThreadSteps.{thread_task, ThreadStepsBy, ThreadStep}
+use Rattle.thread_runs.specs.ThreadSteps.{thread_task, thread_act, ThreadStepsBy, ThreadStep}
 use Rattle.insn_form.specs.Alike.{IsAlike}
 use Rattle.insn_form.proofs.UniqueSteps.{one_instruction}
-use Rattle.insn_form.specs.Runs.{nowhere}
-use Rattle.insn_form.proofs.UniqueSteps.{one_next}
-use Rattle.thread_runs.proofs.ThreadSteps.{made, unlocked_task}
+use Rattle.thread_runs.proofs.ThreadSteps.{made, plain_acts, one_thread_next}
 use Rattle.relocate_insn.proofs.FixedCode.{fixed_stands, fixed_on}
 use Rattle.relocate_insn.proofs.PieceSteps.{gone_to}
 use Rattle.start_entries.specs.declared.entry.StartEntry.{StartEntry}
@@ -36,25 +35,28 @@ use Rattle.image_step.specs.Listed.{is_start, is_known_start}
 use Rattle.thread_runs.specs.Guest.{Thread, Guest, machine_of, thread_of}
 use Rattle.thread_runs.specs.GuestDeliveries.{GuestItem, Goes, Takes, given, LeadsBy, IsInterleavedWith}
 use Rattle.cond_action.specs.Conditions.{compares}
-use Rattle.thread_runs.specs.ThreadCode.{mark_at, mark_len, is_saving, thread_event, event_len, slot}
+use Rattle.thread_runs.specs.ThreadCode.{Kind, Marks, Keeps, mark_at, mark_len, ring_len, is_saving, thread_event, event_len, slot, flag_slot, saved_from, saved_len}
+use Rattle.thread_runs.specs.RingEvent.{RingPoint, ring_offset, ring_next, is_ringing, RingHolds, RingSaved, InRing, CanKeep}
+use Rattle.thread_runs.specs.RingEvent.RingPoint.{R0, R1, R2, R3, R4, R5, R6, R7, R8, R9, R10, R11, R12}
 use Rattle.thread_runs.specs.Event.{Point, offset, checked, following, is_inside, Holds, IsDecided, HasSaved, InEvent, CanMark, AtStore, covered}
 use Rattle.thread_runs.specs.Event.Point.{At0, At1, At2, AtCompare, AtJump, At3, At4, At5, At6, At7}
 use Rattle.thread_runs.specs.Work.{Tail, left, InTail}
 use Rattle.thread_runs.specs.Work.Tail.{Out, Back, Jump, Ecx}
-use Rattle.thread_runs.specs.Threading.Part.{Save}
-use Rattle.thread_runs.specs.Threading.{ThreadSite, Threading, next_of, work_at, is_new, is_hidden, is_site, is_kept, part_to, in_event, saves, saves_at, is_one_of, is_saved, is_code_of, ByTwoJumps, IsThreadSound}
+use Rattle.thread_runs.specs.Threading.Part.{Whole, Save}
+use Rattle.thread_runs.specs.Threading.{ThreadSite, Threading, next_of, work_at, is_new, is_hidden, is_site, is_kept, part_to, is_keeping, in_event, saves, saves_at, is_one_of, is_saved_by, is_code_of, ByTwoJumps, IsThreadSound}
 use Rattle.thread_runs.specs.Watching.{Watched, Watch, EffectStep, projection, stale_after, watched_after, is_effect, Watches}
 use Rattle.thread_runs.specs.Premises.{IsQuietAt, reads_nothing_of}
-use Rattle.thread_runs.specs.Theorem.{last_watch, IsWatched, when_at, CanGo, GetsOut}
+use Rattle.thread_runs.specs.Theorem.{last_watch, IsWatched, when_at, further_at, CanGo, GetsOut}
 use Rattle.thread_runs.specs.StepLaws.{StepLaws}
 use Rattle.patch_report.proofs.ListPlaces.{some_is, any_at, contains_at, place_of}
 use Rattle.image_check.proofs.LoadedCode.{jump_acts}
 use Rattle.thread_runs.proofs.ListUpdates.{set_here}
-use Rattle.thread_runs.proofs.ThreadPlaces.{when_here, saving_code_is, store_alone, offset_first, inside_low, counted_len, plain_len, point_counted, longer, start_old, start_no_site, site_of, effect_kept, effect_never, kept_not, no_site}
-use Rattle.thread_runs.proofs.KeptRelation.{keeps_code, keeps_perms, keeps_room, lacking_on}
-use Rattle.thread_runs.proofs.StandingCode.{fields_of, site_stands, own_at, work_stands, event_stands, code_length}
+use Rattle.thread_runs.proofs.ThreadPlaces.{when_here, further_here, part_only, part_true, ring_in, saving_code_is, store_alone, offset_first, inside_low, counted_len, plain_len, point_counted, longer, start_old, start_no_site, site_of, effect_kept, effect_never, kept_not, no_site}
+use Rattle.thread_runs.proofs.KeptRelation.{keeps_code, keeps_perms, keeps_room, keeps_ring, lacking_on, ring_inside}
+use Rattle.thread_runs.proofs.StandingCode.{fields_of, site_stands, own_at, work_stands, event_stands, ring_stands, code_length}
 use Rattle.thread_runs.proofs.OutsideSteps.{calm_projection, stale_is, made_displaced, made_second}
 use Rattle.thread_runs.proofs.ThreadEventSteps.{at_event, inside, stale_stays, good_at, made_event, made_cover}
+use Rattle.thread_runs.proofs.ThreadRingSteps.{good_at as ring_good, made_ring}
 use Rattle.thread_runs.proofs.DisplacedSteps.{at_work, effect_told, made_effect, made_tail}
 use Rattle.thread_runs.proofs.WatchedSteps.{phase_outside}
 use Rattle.thread_runs.specs.Relation.{offset_if, point_at, Outside}
@@ -139,6 +141,7 @@ module _ (r : Threading) (A : AreEntries r.original r.listed) (S : IsThreadSound
     own = M.own;
     other = keeps_code r.patched f (machine_of w.mem one.now) to st B.other;
     room = λ s c b i. keeps_room (mark_at b r.private s.number) (mark_len b) f (machine_of w.mem one.now) to st (B.room s c b i);
+    ring_room = λ n e. keeps_ring r n f (machine_of w.mem one.now) to st (B.ring_room n e);
     kept = record { processor = M.processor; words = M.words; start = start; phase = M.phase };
   }
 
@@ -211,13 +214,13 @@ module _ (r : Threading) (A : AreEntries r.original r.listed) (S : IsThreadSound
 
     module _ (M : Bytes) (w0 : Watch) (one0 : Watched) (to0 : Machine) (st0 : ThreadStep (machine_of M one0.now) to0) (same0 : one0.now ≡ one0.projected)
         (quiet : IsQuietAt r (machine_of M one0.now)) (ends : is_start r.listed to0.rip ≡ true)
-        (read : is_saving site.event site.when ≡ true → lacking 4 w0.mem (slot one0.now.core) 8 ≡ None) (written : is_saving site.event site.when ≡ true → lacking 2 w0.mem (slot one0.now.core) 8 ≡ None)
-        (old0 : is_saving site.event site.when ≡ true → avoids (is_new r) (slot one0.now.core) 8 ≡ true)
-        (unread : is_saving site.event site.when ≡ true → reads_nothing_of (is_saved one0.now.core) (fields_of r A S site listed) (machine_of M one0.now) ≡ true)
+        (read : is_saving site.event site.when ≡ true → lacking 4 w0.mem (saved_from r.ring one0.now.core) (saved_len r.ring) ≡ None) (written : is_saving site.event site.when ≡ true → lacking 2 w0.mem (saved_from r.ring one0.now.core) (saved_len r.ring) ≡ None)
+        (old0 : is_saving site.event site.when ≡ true → avoids (is_new r) (saved_from r.ring one0.now.core) (saved_len r.ring) ≡ true)
+        (unread : is_saving site.event site.when ≡ true → reads_nothing_of (is_saved_by r one0.now.core) (fields_of r A S site listed) (machine_of M one0.now) ≡ true)
         (fresh : reads_nothing_of w0.stale (fields_of r A S site listed) (machine_of M one0.now) ≡ true) where
       -- the bytes in which the site's event saves rax
       abbrev held : ℕ → Bool
-      held x = is_saving site.event site.when && is_saved one0.now.core x
+      held x = is_saving site.event site.when && is_saved_by r one0.now.core x
 
       -- the instruction reads none of them
       unheld : reads_nothing_of held (fields_of r A S site listed) (machine_of M one0.now) ≡ true
@@ -227,8 +230,8 @@ module _ (r : Threading) (A : AreEntries r.original r.listed) (S : IsThreadSound
           s0 = machine_of M one0.now
 
           by_test : (b : Bool) → is_saving site.event site.when ≡ b → reads_nothing_of held (fields_of r A S site listed) (machine_of M one0.now) ≡ true
-          by_test true e = subst (λ (b : Bool). reads_nothing_of (λ x. b && is_saved one0.now.core x) (fields_of r A S site listed) (machine_of M one0.now) ≡ true) (sym e) (unread e)
-          by_test false e = subst (λ (b : Bool). reads_nothing_of (λ x. b && is_saved one0.now.core x) (fields_of r A S site listed) (machine_of M one0.now) ≡ true) (sym e)
+          by_test true e = subst (λ (b : Bool). reads_nothing_of (λ x. b && is_saved_by r one0.now.core x) (fields_of r A S site listed) (machine_of M one0.now) ≡ true) (sym e) (unread e)
+          by_test false e = subst (λ (b : Bool). reads_nothing_of (λ x. b && is_saved_by r one0.now.core x) (fields_of r A S site listed) (machine_of M one0.now) ≡ true) (sym e)
               (insn_both w0.stale w0.stale (λ x. false) (thread_task (fields_of r A S site listed) (next_after s0.rip (fields_of r A S site listed))).insn (next_after s0.rip (fields_of r A S site listed)) s0.core (λ x a b. refl) fresh fresh)
 
       -- the thread at a point of the event, and the watch there
@@ -245,7 +248,7 @@ module _ (r : Threading) (A : AreEntries r.original r.listed) (S : IsThreadSound
         decided : IsDecided site.when p one.projected.core
         world : one.now.world ≡ one.projected.world
         saved : HasSaved p one.projected.core w.mem
-        old : is_saving site.event site.when ≡ true → avoids (is_new r) (slot one.projected.core) 8 ≡ true
+        old : is_saving site.event site.when ≡ true → avoids (is_new r) (saved_from r.ring one.projected.core) (saved_len r.ring) ≡ true
 
       abbrev log1 : List EffectStep
       log1 = w0.log ++ record { thread = k; at = one0.now.rip; core = one0.now.core } ∷ []
@@ -257,7 +260,7 @@ module _ (r : Threading) (A : AreEntries r.original r.listed) (S : IsThreadSound
         where
           by_kind : Calm (is_effect r one.now.rip) M m one.projected (projection r one w.mem to) ⊎ Acts (is_effect r one.now.rip) M m one.projected (projection r one w.mem to) → m ≡ to0.mem
           by_kind (inl calm) = absurd (true≢false (sym effect ∙ calm.0))
-          by_kind (inr acts) = acts.mem ∙ ap (λ (z : Machine). z.mem) (one_next thread_task nowhere nowhere (machine_of M one.projected) acts.to to0 acts.steps st)
+          by_kind (inr acts) = acts.mem ∙ ap (λ (z : Machine). z.mem) (one_thread_next (machine_of M one.projected) acts.to to0 acts.steps st)
 
       -- the effect step, and what is after it
       effect_out : (w : Watch) (one : Watched) → At At7 w one → GoesOut r k w log1 (thread_of to0) to0.mem 3
@@ -283,7 +286,7 @@ module _ (r : Threading) (A : AreEntries r.original r.listed) (S : IsThreadSound
           let f = X.1.fields in
           let st : ThreadStepsBy f u to = X.1.other in
           let T = effect_told r A S L site listed M w one f to st P.base P.here P.at work in
-          let same : T.to' ≡ to0 = one_next thread_task nowhere nowhere s T.to' to0 (F, T.worked.own) st1 in
+          let same : T.to' ≡ to0 = one_thread_next s T.to' to0 (F, T.worked.own) st1 in
           let gone : projection r one w.mem to ≡ thread_of to0 = T.thread ∙ ap thread_of same in
           let stand : is_start r.listed (projection r one w.mem to).rip ≡ true = ap (λ (t : Thread). is_start r.listed t.rip) gone ∙ ends in
           let q1 = made_effect r A S L site listed M w one f to st P.base P.here P.at T stand in
@@ -310,21 +313,29 @@ module _ (r : Threading) (A : AreEntries r.original r.listed) (S : IsThreadSound
       same_slot : (w : Watch) (one : Watched) (p : Point) → At p w one → slot one.now.core ≡ slot one0.now.core
       same_slot w one p P = L.slots site.when p one.projected.core one.now.core P.base.kept.processor P.core ∙ ap (λ (t : Thread). slot t.core) P.projected
 
+      -- what isn't stale before a step isn't after it, but for saved bytes
+      stale_in : (w : Watch) (one : Watched) (f : Fields) (u : Machine) (x : ℕ) (b : Bool) → saves r one.now.rip ≡ b → in_event r one.now.rip ≡ true → w.stale x ≡ false → is_saved_by r one.now.core x ≡ false
+          → stale_after r w.stale one f u x ≡ false
+      stale_in w one f u x true e g h j = cond-true (saves r one.now.rip) _ _ e ∙ or_from (w.stale x) (is_saved_by r one.now.core x) h j
+      stale_in w one f u x false e g h j = cond-false (saves r one.now.rip) _ _ e ∙ cond-true (in_event r one.now.rip) _ _ g ∙ h
+
       -- an event that saves rax
-      module _ (b : Base) (has : site.event ≡ Some b) (saving : is_saving site.event site.when ≡ true) where
+      module _ (b : Base) (has : site.event ≡ Some (Marks b)) (saving : is_saving site.event site.when ≡ true) where
         -- its comparisons
         abbrev cs : List Comparison
         cs = site.when
 
-        -- no saved byte is new
-        free : (w : Watch) (one : Watched) (p : Point) → At p w one → avoids (is_new r) (slot one.now.core) 8 ≡ true
-        free w one p P = subst (λ z. avoids (is_new r) z 8 ≡ true) (sym (L.slots cs p one.projected.core one.now.core P.base.kept.processor P.core)) (P.old saving)
+        -- no event keeps a ring
+        unringed : r.ring ≡ None
+        unringed = S.rings site listed (Marks b) has
 
-        -- what isn't stale before a step isn't after it, but for saved bytes
-        stale_in : (w : Watch) (one : Watched) (f : Fields) (u : Machine) (x : ℕ) (b : Bool) → saves r one.now.rip ≡ b → in_event r one.now.rip ≡ true → w.stale x ≡ false → is_saved one.now.core x ≡ false
-            → stale_after r w.stale one f u x ≡ false
-        stale_in w one f u x true e g h j = cond-true (saves r one.now.rip) _ _ e ∙ or_from (w.stale x) (is_saved one.now.core x) h j
-        stale_in w one f u x false e g h j = cond-false (saves r one.now.rip) _ _ e ∙ cond-true (in_event r one.now.rip) _ _ g ∙ h
+        -- no saved byte is new
+        old8 : (w : Watch) (one : Watched) (p : Point) → At p w one → avoids (is_new r) (slot one.projected.core) 8 ≡ true
+        old8 w one p P = ap (λ o. avoids (is_new r) (saved_from o one.projected.core) (saved_len o)) (sym unringed) ∙ P.old saving
+
+        -- where the thread is, too
+        free : (w : Watch) (one : Watched) (p : Point) → At p w one → avoids (is_new r) (slot one.now.core) 8 ≡ true
+        free w one p P = subst (λ z. avoids (is_new r) z 8 ≡ true) (sym (L.slots cs p one.projected.core one.now.core P.base.kept.processor P.core)) (old8 w one p P)
 
         -- one step, and then the rest
         event_out : (n : ℕ) (p : Point) → is_inside p ≡ true → ((v : Watch) (one' : Watched) → At (following cs one0.now.core p) v one' → GoesOut r k v log1 (thread_of to0) to0.mem n)
@@ -336,7 +347,7 @@ module _ (r : Threading) (A : AreEntries r.original r.listed) (S : IsThreadSound
             let low = S.low site listed b has in
             let c = one.projected.core in
             let len = counted_len site b has saving in
-            let saving' : is_saving (Some b) cs ≡ true = sym (ap (λ o. is_saving o cs) has) ∙ saving in
+            let saving' : is_saving (Some (Marks b)) cs ≡ true = sym (ap (λ o. is_saving o cs) has) ∙ saving in
             let rip : one.now.rip ≡ site.place + offset b cs p = P.here ∙ point_counted site b p has saving in
             let E : InEvent b cs r.private site.number site.place p c u = record {
               processor = P.base.kept.processor;
@@ -352,8 +363,8 @@ module _ (r : Threading) (A : AreEntries r.original r.listed) (S : IsThreadSound
             let room = P.base.room site listed b has in
             let where' : slot c ≡ slot one0.now.core = ap (λ (t : Thread). slot t.core) P.projected in
             let C : CanMark b r.private site.number c w.mem = record {
-              slot_read = lacking_on 4 w0.mem w.mem (slot c) 8 P.perms ∙ ap (λ z. lacking 4 w0.mem z 8) where' ∙ read saving;
-              slot_written = lacking_on 2 w0.mem w.mem (slot c) 8 P.perms ∙ ap (λ z. lacking 2 w0.mem z 8) where' ∙ written saving;
+              slot_read = lacking_on 4 w0.mem w.mem (slot c) 8 P.perms ∙ ap (λ z. lacking 4 w0.mem z 8) where' ∙ ap (λ o. lacking 4 w0.mem (saved_from o one0.now.core) (saved_len o)) (sym unringed) ∙ read saving;
+              slot_written = lacking_on 2 w0.mem w.mem (slot c) 8 P.perms ∙ ap (λ z. lacking 2 w0.mem z 8) where' ∙ ap (λ o. lacking 2 w0.mem (saved_from o one0.now.core) (saved_len o)) (sym unringed) ∙ written saving;
               mark_read = room.read;
               mark_written = room.written;
             } in
@@ -366,8 +377,8 @@ module _ (r : Threading) (A : AreEntries r.original r.listed) (S : IsThreadSound
             let l = inside_low b cs p c i P.decided in
             let from : site.place ≤ one.now.rip = omega (arith, rip) in
             let below : one.now.rip < work_at site = omega (arith, rip, l, len) in
-            let good = good_at r A S L M w one f to st P.base site listed (λ e. free w one p P) b has saving p i E (λ e. P.old saving) N in
-            let made = made_event r A S L M w one f to st P.base site listed (λ e. free w one p P) b has saving p i rip P.at P.core P.decided P.world P.saved (λ e. P.old saving) in
+            let good = good_at r A S L M w one f to st P.base site listed (λ e. free w one p P) b has saving p i E (λ e. old8 w one p P) N in
+            let made = made_event r A S L M w one f to st P.base site listed (λ e. free w one p P) b has saving p i rip P.at P.core P.decided P.world P.saved (λ e. old8 w one p P) in
             let q = calm_in one w.mem to (at_event r A S L M w one f to st P.base site listed from below) (λ e. omega (arith, e, below)) in
             let start = ap (λ (t : Thread). is_start r.listed t.rip) q.1 ∙ P.base.kept.start in
             let B' = base_after M M w one f to st P.base made start in
@@ -381,7 +392,8 @@ module _ (r : Threading) (A : AreEntries r.original r.listed) (S : IsThreadSound
               log = log;
               perms = λ x. keeps_perms f u to st x ∙ P.perms x;
               staler = λ x a b. stale_in w one f u x (saves r one.now.rip) refl inside' (P.staler x a b)
-                  (ap (λ z. is_one_of z 8 x) (same_slot w one p P) ∙ (sym (ap (λ z. z && is_saved one0.now.core x) saving) ∙ b));
+                  (ap (λ o. is_one_of (saved_from o one.now.core) (saved_len o) x) unringed ∙ ap (λ z. is_one_of z 8 x) (same_slot w one p P)
+                  ∙ ap (λ o. is_one_of (saved_from o one0.now.core) (saved_len o) x) (sym unringed) ∙ (sym (ap (λ z. z && is_saved_by r one0.now.core x) saving) ∙ b));
               projected = q.1 ∙ P.projected;
               here = N.rip ∙ sym (point_counted site b next has saving);
               at = ap (λ (t : Thread). t.rip) q.1 ∙ P.at;
@@ -389,7 +401,7 @@ module _ (r : Threading) (A : AreEntries r.original r.listed) (S : IsThreadSound
               decided = subst (λ (t : Thread). IsDecided cs next t.core) s N.decided;
               world = N.world ∙ P.world ∙ ap (λ (t : Thread). t.world) s;
               saved = subst (λ (t : Thread). HasSaved next t.core to.mem) s good.saved;
-              old = λ e. subst (λ (t : Thread). avoids (is_new r) (slot t.core) 8 ≡ true) s (P.old e);
+              old = λ e. subst (λ (t : Thread). avoids (is_new r) (saved_from r.ring t.core) (saved_len r.ring) ≡ true) s (P.old e);
             })))
 
         -- from the point behind the mark, three instructions that restore
@@ -412,7 +424,7 @@ module _ (r : Threading) (A : AreEntries r.original r.listed) (S : IsThreadSound
         event_whole = event_out (suc (suc (7 + 2 * length cs))) At0 refl (event_out (suc (7 + 2 * length cs)) At1 refl (event_out (7 + 2 * length cs) At2 refl (checks_out [] cs)))
 
       -- an event that covers by one store, and then the effect step
-      cover_out : site.event ≡ Some Cover → site.when ≡ [] → (w : Watch) (one : Watched) → At At0 w one → GoesOut r k w log1 (thread_of to0) to0.mem 4
+      cover_out : site.event ≡ Some (Marks Cover) → site.when ≡ [] → (w : Watch) (one : Watched) → At At0 w one → GoesOut r k w log1 (thread_of to0) to0.mem 4
       cover_out covers alone w one P =
           let u : Machine = machine_of w.mem one.now in
           let K = S.sites site listed in
@@ -455,6 +467,128 @@ module _ (r : Threading) (A : AreEntries r.original r.listed) (S : IsThreadSound
             old = λ e. absurd (true≢false (sym e ∙ ap₂ is_saving covers alone));
           }))
 
+      -- an event that keeps a ring
+      module _ (n : ℕ) (keeps : site.event ≡ Some (Keeps n)) where
+        -- events keep one
+        ringing : r.ring ≡ Some n
+        ringing = S.rings site listed (Keeps n) keeps
+
+        -- it saves rax
+        saves_rax : is_saving site.event site.when ≡ true
+        saves_rax = ap (λ o. is_saving o site.when) keeps
+
+        -- its bytes
+        ring_long : event_len site.event site.when ≡ ring_len
+        ring_long = ap (λ o. event_len o site.when) keeps
+
+        -- the thread at a point of it, and the watch there
+        record RingAt (p : RingPoint) (w : Watch) (one : Watched) : Type 0 where
+          there : slice_get w.threads k ≡ Some one
+          base : Ground r S M w.stale w.mem one
+          log : w.log ≡ w0.log
+          perms : (x : ℕ) → perms_at w.mem x ≡ perms_at w0.mem x
+          staler : (x : ℕ) → w0.stale x ≡ false → held x ≡ false → w.stale x ≡ false
+          projected : one.projected ≡ one0.now
+          here : one.now.rip ≡ site.place + ring_offset p
+          at : one.projected.rip ≡ site.entry.addr
+          core : RingHolds n p one.projected.core one.now.core
+          world : one.now.world ≡ one.projected.world
+          saved : RingSaved p one.projected.core w.mem
+
+        -- no saved byte is new
+        old16 : (one : Watched) → one.projected ≡ one0.now → avoids (is_new r) (flag_slot one.projected.core) 16 ≡ true
+        old16 one e = ap (λ (t : Thread). avoids (is_new r) (flag_slot t.core) 16) e ∙ ap (λ o. avoids (is_new r) (saved_from o one0.now.core) (saved_len o)) (sym ringing) ∙ old0 saves_rax
+
+        -- one step, and then the rest
+        ring_out : (m : ℕ) (p : RingPoint) → is_ringing p ≡ true → ((v : Watch) (one' : Watched) → RingAt (ring_next p) v one' → GoesOut r k v log1 (thread_of to0) to0.mem m)
+            → (w : Watch) (one : Watched) → RingAt p w one → GoesOut r k w log1 (thread_of to0) to0.mem (suc m)
+        ring_out m p i rest w one P =
+            let u : Machine = machine_of w.mem one.now in
+            let K = S.sites site listed in
+            let more = longer r A S L.long site listed in
+            let sound = S.ring n ringing in
+            let c = one.projected.core in
+            let E : InRing n r.private site.number site.place p c u = record {
+              processor = P.base.kept.processor;
+              core = P.core;
+              saved = P.saved;
+              rip = P.here;
+              stands = ring_stands r A S site listed n keeps w.mem P.base.other;
+              size = sound.size;
+              low = omega (arith, K.low, more, ring_long);
+              room = sound.low;
+              number = sound.numbers site listed (ap is_some keeps);
+            } in
+            let room = P.base.ring_room n ringing in
+            let where' : flag_slot c ≡ flag_slot one0.now.core = ap (λ (t : Thread). flag_slot t.core) P.projected in
+            let C : CanKeep n r.private c w.mem = record {
+              saved_read = lacking_on 4 w0.mem w.mem (flag_slot c) 16 P.perms ∙ ap (λ z. lacking 4 w0.mem z 16) where' ∙ ap (λ o. lacking 4 w0.mem (saved_from o one0.now.core) (saved_len o)) (sym ringing) ∙ read saves_rax;
+              saved_written = lacking_on 2 w0.mem w.mem (flag_slot c) 16 P.perms ∙ ap (λ z. lacking 2 w0.mem z 16) where' ∙ ap (λ o. lacking 2 w0.mem (saved_from o one0.now.core) (saved_len o)) (sym ringing) ∙ written saves_rax;
+              position_read = room.position.read;
+              position_written = room.position.written;
+              slots_written = λ j l. (room.slots j l).written;
+            } in
+            let G = L.ring_goes n r.private site.number site.place p c u i E C in
+            let to = G.0 in
+            let f = G.1.0 in
+            let st : ThreadStepsBy f u to = G.1.1 in
+            let N = G.2 in
+            let l = ring_inside p i in
+            let h = P.here in
+            let below : one.now.rip < work_at site = omega (arith, h, l, ring_long) in
+            let code = ring_in r A S L.long site listed n one.now.rip keeps (omega (arith, h)) (omega (arith, h, l)) in
+            let same : flag_slot one.now.core ≡ flag_slot c = L.ring_slots n p c one.now.core P.base.kept.processor P.core in
+            let old = old16 one P.projected in
+            let avoided : saves r one.now.rip ≡ true → avoids (is_new r) (saved_from r.ring one.now.core) (saved_len r.ring) ≡ true = λ e.
+            ap (λ o. avoids (is_new r) (saved_from o one.now.core) (saved_len o)) ringing ∙ ap (λ z. avoids (is_new r) z 16) same ∙ old in
+            let good = ring_good r A S L M w one f to st P.base site listed n keeps p i P.here E N avoided (inr old) in
+            let made = made_ring r A S L M w one f to st P.base site listed n keeps p i P.here P.at P.core P.world P.saved avoided (inr old) in
+            let q = calm_in one w.mem to code (λ e. omega (arith, e, below)) in
+            let start = ap (λ (t : Thread). is_start r.listed t.rip) q.1 ∙ P.base.kept.start in
+            let B' = base_after M M w one f to st P.base made start in
+            let log : (after_watch w one f to).log ≡ w0.log = cond-false (is_effect r one.now.rip) _ _ q.0 ∙ P.log in
+            let inside' : in_event r one.now.rip ≡ true = part_only r A S L.long site listed one.now.rip Whole code ∙ part_true Whole one.now.rip site (omega (arith, h)) (omega (arith, h, l, ring_long)) in
+            let s = sym q.1 in
+            one_more r k w (after_watch w one f to) log1 (thread_of to0) to0.mem m (watches w one f to P.there st)
+            (rest (after_watch w one f to) (after_thread w one f to) (record {
+              there = set_here w.threads k one (after_thread w one f to) P.there;
+              base = B';
+              log = log;
+              perms = λ x. keeps_perms f u to st x ∙ P.perms x;
+              staler = λ x a b. stale_in w one f u x (saves r one.now.rip) refl inside' (P.staler x a b)
+                  (ap (λ o. is_one_of (saved_from o one.now.core) (saved_len o) x) ringing ∙ ap (λ z. is_one_of z 16 x) (same ∙ where')
+                  ∙ ap (λ o. is_one_of (saved_from o one0.now.core) (saved_len o) x) (sym ringing) ∙ (sym (ap (λ z. z && is_saved_by r one0.now.core x) saves_rax) ∙ b));
+              projected = q.1 ∙ P.projected;
+              here = N.rip;
+              at = ap (λ (t : Thread). t.rip) q.1 ∙ P.at;
+              core = subst (λ (t : Thread). RingHolds n (ring_next p) t.core to.core) s N.core;
+              world = N.world ∙ P.world ∙ ap (λ (t : Thread). t.world) s;
+              saved = subst (λ (t : Thread). RingSaved (ring_next p) t.core to.mem) s good.saved;
+            }))
+
+        -- behind the event stands the relocated code
+        ring_behind : (w : Watch) (one : Watched) → RingAt R12 w one → GoesOut r k w log1 (thread_of to0) to0.mem 3
+        ring_behind w one P = effect_out w one (record {
+          there = P.there;
+          base = P.base;
+          log = P.log;
+          perms = P.perms;
+          staler = P.staler;
+          projected = P.projected;
+          here = P.here ∙ ap (λ z. site.place + z) (sym ring_long);
+          at = P.at;
+          core = P.core;
+          decided = tt;
+          world = P.world;
+          saved = tt;
+          old = λ e. ap (λ (t : Thread). avoids (is_new r) (saved_from r.ring t.core) (saved_len r.ring)) P.projected ∙ old0 e;
+        })
+
+        -- a whole event
+        ring_whole : (w : Watch) (one : Watched) → RingAt R0 w one → GoesOut r k w log1 (thread_of to0) to0.mem 15
+        ring_whole = ring_out 14 R0 refl (ring_out 13 R1 refl (ring_out 12 R2 refl (ring_out 11 R3 refl (ring_out 10 R4 refl (ring_out 9 R5 refl (ring_out 8 R6 refl
+            (ring_out 7 R7 refl (ring_out 6 R8 refl (ring_out 5 R9 refl (ring_out 4 R10 refl (ring_out 3 R11 refl ring_behind)))))))))))
+
       -- the thread before the trampoline, at an address, with the registers and flags of its projection
       record Near (x : ℕ) (w : Watch) (one : Watched) : Type 0 where
         there : slice_get w.threads k ≡ Some one
@@ -467,7 +601,7 @@ module _ (r : Threading) (A : AreEntries r.original r.listed) (S : IsThreadSound
         at : one.projected.rip ≡ site.entry.addr
         core : one.now.core ≡ one.projected.core
         world : one.now.world ≡ one.projected.world
-        old : is_saving site.event site.when ≡ true → avoids (is_new r) (slot one.projected.core) 8 ≡ true
+        old : is_saving site.event site.when ≡ true → avoids (is_new r) (saved_from r.ring one.projected.core) (saved_len r.ring) ≡ true
 
       -- before the trampoline the thread is at a point of it, where the point's address is the thread's
       entered : (p : Point) (w : Watch) (one : Watched) (x : ℕ) → Near x w one → x ≡ point_at site p → Holds site.when p one.projected.core one.now.core → IsDecided site.when p one.projected.core
@@ -488,20 +622,40 @@ module _ (r : Threading) (A : AreEntries r.original r.listed) (S : IsThreadSound
         old = P.old;
       }
 
+      -- how many steps there are from the first address of the trampoline on at most
+      abbrev come_most : ℕ
+      come_most = 10 + 2 * length site.when + cond (is_keeping site.event) 5 0
+
       -- from the first address of the trampoline, with an event or without
-      come_out : (w : Watch) (one : Watched) → Near site.place w one → GoesOut r k w log1 (thread_of to0) to0.mem (10 + 2 * length site.when)
+      come_out : (w : Watch) (one : Watched) → Near site.place w one → GoesOut r k w log1 (thread_of to0) to0.mem come_most
       come_out w one P = by_event site.event (is_saving site.event site.when) refl refl
         where
           first : site.place ≡ site.place + offset_if site.event site.when At0
           first = omega (arith, offset_first site.event site.when)
 
-          by_event : (o : Option Base) (s : Bool) → site.event ≡ o → is_saving site.event site.when ≡ s → GoesOut r k w log1 (thread_of to0) to0.mem (10 + 2 * length site.when)
-          by_event (Some b) true e z =
-              wider w _ _ _ (suc (suc (suc (7 + 2 * length site.when)))) (10 + 2 * length site.when) (omega arith) (event_whole b e z w one (entered At0 w one site.place P first P.core tt tt))
-          by_event (Some b) false e z =
+          by_event : (o : Option Kind) (s : Bool) → site.event ≡ o → is_saving site.event site.when ≡ s → GoesOut r k w log1 (thread_of to0) to0.mem come_most
+          by_event (Some (Keeps n)) s e z =
+              let five : ◌≡◌ {A = ℕ} (cond (is_keeping site.event) 5 0) 5 = ap (λ o. cond (is_keeping o) 5 0) e in
+              let at = P.here in
+              wider w _ _ _ 15 come_most (omega (arith, five)) (ring_whole n e w one (record {
+                there = P.there;
+                base = P.base;
+                log = P.log;
+                perms = P.perms;
+                staler = P.staler;
+                projected = P.projected;
+                here = omega (arith, at);
+                at = P.at;
+                core = P.core;
+                world = P.world;
+                saved = tt;
+              }))
+          by_event (Some (Marks b)) true e z =
+              wider w _ _ _ (suc (suc (suc (7 + 2 * length site.when)))) come_most (omega arith) (event_whole b e z w one (entered At0 w one site.place P first P.core tt tt))
+          by_event (Some (Marks b)) false e z =
               let q = store_alone b site.when (sym (ap (λ o. is_saving o site.when) e) ∙ z) in
-              wider w _ _ _ 4 (10 + 2 * length site.when) (omega arith) (cover_out (e ∙ ap Some q.0) q.1 w one (entered At0 w one site.place P first P.core tt tt))
-          by_event None s e z = wider w _ _ _ 3 (10 + 2 * length site.when) (omega arith) (effect_out w one (entered At7 w one site.place P (omega (arith, plain_len site e)) P.core tt tt))
+              wider w _ _ _ 4 come_most (omega arith) (cover_out (e ∙ ap (λ d. Some (Marks d)) q.0) q.1 w one (entered At0 w one site.place P first P.core tt tt))
+          by_event None s e z = wider w _ _ _ 3 come_most (omega arith) (effect_out w one (entered At7 w one site.place P (omega (arith, plain_len site e)) P.core tt tt))
 
       -- one direct jump outside the trampolines, and then the rest
       jump_out : (n x target : ℕ) → JumpsTo r.patched x target → is_new r x ≡ false → is_kept r x ≡ false → (w : Watch) (one : Watched) → Near x w one
@@ -519,7 +673,7 @@ module _ (r : Threading) (A : AreEntries r.original r.listed) (S : IsThreadSound
           } in
           let unlocked = L.not_locked f (Jmp (Rel j.rel)) j.jump in
           let leads : advanced next (word_of j.rel) ≡ target = ap (λ z. advanced (next_after z f) (word_of j.rel)) P.here ∙ j.leads in
-          let acts : act (thread_task f next) next u ≡ Ok to = ap (λ (t : Task). act t next u) (unlocked_task f next unlocked) ∙ jump_acts u next target (insn_of f) (question_of f next) j.rel j.jump leads in
+          let acts : thread_act f next u ≡ Ok to = plain_acts f next u unlocked ∙ jump_acts u next target (insn_of f) (question_of f next) j.rel j.jump leads in
           let st : ThreadStepsBy f u to = made f u to at_u acts in
           let old' : is_new r x0 ≡ false = ap (is_new r) P.here ∙ old in
           let calm : is_kept r x0 ≡ false = ap (is_kept r) P.here ∙ kept in
@@ -541,12 +695,12 @@ module _ (r : Threading) (A : AreEntries r.original r.listed) (S : IsThreadSound
             at = ap (λ (t : Thread). t.rip) q ∙ P.at;
             core = P.core ∙ ap (λ (t : Thread). t.core) s;
             world = P.world ∙ ap (λ (t : Thread). t.world) s;
-            old = λ e. subst (λ (t : Thread). avoids (is_new r) (slot t.core) 8 ≡ true) s (P.old e);
+            old = λ e. subst (λ (t : Thread). avoids (is_new r) (saved_from r.ring t.core) (saved_len r.ring) ≡ true) s (P.old e);
           }))
 
       -- from the displaced start, by one jump or by two
       displaced_out : slice_get w0.threads k ≡ Some one0 → Ground r S M w0.stale w0.mem one0 → is_start r.listed one0.now.rip ≡ true → site.entry.addr ≡ one0.now.rip → is_site r one0.now.rip ≡ true
-          → GoesOut r k w0 log1 (thread_of to0) to0.mem (12 + 2 * length site.when)
+          → GoesOut r k w0 log1 (thread_of to0) to0.mem (2 + come_most)
       displaced_out e B start here is = by_jump (S.sites site listed).jump
         where
           old : is_new r one0.now.rip ≡ false
@@ -567,18 +721,18 @@ module _ (r : Threading) (A : AreEntries r.original r.listed) (S : IsThreadSound
             at = ap (λ (t : Thread). t.rip) (sym same0) ∙ sym here;
             core = ap (λ (t : Thread). t.core) same0;
             world = ap (λ (t : Thread). t.world) same0;
-            old = λ e. subst (λ (t : Thread). avoids (is_new r) (slot t.core) 8 ≡ true) same0 (old0 e);
+            old = λ e. subst (λ (t : Thread). avoids (is_new r) (saved_from r.ring t.core) (saved_len r.ring) ≡ true) same0 (old0 e);
           }
 
           first : (f : Fields) (to : Machine) → ThreadStepsBy f (machine_of w0.mem one0.now) to → Made r S (stale_after r w0.stale one0 f (machine_of w0.mem one0.now)) M M one0 w0.mem to
           first f to st = made_displaced r A S L M w0 one0 f to st B old (record { same = same0; start = start }) is
 
-          by_jump : JumpsTo r.patched site.entry.addr site.place ⊎ ByTwoJumps r site.entry.addr site.place → GoesOut r k w0 log1 (thread_of to0) to0.mem (12 + 2 * length site.when)
-          by_jump (inl j) = wider w0 _ _ _ (suc (10 + 2 * length site.when)) (12 + 2 * length site.when) (omega arith)
-              (jump_out (10 + 2 * length site.when) one0.now.rip site.place (subst (λ (z : ℕ). JumpsTo r.patched z site.place) here j) old calm w0 one0 near first come_out)
-          by_jump (inr j) = wider w0 _ _ _ (suc (suc (10 + 2 * length site.when))) (12 + 2 * length site.when) (omega arith)
-              (jump_out (suc (10 + 2 * length site.when)) one0.now.rip j.second (subst (λ (z : ℕ). JumpsTo r.patched z j.second) here j.there) old calm w0 one0 near first (λ v one' P.
-              jump_out (10 + 2 * length site.when) j.second site.place j.on j.old (and_left (is_start r.listed j.second) (not (is_site r j.second)) j.unlisted) v one' P (λ f to st.
+          by_jump : JumpsTo r.patched site.entry.addr site.place ⊎ ByTwoJumps r site.entry.addr site.place → GoesOut r k w0 log1 (thread_of to0) to0.mem (2 + come_most)
+          by_jump (inl j) = wider w0 _ _ _ (suc come_most) (2 + come_most) (omega arith)
+              (jump_out come_most one0.now.rip site.place (subst (λ (z : ℕ). JumpsTo r.patched z site.place) here j) old calm w0 one0 near first come_out)
+          by_jump (inr j) = wider w0 _ _ _ (suc (suc come_most)) (2 + come_most) (omega arith)
+              (jump_out (suc come_most) one0.now.rip j.second (subst (λ (z : ℕ). JumpsTo r.patched z j.second) here j.there) old calm w0 one0 near first (λ v one' P.
+              jump_out come_most j.second site.place j.on j.old (and_left (is_start r.listed j.second) (not (is_site r j.second)) j.unlisted) v one' P (λ f to st.
               made_second r A S L M v one' f to st P.base (ap (is_new r) P.here ∙ j.old) (record { site = site; listed = listed; jumps = j; here = P.here; there = P.at; core = P.core; world = P.world })) come_out))
 
   -- at a kept start
@@ -596,7 +750,7 @@ module _ (r : Threading) (A : AreEntries r.original r.listed) (S : IsThreadSound
       let there'' = subst (λ (z : Fields). IsFixed r.original x0 (spelling z)) g own.original in
       let at_u : IsAt u f = record { spelled = st0.at.spelled; here = fixed_stands w.mem x0 (spelling f) (fixed_on r.patched w.mem x0 (spelling f) B.other there') } in
       let both : IsAlike (is_hidden r) w.stale s u = record { core = refl; world = refl; mem = B.alike } in
-      let X = (L.alike thread_task (is_hidden r) w.stale f s u both refl st0.at at_u (quiet.leaves f st0.at.spelled (fixed_stands r.original x0 (spelling f) there'')) fresh).0 to0 st0 in
+      let X = (L.alike (is_hidden r) w.stale f s u both refl st0.at at_u (quiet.leaves f st0.at.spelled (fixed_stands r.original x0 (spelling f) there'')) fresh).0 to0 st0 in
       let to = X.0 in
       let v = after_watch w one f to in
       let now : thread_of to ≡ thread_of to0 = λ i. record { core = sym X.1.alike.core i; rip = sym X.1.rip i; world = sym X.1.alike.world i } in
@@ -622,10 +776,10 @@ module _ (r : Threading) (A : AreEntries r.original r.listed) (S : IsThreadSound
       same : one.now ≡ one.projected
       same = phase_outside r A S L w.mem one.now one.projected R.other (R.each k one e).phase C.stands
 
-      done : GoesOut r k w (w.log ++ record { thread = k; at = one.now.rip; core = one.now.core } ∷ []) (thread_of C.to) C.to.mem (12 + 2 * length (when_at r.sites one.now.rip)) → GetsOut r k w one C.to
+      done : GoesOut r k w (w.log ++ record { thread = k; at = one.now.rip; core = one.now.core } ∷ []) (thread_of C.to) C.to.mem (12 + 2 * length (when_at r.sites one.now.rip) + further_at r.sites one.now.rip) → GetsOut r k w one C.to
       done g = record { few = g.few; bound = g.bound; states = g.states; run = g.run; there = g.there; outside = C.ends; memory = g.memory; effect = g.effect }
 
-      displaced : is_site r one.now.rip ≡ true → (s : ThreadSite) × Contains r.sites s × (s.entry.addr ≡ one.now.rip) → GoesOut r k w (w.log ++ record { thread = k; at = one.now.rip; core = one.now.core } ∷ []) (thread_of C.to) C.to.mem (12 + 2 * length (when_at r.sites one.now.rip))
+      displaced : is_site r one.now.rip ≡ true → (s : ThreadSite) × Contains r.sites s × (s.entry.addr ≡ one.now.rip) → GoesOut r k w (w.log ++ record { thread = k; at = one.now.rip; core = one.now.core } ∷ []) (thread_of C.to) C.to.mem (12 + 2 * length (when_at r.sites one.now.rip) + further_at r.sites one.now.rip)
       displaced is q =
           let F = fields_of r A S q.0 q.1 in
           let m : Machine = machine_of R.end.mem one.now in
@@ -640,13 +794,15 @@ module _ (r : Threading) (A : AreEntries r.original r.listed) (S : IsThreadSound
           let there : is_saving q.0.event q.0.when ≡ true → saves_at r one.now.rip ≡ true = λ h.
           any_at (λ (s : ThreadSite). eqb s.entry.addr one.now.rip && is_saving s.event s.when) r.sites i.0 q.0 i.1 (and_from (eqb q.0.entry.addr one.now.rip) (is_saving q.0.event q.0.when) (eq-eqb q.0.entry.addr one.now.rip q.2) h) in
           let when : when_at r.sites one.now.rip ≡ q.0.when = when_here one.now.rip q.0 r.sites (λ j t h e'. S.once t q.0 (contains_at r.sites j t h) q.1 (e' ∙ sym q.2)) i.0 i.1 q.2 in
-          subst (λ (l : List Comparison). GoesOut r k w (w.log ++ record { thread = k; at = one.now.rip; core = one.now.core } ∷ []) (thread_of C.to) C.to.mem (12 + 2 * length l)) (sym when)
+          let further : further_at r.sites one.now.rip ≡ cond (is_keeping q.0.event) 5 0 = further_here one.now.rip q.0 r.sites (λ j t h e'. S.once t q.0 (contains_at r.sites j t h) q.1 (e' ∙ sym q.2)) i.0 i.1 q.2 in
+          wider w _ _ _ (2 + (10 + 2 * length q.0.when + cond (is_keeping q.0.event) 5 0)) (12 + 2 * length (when_at r.sites one.now.rip) + further_at r.sites one.now.rip)
+          (let z = ap (λ (l : List Comparison). length l) when in omega (arith, z, further))
           (displaced_out q.0 q.1 R.end.mem w one C.to (C.fields, C.steps) same C.quiet C.ends (λ h. C.read (there h)) (λ h. C.written (there h)) (λ h. C.old (there h))
-          (λ h. subst (λ (z : Fields). reads_nothing_of (is_saved one.now.core) z m ≡ true) g (C.unread (there h))) (subst (λ (z : Fields). reads_nothing_of w.stale z m ≡ true) g C.fresh) e B C.stands q.2 is)
+          (λ h. subst (λ (z : Fields). reads_nothing_of (is_saved_by r one.now.core) z m ≡ true) g (C.unread (there h))) (subst (λ (z : Fields). reads_nothing_of w.stale z m ≡ true) g C.fresh) e B C.stands q.2 is)
 
-      by_start : (b : Bool) → is_site r one.now.rip ≡ b → GoesOut r k w (w.log ++ record { thread = k; at = one.now.rip; core = one.now.core } ∷ []) (thread_of C.to) C.to.mem (12 + 2 * length (when_at r.sites one.now.rip))
+      by_start : (b : Bool) → is_site r one.now.rip ≡ b → GoesOut r k w (w.log ++ record { thread = k; at = one.now.rip; core = one.now.core } ∷ []) (thread_of C.to) C.to.mem (12 + 2 * length (when_at r.sites one.now.rip) + further_at r.sites one.now.rip)
       by_start true is = displaced is (site_of r A S L.long one.now.rip is)
-      by_start false is = wider w _ _ _ 1 (12 + 2 * length (when_at r.sites one.now.rip)) (omega arith) (kept_out R.end.mem w one C.fields C.to C.steps same C.quiet C.ends C.fresh e B
+      by_start false is = wider w _ _ _ 1 (12 + 2 * length (when_at r.sites one.now.rip) + further_at r.sites one.now.rip) (omega arith) (kept_out R.end.mem w one C.fields C.to C.steps same C.quiet C.ends C.fresh e B
           (and_from (is_start r.listed one.now.rip) (not (is_site r one.now.rip)) C.stands (not_from_false (is_site r one.now.rip) is)))
 
 -- an item leads from a guest to one guest at most
@@ -654,7 +810,7 @@ one_after : (listed : List StartEntry) (i : GuestItem) (g h h' : Guest) → Lead
 one_after listed (Goes k) g h h' m m' =
     let e : m'.thread ≡ m.thread = some_is m'.thread m.thread (sym m'.there ∙ m.there) in
     let st = subst (λ (t : Thread). ThreadStep (machine_of g.mem t) m'.to) e m'.steps in
-    let z : m.to ≡ m'.to = one_next thread_task nowhere nowhere (machine_of g.mem m.thread) m.to m'.to m.steps st in
+    let z : m.to ≡ m'.to = one_thread_next (machine_of g.mem m.thread) m.to m'.to m.steps st in
     m.after ∙ ap (λ (y : Machine). record { threads = slice_set g.threads k (thread_of y); mem = y.mem }) z ∙ sym m'.after
 one_after listed (Takes k d) g h h' m m' =
     let e : m.thread ≡ m'.thread = some_is m.thread m'.thread (sym m.there ∙ m'.there) in

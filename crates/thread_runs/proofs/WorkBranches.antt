@@ -41,7 +41,7 @@ use Rattle.thread_runs.specs.ThreadCode.{thread_relocated}
 use Rattle.thread_runs.specs.Work.{Tail, InTail, Worked, is_call, is_syscall, call_target}
 use Rattle.thread_runs.specs.Work.Tail.{Out, Back, Jump}
 use Rattle.thread_runs.proofs.KnownCodeSteps.{IsKnown, known_fixed, known_step, known_told, operands_forth, operands_back, both_core, both_mem}
-use Rattle.thread_runs.proofs.LockInc.{thread_insn}
+use Rattle.thread_runs.proofs.LockInc.{thread_insn, not_locked}
 use Rattle.thread_runs.proofs.KnownPieces.{jump_op, known_jump, push_op, known_push}
 
 -- both ways of an effect step
@@ -91,7 +91,7 @@ module _ (hidden stale : ℕ → Bool) (f : Fields) (next to : ℕ) (s u : Machi
     (apart : leaves hidden (thread_task f next) next s ≡ true) (next_low : next < 2 ^ 31) where
   -- the original's instruction
   own_known : (o op : Op) → insn_of f ≡ Exact o → resolved next o ≡ op → ((x : ℕ) → ((effect op next s.core).out x).undefined ≡ 0) → IsKnown s f next op
-  own_known o op i r t = record { at = here; behind = behind; insn = thread_insn f o next i ∙ ap Exact r; told = t }
+  own_known o op i r t = record { at = here; behind = behind; insn = thread_insn f o next i ∙ ap Exact r; told = t; alone = (not_locked f o i).1 }
 
   -- the instruction writes no hidden byte
   own_quiet : (o op : Op) → insn_of f ≡ Exact o → resolved next o ≡ op → avoids_span hidden (effect op next s.core).write ≡ true
@@ -127,7 +127,7 @@ module _ (hidden stale : ℕ → Bool) (f : Fields) (next to : ℕ) (s u : Machi
       let op' = Jcc c (absolute (to + 6) (integer_of d)) in
       let short : c < 16 = ltb-true c 16 (subst (λ (y : Insn). has_condition y ≡ true) i (condition_code f)) in
       let is : IsInstruction g = record { formed = formed_branch c _ _ _ _ short; short = omega arith } in
-      let ku : IsKnown u g (to + 6) op' = known_fixed u to g (to + 6) op' is there code refl (omega arith) (ap (resolved_insn (to + 6)) (branch_insn c d short)) (λ x. refl) in
+      let ku : IsKnown u g (to + 6) op' = known_fixed u to g (to + 6) op' is there code refl (omega arith) (ap (resolved_insn (to + 6)) (branch_insn c d short)) (λ x. refl) refl in
       let b = is_met c s.core.flags in
       let own = ap (λ w. unwrap_or (cond b (Some w) None) next) (absolute_word next z) ∙ taken b target next in
       let w : word_of (absolute (to + 6) (integer_of d)) ≡ target = absolute_word (to + 6) (integer_of d) ∙ names_it (to + 6) target l low in

@@ -18,10 +18,11 @@ use Rattle.insn_form.specs.Step.{IsAt, next_after, question_of}
 use Rattle.insn_form.specs.Laws.{is_steady}
 use Rattle.insn_form.specs.Touched.{reads_none, writes_avoid}
 use Rattle.insn_form.specs.Again.{always_goes, syscall_task}
-use Rattle.thread_runs.specs.ThreadSteps.{thread_task, ThreadStepsBy, ThreadStep}
+use Rattle.thread_runs.specs.ThreadSteps.{is_locked_xadd, thread_task, acting, thread_act, ThreadStepsBy, ThreadStep}
 use Rattle.insn_form.specs.Alike.{AreAlike, IsAlike, writes_at, still, GoesAlike, GoesAlikeBehind}
 use Rattle.insn_form.proofs.UniqueSteps.{one_instruction}
-use Rattle.insn_form.proofs.AlikeMemories.{alike_act, alike_syscall, writes_anywhere}
+use Rattle.insn_form.proofs.AlikeMemories.{alike_syscall, writes_anywhere}
+use Rattle.thread_runs.proofs.Acting.{acting_alike}
 use Rattle.thread_runs.proofs.ThreadSteps.{made, unlocked_task}
 use Rattle.relocate_insn.specs.Relocating.{copy_of}
 use Rattle.relocate_insn.proofs.RelocatedLengths.{copy_length}
@@ -54,6 +55,10 @@ module _ (hidden stale : ℕ → Bool) (f : Fields) (next to : ℕ) (s u : Machi
   abbrev t : Task
   t = thread_task f next
 
+  -- whether it loads what it reads
+  abbrev x : Bool
+  x = is_locked_xadd f
+
   -- the copy is an instruction of the same length and the same task
   same : IsInstruction g × (length (spelling g) ≡ length (spelling f)) × (thread_task g next' ≡ t)
   same = same_thread f next next' w.here.spelled w.direct w.low w.rip
@@ -67,24 +72,24 @@ module _ (hidden stale : ℕ → Bool) (f : Fields) (next to : ℕ) (s u : Machi
   other_behind = next_is u to g (let l = w.low in omega (arith, same.1)) w.there ∙ ap (λ z. to + z) same.1
 
   -- the step of either, as the same task's
-  own_acts : (s' : Machine) → ThreadStepsBy f s s' → act t next s ≡ Ok s'
-  own_acts s' st = subst (λ z. act (thread_task f z) z s ≡ Ok s') w.behind st.acts
+  own_acts : (s' : Machine) → ThreadStepsBy f s s' → acting x t next s ≡ Ok s'
+  own_acts s' st = subst (λ z. thread_act f z s ≡ Ok s') w.behind st.acts
 
   -- what the task does is a step of the instruction
-  own_steps : (s' : Machine) → act t next s ≡ Ok s' → ThreadStepsBy f s s'
-  own_steps s' e = made f s s' w.here (subst (λ z. act (thread_task f z) z s ≡ Ok s') (sym w.behind) e)
+  own_steps : (s' : Machine) → acting x t next s ≡ Ok s' → ThreadStepsBy f s s'
+  own_steps s' e = made f s s' w.here (subst (λ z. thread_act f z s ≡ Ok s') (sym w.behind) e)
 
   -- a step of the thread at the copy is what the task does
-  other_acts : (u' : Machine) → ThreadStep u u' → act t next' u ≡ Ok u'
+  other_acts : (u' : Machine) → ThreadStep u u' → acting x t next' u ≡ Ok u'
   other_acts u' st =
       let e : st.0 ≡ g = one_instruction u st.0 g st.1.at other_at in
-      let a : act (thread_task g (next_after u.rip g)) (next_after u.rip g) u ≡ Ok u' = subst (λ z. act (thread_task z (next_after u.rip z)) (next_after u.rip z) u ≡ Ok u') e st.1.acts in
-      let b : act (thread_task g next') next' u ≡ Ok u' = subst (λ z. act (thread_task g z) z u ≡ Ok u') other_behind a in
-      subst (λ z. act z next' u ≡ Ok u') same.2 b
+      let a : thread_act g (next_after u.rip g) u ≡ Ok u' = subst (λ z. thread_act z (next_after u.rip z) u ≡ Ok u') e st.1.acts in
+      let b : thread_act g next' u ≡ Ok u' = subst (λ z. thread_act g z u ≡ Ok u') other_behind a in
+      subst (λ z. acting x z next' u ≡ Ok u') same.2 b
 
   -- what the task does is a step of the copy
-  other_steps : (u' : Machine) → act t next' u ≡ Ok u' → ThreadStepsBy g u u'
-  other_steps u' e = made g u u' other_at (subst (λ z. act (thread_task g z) z u ≡ Ok u') (sym other_behind) (subst (λ z. act z next' u ≡ Ok u') (sym same.2) e))
+  other_steps : (u' : Machine) → acting x t next' u ≡ Ok u' → ThreadStepsBy g u u'
+  other_steps u' e = made g u u' other_at (subst (λ z. thread_act g z u ≡ Ok u') (sym other_behind) (subst (λ z. acting x z next' u ≡ Ok u') (sym same.2) e))
 
   -- both write the same
   same_written : (x : ℕ) → writes_at t next s x ≡ writes_at (thread_task g (next_after u.rip g)) (next_after u.rip g) u x
@@ -135,7 +140,7 @@ module _ (hidden stale : ℕ → Bool) (f : Fields) (next to : ℕ) (s u : Machi
       -- where an instruction other than SYSCALL makes its step its copy does, and the other way round
       pub copy_both : ((s' : Machine) → ThreadStepsBy f s s' → (u' : Machine) × Worked hidden stale f next to s u s' u') × ((u' : Machine) → ThreadStep u u' → (s' : Machine) × Worked hidden stale f next to s u s' u')
       copy_both =
-          let all = alike_act hidden stale t next next' s u (inr (thread_steady f next steady)) w.alike w.apart w.fresh in (
+          let all = acting_alike hidden stale x t next next' s u (inr (thread_steady f next steady)) w.alike w.apart w.fresh in (
             λ s' st. (let q = all.0 s' (own_acts s' st) in (q.0, worked s' q.0 st (other_steps q.0 q.1) q.2)),
             λ u' st. (let a = other_acts u' st in let q = all.1 u' a in (q.0, worked q.0 u' (own_steps q.0 q.1) (other_steps u' a) q.2)),
           )
@@ -152,6 +157,10 @@ module _ (hidden stale : ℕ → Bool) (f : Fields) (next to : ℕ) (s u : Machi
     -- the instruction's task is that of SYSCALL
     task_is : t ≡ syscall_task told (question_of f next)
     task_is = unlocked_task f next (syscall_not_locked f sys) ∙ (λ j. record { insn = resolved_insn next (i j); asks = question_of f next })
+
+    -- it loads nothing
+    unloaded : (z : ℕ) (v : Machine) → acting x t z v ≡ act t z v
+    unloaded z v = ap (λ y. acting y t z v) (syscall_not_locked f sys).1
 
     -- two alike steps of SYSCALL are an effect step, with rcx to be set
     behind_it : (s' u' : Machine) → ThreadStepsBy f s s' → ThreadStepsBy g u u' → GoesAlikeBehind hidden (still stale (writes_at (syscall_task told (question_of f next)) next s)) next next' s' u' → Worked hidden stale f next to s u s' u'
@@ -170,8 +179,8 @@ module _ (hidden stale : ℕ → Bool) (f : Fields) (next to : ℕ) (s u : Machi
     pub syscall_both : ((s' : Machine) → ThreadStepsBy f s s' → (u' : Machine) × Worked hidden stale f next to s u s' u') × ((u' : Machine) → ThreadStep u u' → (s' : Machine) × Worked hidden stale f next to s u s' u')
     syscall_both =
         let all = alike_syscall hidden stale told (question_of f next) next next' s u y w.alike (subst (λ z. leaves hidden z next s ≡ true) task_is w.apart) in (
-          λ s' st. (let q = all.0 s' (subst (λ z. act z next s ≡ Ok s') task_is (own_acts s' st)) in
-              (q.0, behind_it s' q.0 st (other_steps q.0 (subst (λ z. act z next' u ≡ Ok q.0) (sym task_is) q.1)) q.2)),
-          λ u' st. (let a = other_acts u' st in let q = all.1 u' (subst (λ z. act z next' u ≡ Ok u') task_is a) in
-              (q.0, behind_it q.0 u' (own_steps q.0 (subst (λ z. act z next s ≡ Ok q.0) (sym task_is) q.1)) (other_steps u' a) q.2)),
+          λ s' st. (let q = all.0 s' (subst (λ z. act z next s ≡ Ok s') task_is (sym (unloaded next s) ∙ own_acts s' st)) in
+              (q.0, behind_it s' q.0 st (other_steps q.0 (unloaded next' u ∙ subst (λ z. act z next' u ≡ Ok q.0) (sym task_is) q.1)) q.2)),
+          λ u' st. (let a = other_acts u' st in let q = all.1 u' (subst (λ z. act z next' u ≡ Ok u') task_is (sym (unloaded next' u) ∙ a)) in
+              (q.0, behind_it q.0 u' (own_steps q.0 (unloaded next s ∙ subst (λ z. act z next s ≡ Ok q.0) (sym task_is) q.1)) (other_steps u' a) q.2)),
         )

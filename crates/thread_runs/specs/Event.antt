@@ -19,7 +19,7 @@ use Rattle.insn_form.specs.Machine.{Machine}
 use Rattle.cond_action.specs.Conditions.{compares, all_hold}
 use Rattle.cond_action.specs.Codes.{failing}
 use Rattle.thread_runs.specs.ThreadSteps.{ThreadStep}
-use Rattle.thread_runs.specs.ThreadCode.{mark_at, mark_len, marking_len, compare_len, checking_len, saving_event, saving_len, thread_event, slot}
+use Rattle.thread_runs.specs.ThreadCode.{Kind, Marks, Keeps, mark_at, mark_len, marking_len, compare_len, checking_len, saving_event, saving_len, thread_event, slot}
 
 -- the instructions of an event that saves rax, in order: three that save it and the flags, CMP and a jump for
 -- each comparison, which is told with those before it and behind it, one that marks, and three that restore;
@@ -73,13 +73,14 @@ abbrev pub is_inside : Point → Bool
 is_inside At7 = false
 is_inside k = true
 
--- a point that an event of this kind has before the relocated code: all of them where it saves rax, and
--- where it covers by one store alone the first one, at which the store is left
-abbrev pub has_point : Option Base → List Comparison → Point → Bool
-has_point (Some Count) cs k = is_inside k
-has_point (Some Cover) (c ∷ cs) k = is_inside k
-has_point (Some Cover) [] At0 = true
-has_point (Some Cover) [] k = false
+-- a point that an event of this kind has before the relocated code: all of them where it marks and saves rax,
+-- and where it covers by one store alone the first one, at which the store is left
+abbrev pub has_point : Option Kind → List Comparison → Point → Bool
+has_point (Some (Marks Count)) cs k = is_inside k
+has_point (Some (Marks Cover)) (c ∷ cs) k = is_inside k
+has_point (Some (Marks Cover)) [] At0 = true
+has_point (Some (Marks Cover)) [] k = false
+has_point (Some (Keeps n)) cs k = false
 has_point None cs k = false
 
 -- at a comparison: the flags may be those of the one before it, but for the bits that no operation changes

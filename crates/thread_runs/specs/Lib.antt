@@ -2,6 +2,7 @@ pub mod ThreadSteps
 pub mod ThreadCode
 pub mod Building
 pub mod Event
+pub mod RingEvent
 pub mod Work
 pub mod Guest
 pub mod Threading
@@ -9,6 +10,7 @@ pub mod Watching
 pub mod Premises
 pub mod Alone
 pub mod StepLaws
+pub mod Ring
 pub mod Relation
 pub mod Theorem
 pub mod GuestDeliveries
@@ -17,5 +19,6 @@ pub mod TheoremWithDeliveries
 pub mod EachRun
 pub mod LockedSpelling
 pub mod WorkedConditions
+pub mod WorkedRing
 pub mod ThreadJudging
 pub mod Running

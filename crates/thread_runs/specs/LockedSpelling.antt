@@ -1,7 +1,7 @@
--- LOCK INC, the one spelling that interleaved runs read otherwise than a single processor's runs, by its bytes. Theorems cite it.
+-- LOCK INC and LOCK XADD, the two spellings that interleaved runs read otherwise than a single processor's runs, by their bytes. Theorems cite it.
 use Rattle.std.specs.Prelude.{◌≡◌, ◌↔◌, ℕ, true, [], ◌∷◌}
 use Rattle.length_decode.specs.Spelling.{Fields, IsInstruction, spelling}
-use Rattle.thread_runs.specs.ThreadSteps.{is_locked_inc, unlocked, thread_task}
+use Rattle.thread_runs.specs.ThreadSteps.{is_locked_inc, is_locked_xadd, unlocked, thread_task}
 
 -- the spelling of LOCK INC: F0 48 FF 04 25 with four more bytes
 pub record IsLockedInc (f : Fields) : Type 0 where
@@ -19,3 +19,15 @@ LockedIsSpelled = (f : Fields) → IsInstruction f → (is_locked_inc f ≡ true
 -- is the same task
 abbrev pub LockIsUntested : Type 0
 LockIsUntested = (f : Fields) (next : ℕ) → is_locked_inc f ≡ true → thread_task f next ≡ thread_task (unlocked f) next
+
+-- the spelling of LOCK XADD: F0 0F C1 04 25 with four more bytes
+pub record IsLockedXadd (f : Fields) : Type 0 where
+  pub a : ℕ
+  pub b : ℕ
+  pub c : ℕ
+  pub d : ℕ
+  pub spelled : spelling f ≡ 0xf0 ∷ 0x0f ∷ 0xc1 ∷ 0x04 ∷ 0x25 ∷ a ∷ b ∷ c ∷ d ∷ []
+
+-- the test for LOCK XADD by its fields is that by its bytes
+abbrev pub XaddIsSpelled : Type 0
+XaddIsSpelled = (f : Fields) → IsInstruction f → (is_locked_xadd f ≡ true) ↔ IsLockedXadd f

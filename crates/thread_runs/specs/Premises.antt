@@ -9,8 +9,8 @@ use Rattle.insn_form.specs.Touched.{reads_none}
 use Rattle.image_step.specs.Listed.{is_start, is_known_start}
 use Rattle.thread_runs.specs.ThreadSteps.{thread_task}
 use Rattle.thread_runs.specs.Guest.{machine_of}
-use Rattle.thread_runs.specs.ThreadCode.{slot}
-use Rattle.thread_runs.specs.Threading.{Threading, is_new, is_hidden, in_event, saves, has_saved, is_saved}
+use Rattle.thread_runs.specs.ThreadCode.{saved_from, saved_len}
+use Rattle.thread_runs.specs.Threading.{Threading, is_new, is_hidden, in_event, saves, has_saved, is_saved_by}
 use Rattle.thread_runs.specs.Watching.{Watched, Watch, is_effect, Watches}
 
 -- The instruction at which a thread of the original stands is of known length, and reads and writes
@@ -33,12 +33,12 @@ touches_none set f s = leaves set (thread_task f (next_after s.rip f)) (next_aft
 abbrev pub reads_nothing_of : (ℕ → Bool) → Fields → Machine → Bool
 reads_nothing_of set f s = reads_none set (thread_task f (next_after s.rip f)) (next_after s.rip f) s
 
--- the step of thread k touches none of the eight saved bytes of any other thread that stands
--- between its save and its restore
+-- the step of thread k touches none of the saved bytes of any other thread that stands between its
+-- save and its restore: eight, or sixteen where events keep a ring
 abbrev pub LeavesSaved : Threading → Watch → ℕ → Fields → Machine → Type 0
 LeavesSaved r w k f s =
     (j : ℕ) (other : Watched) → j ≢ k → slice_get w.threads j ≡ Some other → has_saved r other.now.rip ≡ true
-    → touches_none (is_saved other.now.core) f s ≡ true
+    → touches_none (is_saved_by r other.now.core) f s ≡ true
 
 -- a step that meets the premises
 pub record IsProper (r : Threading) (k : ℕ) (w v : Watch) (m : Watches r k w v) : Type 0 where
@@ -48,7 +48,7 @@ pub record IsProper (r : Threading) (k : ℕ) (w v : Watch) (m : Watches r k w v
   -- no step outside an event reads a stale byte
   pub fresh : in_event r m.one.now.rip ≡ false → reads_nothing_of w.stale m.fields (machine_of w.mem m.one.now) ≡ true
   -- no saved byte is new
-  pub saved : saves r m.one.now.rip ≡ true → avoids (is_new r) (slot m.one.now.core) 8 ≡ true
+  pub saved : saves r m.one.now.rip ≡ true → avoids (is_new r) (saved_from r.ring m.one.now.core) (saved_len r.ring) ≡ true
   pub apart : LeavesSaved r w k m.fields (machine_of w.mem m.one.now)
 
 -- a run of the watched guest over a schedule, all of whose steps meet the premises

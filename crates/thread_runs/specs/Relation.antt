@@ -7,16 +7,19 @@ use Rattle.cpu_state.specs.Bytes.{allows, avoids, lacking}
 use Rattle.cpu_state.specs.Processor.{IsProcessorCore, GiveWords}
 use Rattle.image_step.specs.Listed.{is_start}
 use Rattle.thread_runs.specs.Guest.{Thread, machine_of}
-use Rattle.thread_runs.specs.ThreadCode.{mark_at, mark_len, slot}
+use Rattle.thread_runs.specs.ThreadCode.{Kind, Marks, Keeps, mark_at, mark_len, position_at, slot_at, slot, flag_slot}
 use Rattle.thread_runs.specs.Event.{Point, offset, is_inside, has_point, Holds, IsDecided, HasSaved}
 use Rattle.thread_runs.specs.Event.Point.{At0, At7}
+use Rattle.thread_runs.specs.RingEvent.{RingPoint, ring_offset, is_ringing, RingHolds, RingSaved}
+use Rattle.thread_runs.specs.RingEvent.RingPoint.{R0}
 use Rattle.thread_runs.specs.Work.{Tail, left, InTail}
 use Rattle.thread_runs.specs.Threading.{ThreadSite, Threading, next_of, work_at, is_new, ByTwoJumps, IsThreadSite}
 use Rattle.thread_runs.specs.Watching.{Watched}
 
 -- how many bytes after a trampoline's first one the instruction at a point of its event begins
-abbrev pub offset_if : Option Base → List Comparison → Point → ℕ
-offset_if (Some b) cs k = offset b cs k
+abbrev pub offset_if : Option Kind → List Comparison → Point → ℕ
+offset_if (Some (Marks b)) cs k = offset b cs k
+offset_if (Some (Keeps n)) cs k = 0
 offset_if None cs k = 0
 
 -- the address of a point in a site's trampoline: in its event, or, after all of it, where the relocated
@@ -63,6 +66,23 @@ pub record AtEvent (r : Threading) (m : Bytes) (now projected : Thread) : Type 0
   pub saved : HasSaved point projected.core m
   pub old : has_rax point ≡ true → avoids (is_new r) (slot projected.core) 8 ≡ true
 
+-- A thread inside an event that keeps a ring of n slots, whose projection stands at the site. The point says its registers and flags, by
+-- those of the projection.
+pub record AtRing (r : Threading) (m : Bytes) (now projected : Thread) : Type 0 where
+  pub site : ThreadSite
+  pub listed : Contains r.sites site
+  pub slots : ℕ
+  pub keeps : site.event ≡ Some (Keeps slots)
+  pub point : RingPoint
+  pub inside : is_ringing point ≡ true
+  pub here : now.rip ≡ site.place + ring_offset point
+  pub there : projected.rip ≡ site.entry.addr
+  pub core : RingHolds slots point projected.core now.core
+  pub world : now.world ≡ projected.world
+  -- between saves and restores the sixteen saved bytes hold rax and the flags, and none of them is new
+  pub saved : RingSaved point projected.core m
+  pub old : (point ≡ R0) ⊎ (avoids (is_new r) (flag_slot projected.core) 16 ≡ true)
+
 -- A thread inside the relocated code, after its effect step, whose projection stands where the
 -- instruction led.
 pub record BehindEffect (r : Threading) (m : Bytes) (now projected : Thread) : Type 0 where
@@ -79,7 +99,7 @@ pub record IsBeside (r : Threading) (m : Bytes) (one : Watched) : Type 0 where
   pub processor : IsProcessorCore one.projected.core
   pub words : GiveWords one.projected.world
   pub start : is_start r.listed one.projected.rip ≡ true
-  pub place : Outside r one.now one.projected ⊎ AtSecond r one.now one.projected ⊎ AtEvent r m one.now one.projected ⊎ BehindEffect r m one.now one.projected
+  pub place : Outside r one.now one.projected ⊎ AtSecond r one.now one.projected ⊎ (AtEvent r m one.now one.projected ⊎ AtRing r m one.now one.projected) ⊎ BehindEffect r m one.now one.projected
 
 -- What can be executed and not written in an image stands in memory.
 abbrev pub KeepsCode : Bytes → Bytes → Type 0
@@ -87,5 +107,11 @@ KeepsCode image m = (x : ℕ) → allows 1 (image x) ≡ true → allows 2 (imag
 
 -- What the event of each site marks, its counter or its byte, can be read and written.
 abbrev pub KeepsMarks : Threading → Bytes → Type 0
-KeepsMarks r m = (s : ThreadSite) → Contains r.sites s → (b : Base) → s.event ≡ Some b
+KeepsMarks r m = (s : ThreadSite) → Contains r.sites s → (b : Base) → s.event ≡ Some (Marks b)
     → (lacking 4 m (mark_at b r.private s.number) (mark_len b) ≡ None) × (lacking 2 m (mark_at b r.private s.number) (mark_len b) ≡ None)
+
+-- The position and the slots of a ring, where events keep one, can be read and written.
+abbrev pub KeepsRing : Threading → Bytes → Type 0
+KeepsRing r m = (n : ℕ) → r.ring ≡ Some n
+    → (lacking 4 m (position_at r.private) 4 ≡ None) × (lacking 2 m (position_at r.private) 4 ≡ None)
+    × ((j : ℕ) → j < n → (lacking 4 m (slot_at r.private j) 4 ≡ None) × (lacking 2 m (slot_at r.private j) 4 ≡ None))

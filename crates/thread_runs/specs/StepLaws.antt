@@ -1,5 +1,5 @@
 -- The facts of single steps on which the theorem on guest threads rests. Theorems cite it.
-use Rattle.std.specs.Prelude.{◌≡◌, ℕ, ◌+◌, ◌<◌, Bool, true, false, if◌then◌else◌, List, length, Some, None, Ok}
+use Rattle.std.specs.Prelude.{◌≡◌, ◌⊎◌, ℕ, ◌+◌, ◌<◌, Bool, true, false, if◌then◌else◌, List, length, Some, None, Ok}
 use Rattle.pun_base.specs.declared.action.Base.{Base}
 use Rattle.pun_base.specs.declared.action.Comparison.{Comparison}
 use Rattle.length_decode.specs.Spelling.{Fields, IsInstruction, spelling}
@@ -11,15 +11,18 @@ use Rattle.insn_form.specs.declared.form.Op.{Op}
 use Rattle.insn_form.specs.declared.form.Insn.TheVariants.{Exact}
 use Rattle.insn_form.specs.Operands.{with_reg, rcx}
 use Rattle.insn_form.specs.Resolving.{resolved_insn}
-use Rattle.insn_form.specs.Machine.{Machine, act}
+use Rattle.insn_form.specs.Machine.{Machine, Task, leaves}
+use Rattle.insn_form.specs.Laws.{is_steady}
 use Rattle.insn_form.specs.Step.{IsAt, next_after}
-use Rattle.insn_form.specs.Touched.{writes_none}
-use Rattle.thread_runs.specs.ThreadSteps.{is_locked_inc, thread_task, ThreadStep}
-use Rattle.insn_form.specs.Alike.{IsAlikeAct, IsAlikeStep}
-use Rattle.thread_runs.specs.ThreadCode.{thread_work, slot}
+use Rattle.insn_form.specs.Touched.{reads_none, writes_none}
+use Rattle.thread_runs.specs.ThreadSteps.{is_locked_inc, is_locked_xadd, thread_task, acting, thread_act, ThreadStepsBy, ThreadStep}
+use Rattle.insn_form.specs.Alike.{IsAlike, GoesAlike, writes_at, still}
+use Rattle.thread_runs.specs.ThreadCode.{thread_work, slot, flag_slot}
 use Rattle.trampoline.specs.Atomic.{thread_len}
 use Rattle.thread_runs.specs.Event.{Point, Holds, InEvent, IsEventStep, EventGoes, IsSavedBack, IsCoverStep, CoverGoes}
 use Rattle.thread_runs.specs.Event.Point.{At0}
+use Rattle.thread_runs.specs.RingEvent.{RingPoint, RingHolds, InRing, IsRingStep, RingGoes, AreSavedBack}
+use Rattle.thread_runs.specs.RingEvent.RingPoint.{R0, R3}
 use Rattle.thread_runs.specs.Work.{Tail, left, is_syscall, InTail, IsWork, AtWork, Worked, IsEffectStep, IsTailStep}
 use Rattle.thread_runs.specs.Watching.{leads_to}
 use Rattle.thread_runs.specs.Premises.{reads_nothing_of}
@@ -37,13 +40,43 @@ WorkTouches = (f g : Fields) (next to : ℕ) (s u : Machine) → IsWork f s.rip 
 abbrev pub WorkLong : Type 0
 WorkLong = (f : Fields) (next place size len addr : ℕ) → IsInstruction f → length (spelling f) ≡ len → thread_len (insn_of f) len addr ≡ Some size → 0 < length (thread_work f next place)
 
+-- what a step of a thread from the original leads to and what it leads to in the other state, from one place
+pub record ThreadsAlike (hidden stale : ℕ → Bool) (f : Fields) (s u s' u' : Machine) : Type 0 where
+  pub own : ThreadStepsBy f s s'
+  pub other : ThreadStepsBy f u u'
+  pub alike : IsAlike hidden (still stale (writes_at (thread_task f (next_after s.rip f)) (next_after s.rip f) s)) s' u'
+  pub rip : s'.rip ≡ u'.rip
+
+-- the step of a thread's instruction that stands at one place in two states: where one of them has it, the other has it too
+abbrev pub IsAlikeThread : Type 0
+IsAlikeThread = (hidden stale : ℕ → Bool) (f : Fields) (s u : Machine) → IsAlike hidden stale s u → s.rip ≡ u.rip → IsAt s f → IsAt u f
+    → leaves hidden (thread_task f (next_after s.rip f)) (next_after s.rip f) s ≡ true → reads_nothing_of stale f s ≡ true
+    → ((s' : Machine) → ThreadStepsBy f s s' → (u' : Machine) × ThreadsAlike hidden stale f s u s' u')
+    × ((u' : Machine) → ThreadStepsBy f u u' → (s' : Machine) × ThreadsAlike hidden stale f s u s' u')
+
+-- an instruction that leaves the hidden set alone and reads no stale byte acts alike at two places, whether or not it loads what it read
+abbrev pub IsAlikeActing : Type 0
+IsAlikeActing = (hidden stale : ℕ → Bool) (x : Bool) (t : Task) (next next' : ℕ) (s u : Machine) → (next ≡ next') ⊎ (is_steady t.insn ≡ true)
+    → IsAlike hidden stale s u → leaves hidden t next s ≡ true → reads_none stale t next s ≡ true
+    → ((s' : Machine) → acting x t next s ≡ Ok s' → (u' : Machine) × (acting x t next' u ≡ Ok u') × GoesAlike hidden (still stale (writes_at t next s)) t.insn next next' s' u')
+    × ((u' : Machine) → acting x t next' u ≡ Ok u' → (s' : Machine) × (acting x t next s ≡ Ok s') × GoesAlike hidden (still stale (writes_at t next s)) t.insn next next' s' u')
+
 -- no event changes rsp
 abbrev pub HoldsSlot : Type 0
 HoldsSlot = (cs : List Comparison) (k : Point) (c d : Core) → IsProcessorCore c → Holds cs k c d → slot d ≡ slot c
 
+-- nor does one that keeps a ring
+abbrev pub HoldsSlots : Type 0
+HoldsSlots = (n : ℕ) (k : RingPoint) (c d : Core) → IsProcessorCore c → RingHolds n k c d → flag_slot d ≡ flag_slot c
+
 -- where a thread could save rax, the saved bytes can be written
 abbrev pub SavesHeld : Type 0
 SavesHeld = (b : Base) (cs : List Comparison) (p i place : ℕ) (c : Core) (v w : Machine) → InEvent b cs p i place At0 c v → ThreadStep v w → lacking 2 v.mem (slot c) 8 ≡ None
+
+-- where a thread could save rax for a ring, or the flags, their bytes can be written
+abbrev pub RingSavesHeld : Type 0
+RingSavesHeld = (n p i at : ℕ) (c : Core) (v w : Machine)
+    → (InRing n p i at R0 c v → ThreadStep v w → lacking 2 v.mem (slot c) 8 ≡ None) × (InRing n p i at R3 c v → ThreadStep v w → lacking 2 v.mem (flag_slot c) 8 ≡ None)
 
 -- after the effect step the instructions of a trampoline write no byte
 abbrev pub TailTouches : Type 0
@@ -62,27 +95,32 @@ WorkedCore = (hidden stale : ℕ → Bool) (f : Fields) (next to : ℕ) (s u s' 
 
 -- the step of an instruction leads to the address that its resolved form says
 abbrev pub LeadsTold : Type 0
-LeadsTold = (f : Fields) (next : ℕ) (s s' : Machine) → act (thread_task f next) next s ≡ Ok s' → s'.rip ≡ leads_to (resolved_insn next (insn_of f)) next s.core s.mem
+LeadsTold = (f : Fields) (next : ℕ) (s s' : Machine) → thread_act f next s ≡ Ok s' → s'.rip ≡ leads_to (resolved_insn next (insn_of f)) next s.core s.mem
 
--- LOCK INC is no jump
+-- an instruction that a single processor doesn't ask about is neither LOCK INC nor LOCK XADD
 abbrev pub NotLocked : Type 0
-NotLocked = (f : Fields) (op : Op) → insn_of f ≡ Exact op → is_locked_inc f ≡ false
+NotLocked = (f : Fields) (op : Op) → insn_of f ≡ Exact op → (is_locked_inc f ≡ false) × (is_locked_xadd f ≡ false)
 
 -- all the facts of single steps
 pub record StepLaws : Type 0 where
-  pub alike : IsAlikeStep
+  pub alike : IsAlikeThread
   pub events : IsEventStep
   pub goes : EventGoes
   pub cover : IsCoverStep
   pub covers : CoverGoes
   pub saved : IsSavedBack
+  pub rings : IsRingStep
+  pub ring_goes : RingGoes
+  pub ring_saved : AreSavedBack
+  pub ring_slots : HoldsSlots
+  pub ring_held : RingSavesHeld
   pub held : SavesHeld
   pub slots : HoldsSlot
   pub effects : IsEffectStep
   pub tails : IsTailStep
   pub touches : WorkTouches
   pub long : WorkLong
-  pub act : IsAlikeAct
+  pub act : IsAlikeActing
   pub tail_touches : TailTouches
   pub tail_inside : TailInside
   pub core : WorkedCore

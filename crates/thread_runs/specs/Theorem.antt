@@ -13,11 +13,12 @@ use Rattle.image_step.specs.Listed.{is_start}
 use Rattle.start_entries.specs.Standing.{AreEntries}
 use Rattle.thread_runs.specs.ThreadSteps.{ThreadStepsBy}
 use Rattle.thread_runs.specs.Guest.{Guest, machine_of, thread_of, IsInterleaved, last_guest}
-use Rattle.thread_runs.specs.ThreadCode.{slot, counter_at, mark_at}
-use Rattle.thread_runs.specs.Threading.{Threading, ThreadSite, is_new, is_hidden, is_met_by, is_counted, saves_at, is_saved, IsThreadSound}
+use Rattle.thread_runs.specs.ThreadCode.{Marks, counter_at, mark_at, saved_from, saved_len}
+use Rattle.thread_runs.specs.Threading.{Threading, ThreadSite, is_new, is_hidden, is_keeping, is_met_by, is_counted, saves_at, is_saved_by, IsThreadSound}
 use Rattle.thread_runs.specs.Watching.{Watched, EffectStep, Watch, watch_of, Watches}
 use Rattle.thread_runs.specs.Premises.{IsProperRun, IsQuietAt, reads_nothing_of}
-use Rattle.thread_runs.specs.Relation.{IsBeside, KeepsCode, KeepsMarks}
+use Rattle.thread_runs.specs.Relation.{IsBeside, KeepsCode, KeepsMarks, KeepsRing}
+use Rattle.thread_runs.specs.Ring.{AreKept}
 
 -- Start guests: equal threads, each the state of a processor at the entry, so that each thread is a
 -- start pair, and beside each image the same further memory, which meets neither.
@@ -33,7 +34,7 @@ pub record AreStartGuests (r : Threading) (a b : Guest) : Type 0 where
 -- memory is equal but for listed instructions, new bytes and stale bytes, and stale bytes have equal
 -- permissions, too. A thread at a listed start is its projection; any other one stands at the second of
 -- two jumps, in an event, where relocated code begins, or after its effect step. Both codes, the
--- counters and the bytes of sites that cover stay.
+-- counters, the bytes of sites that cover and a ring stay.
 pub record LiesBeside (r : Threading) (g : Guest) (w : Watch) : Type 0 where
   pub threads : g.threads ≡ map (λ t. t.projected) w.threads
   pub memory : (x : ℕ) → is_hidden r x ≡ false → w.stale x ≡ false → g.mem x ≡ w.mem x
@@ -43,6 +44,7 @@ pub record LiesBeside (r : Threading) (g : Guest) (w : Watch) : Type 0 where
   pub own : KeepsCode r.original g.mem
   pub other : KeepsCode r.patched w.mem
   pub marks : KeepsMarks r w.mem
+  pub ring : KeepsRing r w.mem
 
 -- The effect steps so far are an interleaved run of the original, in the same order, which ends in a
 -- guest that lies beside the watched one.
@@ -62,19 +64,19 @@ has_marked s t = is_counted s t.now.rip t.projected.core
 -- The counter of each site that counts is the number of the site's effect steps at which its condition held,
 -- and of the threads that marked and are between LOCK INC and their effect step, modulo 2^64.
 abbrev pub AreCounted : Threading → Watch → Type 0
-AreCounted r w = (s : ThreadSite) → Contains r.sites s → s.event ≡ Some Count
+AreCounted r w = (s : ThreadSite) → Contains r.sites s → s.event ≡ Some (Marks Count)
     → number_at w.mem (counter_at r.private s.number) 8 ≡ (count_by (is_recorded s) w.log + count_by (has_marked s) w.threads) % 2 ^ 64
 
 -- The byte of each site that covers is 1 if some effect step of the site was made at which its condition held,
 -- or some thread that marked stands between its store and its effect step, and 0 otherwise.
 abbrev pub AreCovered : Threading → Watch → Type 0
-AreCovered r w = (s : ThreadSite) → Contains r.sites s → s.event ≡ Some Cover
+AreCovered r w = (s : ThreadSite) → Contains r.sites s → s.event ≡ Some (Marks Cover)
     → byte_of (w.mem (mark_at Cover r.private s.number)) ≡ (if list_any (is_recorded s) w.log || list_any (has_marked s) w.threads then 1 else 0)
 
--- Each proper run from start guests is followed, counted and covered, at each moment.
+-- Each proper run from start guests is followed, counted, covered and kept, at each moment.
 abbrev pub AreFollowed : Threading → Type 0
 AreFollowed r = (a b : Guest) (schedule : List ℕ) (ws : List Watch) → AreStartGuests r a b → IsProperRun r schedule (watch_of b) ws
-    → AllByRecursion (λ w. IsGuestFollowed r a w × AreCounted r w × AreCovered r w) (watch_of b ∷ ws)
+    → AllByRecursion (λ w. IsGuestFollowed r a w × AreCounted r w × AreCovered r w × AreKept r w) (watch_of b ∷ ws)
 
 -- Where a watched run ends.
 abbrev pub last_watch : Watch → List Watch → Watch
@@ -98,10 +100,10 @@ pub record CanGo (r : Threading) (w : Watch) (one : Watched) (g : Guest) : Type 
   pub steps : ThreadStepsBy fields (machine_of g.mem one.now) to
   pub quiet : IsQuietAt r (machine_of g.mem one.now)
   pub ends : is_start r.listed to.rip ≡ true
-  pub read : saves_at r one.now.rip ≡ true → lacking 4 w.mem (slot one.now.core) 8 ≡ None
-  pub written : saves_at r one.now.rip ≡ true → lacking 2 w.mem (slot one.now.core) 8 ≡ None
-  pub old : saves_at r one.now.rip ≡ true → avoids (is_new r) (slot one.now.core) 8 ≡ true
-  pub unread : saves_at r one.now.rip ≡ true → reads_nothing_of (is_saved one.now.core) fields (machine_of g.mem one.now) ≡ true
+  pub read : saves_at r one.now.rip ≡ true → lacking 4 w.mem (saved_from r.ring one.now.core) (saved_len r.ring) ≡ None
+  pub written : saves_at r one.now.rip ≡ true → lacking 2 w.mem (saved_from r.ring one.now.core) (saved_len r.ring) ≡ None
+  pub old : saves_at r one.now.rip ≡ true → avoids (is_new r) (saved_from r.ring one.now.core) (saved_len r.ring) ≡ true
+  pub unread : saves_at r one.now.rip ≡ true → reads_nothing_of (is_saved_by r one.now.core) fields (machine_of g.mem one.now) ≡ true
   pub fresh : reads_nothing_of w.stale fields (machine_of g.mem one.now) ≡ true
 
 -- the comparisons of the event at an address
@@ -109,14 +111,19 @@ abbrev pub when_at : List ThreadSite → ℕ → List Comparison
 when_at [] x = []
 when_at (s ∷ ss) x = if s.entry.addr == x then s.when else when_at ss x
 
--- Scheduled alone from w, thread k makes one effect step and no other within 12 steps of its own and two for
--- each comparison, and then stands outside, where the original's step leads: it is the thread that this step leads
+-- how many instructions the event at an address has beyond the seven of one that counts and those of comparisons: five where it keeps a ring
+abbrev pub further_at : List ThreadSite → ℕ → ℕ
+further_at [] x = 0
+further_at (s ∷ ss) x = if s.entry.addr == x then (if is_keeping s.event then 5 else 0) else further_at ss x
+
+-- Scheduled alone from w, thread k makes one effect step and no other within 12 steps of its own, two for each
+-- comparison, and five more where its event keeps a ring, and then stands outside, where the original's step leads: it is the thread that this step leads
 -- to, with the same registers, flags, bases, instruction pointer and rest of the world, and counts
 -- as itself. Memory is the original's after that step but for listed instructions, new bytes and
 -- stale bytes.
 pub record GetsOut (r : Threading) (k : ℕ) (w : Watch) (one : Watched) (to : Machine) : Type 0 where
   pub few : ℕ
-  pub bound : few ≤ 12 + 2 * length (when_at r.sites one.now.rip)
+  pub bound : few ≤ 12 + 2 * length (when_at r.sites one.now.rip) + further_at r.sites one.now.rip
   pub states : List Watch
   pub run : IsWatched r (replicate few k) w states
   pub there : slice_get (last_watch w states).threads k ≡ Some (record { now = thread_of to; projected = thread_of to })

@@ -6,6 +6,7 @@ use Rattle.thread_runs.specs.Guest.{Guest, last_guest}
 use Rattle.thread_runs.specs.Threading.{Threading, IsThreadSound}
 use Rattle.thread_runs.specs.Watching.{Watched}
 use Rattle.thread_runs.specs.Theorem.{AreStartGuests, LiesBeside, AreCounted, AreCovered, CanGo, GetsOut}
+use Rattle.thread_runs.specs.Ring.{AreKept}
 use Rattle.thread_runs.specs.GuestDeliveries.{GuestItem, IsInterleavedWith}
 use Rattle.thread_runs.specs.WatchedDeliveries.{WatchWith, watch_with, IsProperRunWith, last_with}
 
@@ -16,10 +17,10 @@ pub record IsGuestFollowedWith (r : Threading) (a : Guest) (x : WatchWith) : Typ
   pub run : IsInterleavedWith r.listed x.made a states
   pub beside : LiesBeside r (last_guest a states) x.watch
 
--- Each proper run with deliveries from start guests is followed, counted and covered, at each moment.
+-- Each proper run with deliveries from start guests is followed, counted, covered and kept, at each moment.
 abbrev pub AreFollowedWith : Threading → Type 0
 AreFollowedWith r = (a b : Guest) (items : List GuestItem) (xs : List WatchWith) → AreStartGuests r a b → IsProperRunWith r items (watch_with b) xs
-    → AllByRecursion (λ x. IsGuestFollowedWith r a x × AreCounted r x.watch × AreCovered r x.watch) (watch_with b ∷ xs)
+    → AllByRecursion (λ x. IsGuestFollowedWith r a x × AreCounted r x.watch × AreCovered r x.watch × AreKept r x.watch) (watch_with b ∷ xs)
 
 -- From each state that a proper run with deliveries from start guests reaches, a thread that can go
 -- gets out, to where the original's step leads.

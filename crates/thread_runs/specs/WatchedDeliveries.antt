@@ -5,7 +5,7 @@ use Rattle.insn_form.specs.Alike.{still}
 use Rattle.image_step.specs.declared.delivery.Delivery.{Delivery}
 use Rattle.image_step.specs.Deliveries.{Fits}
 use Rattle.thread_runs.specs.Guest.{Guest, machine_of}
-use Rattle.thread_runs.specs.Threading.{Threading, is_new, has_saved, is_saved}
+use Rattle.thread_runs.specs.Threading.{Threading, is_new, has_saved, is_saved_by}
 use Rattle.thread_runs.specs.Watching.{Watched, Watch, watch_of, is_effect, Watches}
 use Rattle.thread_runs.specs.Premises.{StandAtStarts, IsProper}
 use Rattle.thread_runs.specs.GuestDeliveries.{GuestItem, Goes, Takes, given}
@@ -32,6 +32,8 @@ watched_given k one d w = record {
   mem = put_all w.mem d.writes;
   stale = still w.stale (writes_byte d);
   log = w.log;
+  claims = w.claims;
+  fills = w.fills;
 }
 
 -- the items of the original's run after a step of thread k: with this step, where it is an effect
@@ -39,12 +41,12 @@ watched_given k one d w = record {
 abbrev pub made_after : Threading → ℕ → Watched → List GuestItem → List GuestItem
 made_after r k one made = if is_effect r one.now.rip then made ++ Goes k ∷ [] else made
 
--- a delivery to thread k writes none of the eight saved bytes of any other thread that stands
--- between its save and its restore
+-- a delivery to thread k writes none of the saved bytes of any other thread that stands between its
+-- save and its restore
 abbrev pub WritesNoSaved : Threading → Watch → ℕ → Delivery → Type 0
 WritesNoSaved r w k d =
     (j : ℕ) (other : Watched) → j ≢ k → slice_get w.threads j ≡ Some other → has_saved r other.now.rip ≡ true
-    → avoids_writes (is_saved other.now.core) d.writes ≡ true
+    → avoids_writes (is_saved_by r other.now.core) d.writes ≡ true
 
 -- One step of thread k that meets the premises.
 pub record IsGone (r : Threading) (k : ℕ) (x y : WatchWith) : Type 0 where

@@ -1,5 +1,6 @@
 -- A patched guest that is watched: as which thread each counts, which bytes are stale, which effect steps were made. Theorems cite it.
-use Rattle.std.specs.Prelude.{◌≡◌, ℕ, ◌+◌, Bool, true, false, ◌||◌, if◌then◌else◌, List, [], ◌∷◌, ◌++◌, map, Option, Some, None, unwrap_or, slice_get, slice_set}
+use Rattle.std.specs.Prelude.{◌≡◌, ℕ, suc, ◌+◌, ◌==◌, Bool, true, false, ◌||◌, if◌then◌else◌, List, [], ◌∷◌, ◌++◌, length, map, Option, Some, None, unwrap_or, slice_get, slice_set}
+use Rattle.std.specs.List.{list_any}
 use Rattle.pun_base.specs.Memory.{Bytes}
 use Rattle.length_decode.specs.Spelling.{Fields}
 use Rattle.cpu_state.specs.declared.state.Core.{Core}
@@ -16,7 +17,7 @@ use Rattle.thread_runs.specs.ThreadSteps.{thread_task, ThreadStepsBy}
 use Rattle.insn_form.specs.Alike.{writes_at, still}
 use Rattle.thread_runs.specs.Work.{is_syscall}
 use Rattle.thread_runs.specs.Guest.{Thread, Guest, machine_of, thread_of}
-use Rattle.thread_runs.specs.Threading.{Threading, ThreadSite, is_kept, in_event, saves, relocated_at, is_saved}
+use Rattle.thread_runs.specs.Threading.{Threading, ThreadSite, is_kept, in_event, saves, relocated_at, is_saved_by, claiming_at, is_filling}
 
 -- a watched thread: the thread, and its projection, the thread of the original as which it counts
 pub record Watched : Type 0 where
@@ -30,6 +31,16 @@ pub record EffectStep : Type 0 where
   pub at : ℕ
   pub core : Core
 
+-- a claim of a ring's slot: the number of the thread, and that of the site at whose event it claimed the slot
+pub record Claim : Type 0 where
+  pub thread : ℕ
+  pub number : ℕ
+
+-- a fill of a slot: how many claims were made before the one of the thread that fills it, and how many were made so far
+pub record Fill : Type 0 where
+  pub claim : ℕ
+  pub claimed : ℕ
+
 -- a watched guest: its threads, its memory, the stale bytes and the effect steps
 pub record Watch : Type 0 where
   pub threads : List Watched
@@ -37,6 +48,9 @@ pub record Watch : Type 0 where
   pub stale : ℕ → Bool
   -- the effect steps so far, in order
   pub log : List EffectStep
+  -- the claims of a ring's slots so far, and the fills, each in order
+  pub claims : List Claim
+  pub fills : List Fill
 
 -- the guest that is watched
 abbrev pub guest_of : Watch → Guest
@@ -44,7 +58,7 @@ guest_of w = record { threads = map (λ t. t.now) w.threads; mem = w.mem }
 
 -- at the start each thread counts as itself, and no byte is stale
 abbrev pub watch_of : Guest → Watch
-watch_of g = record { threads = map (λ t. record { now = t; projected = t }) g.threads; mem = g.mem; stale = nowhere; log = [] }
+watch_of g = record { threads = map (λ t. record { now = t; projected = t }) g.threads; mem = g.mem; stale = nowhere; log = []; claims = []; fills = [] }
 
 -- the address to which an instruction with absolute addresses leads, from these registers and with this memory
 abbrev pub leads_to : Insn → ℕ → Core → Bytes → ℕ
@@ -87,12 +101,34 @@ is_effect r x = is_kept r x || is_there (relocated_at r.sites x)
 -- writes, or an answer to it, is no longer stale
 abbrev pub stale_after : Threading → (ℕ → Bool) → Watched → Fields → Machine → ℕ → Bool
 stale_after r stale one f s x =
-    if saves r one.now.rip then stale x || is_saved one.now.core x
+    if saves r one.now.rip then stale x || is_saved_by r one.now.core x
     else (if in_event r one.now.rip then stale x else still stale (writes_at (thread_task f (next_after s.rip f)) (next_after s.rip f) s) x)
 
 -- the effect steps so far, with this step where it is one
 abbrev pub logged : Threading → ℕ → Watched → List EffectStep → List EffectStep
 logged r k one log = if is_effect r one.now.rip then log ++ record { thread = k; at = one.projected.rip; core = one.projected.core } ∷ [] else log
+
+-- the claim is one of thread k
+abbrev pub is_by : ℕ → Claim → Bool
+is_by k c = c.thread == k
+
+-- how many claims were made before the last one of thread k
+abbrev pub last_claim : ℕ → List Claim → ℕ
+last_claim k [] = 0
+last_claim k (c ∷ cs) = if list_any (is_by k) cs then suc (last_claim k cs) else 0
+
+-- the claims after a step of thread k at LOCK XADD of a site's event, or at another instruction
+abbrev pub claims_of : ℕ → Option ThreadSite → List Claim → List Claim
+claims_of k None cs = cs
+claims_of k (Some s) cs = cs ++ record { thread = k; number = s.number } ∷ []
+
+-- the claims so far, with the one that this step makes, where it makes one
+abbrev pub claims_after : Threading → ℕ → Watched → List Claim → List Claim
+claims_after r k one cs = claims_of k (claiming_at r.sites one.now.rip) cs
+
+-- the fills so far, with the one that this step makes, where it makes one: a thread fills the slot that it claimed last
+abbrev pub fills_after : Threading → ℕ → Watched → List Claim → List Fill → List Fill
+fills_after r k one cs fs = if is_filling r one.now.rip then fs ++ record { claim = last_claim k cs; claimed = length cs } ∷ [] else fs
 
 -- the watched guest after a step of thread k
 abbrev pub watched_after : Threading → ℕ → Watch → Watched → Fields → Machine → Watch
@@ -101,6 +137,8 @@ watched_after r k w one f to = record {
   mem = to.mem;
   stale = stale_after r w.stale one f (machine_of w.mem one.now);
   log = logged r k one w.log;
+  claims = claims_after r k one w.claims;
+  fills = fills_after r k one w.claims w.fills;
 }
 
 -- one step of thread k of a watched guest

@@ -4,7 +4,7 @@ use Rattle.pun_base.specs.declared.action.Base.TheVariants.{Cover, Count}
 use Rattle.pun_base.specs.declared.action.CompareOp.TheVariants.{Eq, Lt, Gt}
 use Rattle.pun_base.specs.declared.action.Comparison.{Comparison}
 use Rattle.cpu_state.specs.declared.state.Core.{Core}
-use Rattle.thread_runs.specs.ThreadCode.{thread_event, event_len}
+use Rattle.thread_runs.specs.ThreadCode.{Marks, thread_event, event_len}
 use Rattle.thread_runs.specs.Event.{offset, following}
 use Rattle.thread_runs.specs.Event.Point.{At2, AtCompare, AtJump, At3, At4}
 
@@ -42,17 +42,17 @@ pub record ConditionsAreWorked : Type 0 where
       ∷ 0x49 ∷ 0x81 ∷ 0xf9 ∷ 0x00 ∷ 0x01 ∷ 0x00 ∷ 0x00 ∷ 0x73 ∷ 0x09
       ∷ 0xf0 ∷ 0x48 ∷ 0xff ∷ 0x04 ∷ 0x25 ∷ 0x40 ∷ 0x00 ∷ 0x02 ∷ 0x00
       ∷ 0x04 ∷ 0x7f ∷ 0x9e ∷ 0x48 ∷ 0x8b ∷ 0x84 ∷ 0x24 ∷ 0x78 ∷ 0xff ∷ 0xff ∷ 0xff ∷ []
-  pub counts_long : event_len (Some Count) both ≡ 55
+  pub counts_long : event_len (Some (Marks Count)) both ≡ 55
   -- one that covers under a comparison of rsp, for site 3
   pub covers : thread_event Cover (rsp_is_high ∷ []) 0x20000 3
       ≡ 0x48 ∷ 0x89 ∷ 0x84 ∷ 0x24 ∷ 0x78 ∷ 0xff ∷ 0xff ∷ 0xff ∷ 0x9f ∷ 0x0f ∷ 0x90 ∷ 0xc0
       ∷ 0x48 ∷ 0x81 ∷ 0xfc ∷ 0x00 ∷ 0x10 ∷ 0x00 ∷ 0x00 ∷ 0x76 ∷ 0x08
       ∷ 0xc6 ∷ 0x04 ∷ 0x25 ∷ 0x43 ∷ 0x00 ∷ 0x02 ∷ 0x00 ∷ 0x01
       ∷ 0x04 ∷ 0x7f ∷ 0x9e ∷ 0x48 ∷ 0x8b ∷ 0x84 ∷ 0x24 ∷ 0x78 ∷ 0xff ∷ 0xff ∷ 0xff ∷ []
-  pub covers_long : event_len (Some Cover) (rsp_is_high ∷ []) ≡ 40
+  pub covers_long : event_len (Some (Marks Cover)) (rsp_is_high ∷ []) ≡ 40
   -- without a condition each is as before
   pub plain : thread_event Cover [] 0x20000 3 ≡ 0xc6 ∷ 0x04 ∷ 0x25 ∷ 0x43 ∷ 0x00 ∷ 0x02 ∷ 0x00 ∷ 0x01 ∷ []
-  pub plain_long : event_len (Some Count) [] ≡ 32
+  pub plain_long : event_len (Some (Marks Count)) [] ≡ 32
   -- the first comparison stands behind SETO, the second behind its jump, and what marks behind that
   pub first : following both (core_by 5 255) At2 ≡ AtCompare [] rax_is_5 (r9_is_low ∷ [])
   pub second : following both (core_by 5 255) (AtJump [] rax_is_5 (r9_is_low ∷ [])) ≡ AtCompare (rax_is_5 ∷ []) r9_is_low []

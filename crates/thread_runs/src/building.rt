@@ -1,4 +1,4 @@
-//! Trampolines for guests of several threads (Intel SDM, volume 2, MOV, LAHF, SETcc, CMP, Jcc, INC, ADD, SAHF, PUSH, JMP).
+//! Trampolines for guests of several threads (Intel SDM, volume 2, MOV, LAHF, SETcc, CMP, Jcc, INC, XADD, MOVZX, ADD, SAHF, PUSH, JMP).
 ghost use Rattle.std.specs.Prelude.{◌≡◌, ◌+◌, ◌≤◌, ◌<◌, ◌^◌, ◌++◌, ◌∷◌, [], false, length, IfOk, MatchResult, Some, None};
 ghost use Rattle.pun_base.specs.declared.action.Base.TheVariants.{Count};
 ghost use Rattle.pun_base.specs.Actions.{AreComparisons, listed};
@@ -7,16 +7,19 @@ ghost use Rattle.length_decode.specs.Spelling.{Fields, IsInstruction, spelling};
 ghost use Rattle.relocate_insn.specs.Relocating.{Spells};
 ghost use Rattle.cond_action.specs.Codes.{compare_code, failing};
 ghost use Rattle.trampoline.specs.Trampolines.{back_if};
-ghost use Rattle.thread_runs.specs.ThreadCode.{thread_code, marking_code, marking_len, compare_with, compare_len, checking_len, checking_code, saving_event, thread_event, event_len, event_if, code_if, call_reg_code};
+ghost use Rattle.thread_runs.specs.ThreadCode.{thread_code, saving_code, restoring_code, marking_code, marking_len, compare_with, compare_len, checking_len, checking_code, saving_event, position_at, keep_ax, load_one, claiming_code, reducing, ring_event, event_len, event_if, code_if, call_reg_code};
 ghost use Rattle.trampoline.specs.Atomic.{thread_len};
-ghost use Rattle.thread_runs.specs.Building.{target_spot, op_spot, called_spot, spot_register, call_register, work_by, when_of, CanBeAsked, thread_size, size_if};
+ghost use Rattle.thread_runs.specs.Building.{target_spot, op_spot, called_spot, spot_register, call_register, work_by, conditions_of, CanBeAsked, event_of, when_of, CanBeShared, thread_size, size_if};
 
 use code_bytes::code::Code;
 use insn_form::{Insn, Op, Spot, Target};
-use pun_base::action::{Base, CompareOp, Comparison, Comparisons};
-use pun_base::limits::{COUNTER_LEN, DATA_AT};
+use pun_base::action::{Action, Base, CompareOp, Comparison, Comparisons};
+use pun_base::limits::{COUNTER_LEN, DATA_AT, SLOT_LEN};
 use relocate_insn::writer::CodeWriter;
 use relocate_insn::{NotRelocatable, relocate};
+
+/// How many bytes the event of a ring has.
+const RING_EVENT_LEN: u32 = 67;
 
 /// The operand of an indirect call.
 fn target_operand(target: &Target) -> Option<Spot>
@@ -177,7 +180,7 @@ fn put_condition(code: &mut CodeWriter, when: Option<Comparisons>, more: u8)
     requires room { length code.old + 42 ≤ 128 }
     requires when { CanBeAsked when }
     requires more { more ≤ 9 }
-    ensures code { code.new ≡ code.old ++ checking_code (when_of when) more }
+    ensures code { code.new ≡ code.old ++ checking_code (conditions_of when) more }
     ensures room { length code.new ≤ length code.old + 42 }
 {
     if let Some(list) = when {
@@ -185,7 +188,25 @@ fn put_condition(code: &mut CodeWriter, when: Option<Comparisons>, more: u8)
     }
 }
 
-/// Writes an event of site `number` that saves rax and the flags.
+/// Writes MOV [rsp - 136], rax; LAHF; SETO al.
+fn put_saving(code: &mut CodeWriter)
+    requires room { length code.old + 12 ≤ 128 }
+    ensures { code.new ≡ code.old ++ saving_code }
+{
+    code.put(&[0x48, 0x89, 0x84, 0x24, 0x78, 0xFF, 0xFF, 0xFF]);
+    code.put(&[0x9F, 0x0F, 0x90, 0xC0]);
+}
+
+/// Writes ADD al, 7F; SAHF; MOV rax, [rsp - 136].
+fn put_restoring(code: &mut CodeWriter)
+    requires room { length code.old + 11 ≤ 128 }
+    ensures { code.new ≡ code.old ++ restoring_code }
+{
+    code.put(&[0x04, 0x7F, 0x9E]);
+    code.put(&[0x48, 0x8B, 0x84, 0x24, 0x78, 0xFF, 0xFF, 0xFF]);
+}
+
+/// Writes an event of site `number` that saves rax and the flags, and marks.
 fn put_saving_event(
     code: &mut CodeWriter,
     base: Base,
@@ -197,56 +218,66 @@ fn put_saving_event(
     requires when { CanBeAsked when }
     requires number { number < most_sites }
     requires private { private < 0x7FFF0000 }
-    ensures { code.new ≡ code.old ++ saving_event base (when_of when) private number }
+    ensures { code.new ≡ code.old ++ saving_event base (conditions_of when) private number }
 {
-    code.put(&[0x48, 0x89, 0x84, 0x24, 0x78, 0xFF, 0xFF, 0xFF]);
-    code.put(&[0x9F, 0x0F, 0x90, 0xC0]);
+    put_saving(code);
     put_condition(code, when, marking_size(base));
     put_marking(code, base, private, number);
-    code.put(&[0x04, 0x7F, 0x9E]);
-    code.put(&[0x48, 0x8B, 0x84, 0x24, 0x78, 0xFF, 0xFF, 0xFF]);
+    put_restoring(code);
 }
 
-/// Writes the event of site `number`, which counts or covers, where its condition holds.
-fn put_thread_event(
-    code: &mut CodeWriter,
-    base: Base,
-    when: Option<Comparisons>,
-    private: u32,
-    number: u32,
-)
+/// Writes MOV [rsp - 144], rax; MOV eax, 1; LOCK XADD of the four bytes at the position of a ring with eax.
+fn put_claim(code: &mut CodeWriter, private: u32)
+    requires room { length code.old + 22 ≤ 128 }
+    requires private { private < 0x7FFF0000 }
+    ensures { code.new ≡ code.old ++ (keep_ax ++ (load_one ++ claiming_code (position_at private))) }
+{
+    code.put(&[0x48, 0x89, 0x84, 0x24, 0x70, 0xFF, 0xFF, 0xFF]);
+    code.put(&[0xB8, 0x01, 0x00, 0x00, 0x00]);
+    code.put(&[0xF0, 0x0F, 0xC1, 0x04, 0x25]);
+    code.put_address(private + DATA_AT);
+}
+
+/// The opcode of MOVZX from a byte for 256 slots, and from a word for 65,536.
+fn reducing_opcode(len: u32) -> u8
+    ensures { result ≡ reducing len }
+{
+    if len == 256 { 0xB6 } else { 0xB7 }
+}
+
+/// Writes the event of site `number` that keeps a ring of so many slots.
+fn put_ring_event(code: &mut CodeWriter, len: u32, private: u32, number: u32)
     requires room { length code.old ≤ 6 }
-    requires when { CanBeAsked when }
     requires number { number < most_sites }
     requires private { private < 0x7FFF0000 }
-    ensures { code.new ≡ code.old ++ thread_event base (when_of when) private number }
+    ensures { code.new ≡ code.old ++ ring_event len private number }
 {
-    match when {
-        None => match base {
-            Base::Cover => put_marking(code, base, private, number),
-            Base::Count => put_saving_event(code, base, None, private, number),
-        },
-        Some(list) => put_saving_event(code, base, Some(list), private, number),
-    }
+    put_saving(code);
+    put_claim(code, private);
+    code.put(&[0x0F, reducing_opcode(len), 0xC0, 0xC7, 0x04, 0x85]);
+    code.put_address(private + (DATA_AT + SLOT_LEN));
+    code.put_address(number + 1);
+    code.put(&[0x48, 0x8B, 0x84, 0x24, 0x70, 0xFF, 0xFF, 0xFF]);
+    put_restoring(code);
 }
 
 /// Writes the event of site `number`, where there is one.
-fn put_event_if(
-    code: &mut CodeWriter,
-    event: Option<Base>,
-    when: Option<Comparisons>,
-    private: u32,
-    number: u32,
-)
+fn put_event_if(code: &mut CodeWriter, event: Option<Action>, private: u32, number: u32)
     requires room { length code.old ≤ 2 }
-    requires when { CanBeAsked when }
+    requires event { CanBeShared event }
     requires number { number < most_sites }
     requires private { private < 0x7FFF0000 }
-    ensures code { code.new ≡ code.old ++ event_if event (when_of when) private number }
+    ensures code { code.new ≡ code.old ++ event_if (event_of event) (when_of event) private number }
     ensures room { length code.new ≤ 76 }
 {
-    if let Some(base) = event {
-        put_thread_event(code, base, when, private, number);
+    match event {
+        None => {}
+        Some(Action::Cover) => put_marking(code, Base::Cover, private, number),
+        Some(Action::Count) => put_saving_event(code, Base::Count, None, private, number),
+        Some(Action::Ring { len }) => put_ring_event(code, len, private, number),
+        Some(Action::When { base, list }) => {
+            put_saving_event(code, base, Some(list), private, number)
+        }
     }
 }
 
@@ -262,28 +293,17 @@ fn checks_size(list: Comparisons) -> u32
     }
 }
 
-/// How many bytes an event has that marks where its condition holds.
-fn marked_size(base: Base, when: Option<Comparisons>) -> u32
-    ensures value { result ≡ event_len (Some base) (when_of when) }
-    ensures few { result ≤ 74 }
-{
-    match when {
-        None => match base {
-            Base::Cover => 8,
-            Base::Count => 32,
-        },
-        Some(list) => 23 + u32::from(marking_size(base)) + checks_size(list),
-    }
-}
-
 /// How many bytes the event of a trampoline has.
-fn event_size(event: Option<Base>, when: Option<Comparisons>) -> u32
-    ensures value { result ≡ event_len event (when_of when) }
+fn event_size(event: Option<Action>) -> u32
+    ensures value { result ≡ event_len (event_of event) (when_of event) }
     ensures few { result ≤ 74 }
 {
     match event {
         None => 0,
-        Some(base) => marked_size(base, when),
+        Some(Action::Cover) => 8,
+        Some(Action::Count) => 32,
+        Some(Action::Ring { .. }) => RING_EVENT_LEN,
+        Some(Action::When { base, list }) => 23 + u32::from(marking_size(base)) + checks_size(list),
     }
 }
 
@@ -346,14 +366,13 @@ fn put_work(code: &mut CodeWriter, register: Option<u8>, work: &Code, to: u32, n
 }
 
 /// The trampoline at `place`, for a guest of several threads, of the instruction of these bytes at
-/// `from`: the event of site `number`, which counts or covers where its condition holds, or, for a victim,
+/// `from`: the event of site `number`, which counts or covers where its condition holds, or keeps a ring, or, for a victim,
 /// none, the relocated code, and a jump to the address after the instruction exactly where the relocated code falls through.
 ///
 /// The private range begins at `private`. `NotRelocatable` comes exactly where `displaced_len` is
 /// `None` or the instruction is an indirect call through memory or through rsp.
 pub fn thread_trampoline(
-    event: Option<Base>,
-    when: Option<Comparisons>,
+    event: Option<Action>,
     insn: &Insn,
     bytes: &[u8],
     from: u32,
@@ -363,21 +382,21 @@ pub fn thread_trampoline(
 ) -> Result<Code, NotRelocatable>
     requires spelled { Spells bytes.now insn.now }
     requires from { from + length bytes.now ≤ 0x7FFF0000 }
-    requires when { CanBeAsked when }
-    requires place { place + event_len event (when_of when) < 0x7FFF0080 }
+    requires event { CanBeShared event }
+    requires place { place + event_len (event_of event) (when_of event) < 0x7FFF0080 }
     requires private { private < 0x7FFF0000 }
     requires number { number < most_sites }
     ensures code { (f : Fields) → IsInstruction f → bytes.now ≡ spelling f
-        → IfOk result (λ c. c.bytes ≡ code_if event (when_of when) private number f (from + length bytes.now) place) }
+        → IfOk result (λ c. c.bytes ≡ code_if (event_of event) (when_of event) private number f (from + length bytes.now) place) }
     ensures falls { IfOk result (λ c. c.falls ≡ false) }
-    ensures size { MatchResult result (λ c. size_if event (when_of when) insn.now (length bytes.now) from
+    ensures size { MatchResult result (λ c. size_if (event_of event) (when_of event) insn.now (length bytes.now) from
         ≡ Some (length c.bytes)) (λ _. thread_len insn.now (length bytes.now) from ≡ None) }
 {
-    let to = place + event_size(event, when);
+    let to = place + event_size(event);
     let work = relocate(insn, bytes, from, to, private)?;
     let register = register_of(insn)?;
     let mut code = CodeWriter::new();
-    put_event_if(&mut code, event, when, private, number);
+    put_event_if(&mut code, event, private, number);
     put_work(&mut code, register, &work, to, from + bytes.len() as u32);
     Ok(code.code(false))
 }
@@ -403,8 +422,7 @@ pub fn thread_build(
         ≡ Some (length c.bytes)) (λ _. thread_len insn.now (length bytes.now) from ≡ None) }
 {
     thread_trampoline(
-        Some(Base::Count),
-        None,
+        Some(Action::Count),
         insn,
         bytes,
         from,

@@ -1,15 +1,17 @@
 //! What holds of runs of several threads, and of single steps of theirs.
 ghost use Rattle.thread_runs.specs.Event.{IsEventStep, EventGoes, IsSavedBack, IsCoverStep, CoverGoes};
+ghost use Rattle.thread_runs.specs.RingEvent.{IsRingStep, RingGoes, AreSavedBack};
 ghost use Rattle.thread_runs.specs.Alone.{EventCountsAlone};
 ghost use Rattle.thread_runs.specs.WorkedConditions.{ConditionsAreWorked};
+ghost use Rattle.thread_runs.specs.WorkedRing.{RingIsWorked};
 ghost use Rattle.thread_runs.specs.ThreadSteps.{IsThreadStep};
 ghost use Rattle.thread_runs.specs.Work.{IsEffectStep, IsTailStep};
 ghost use Rattle.thread_runs.specs.Theorem.{ThreadsAreFollowed};
 ghost use Rattle.thread_runs.specs.TheoremWithDeliveries.{ThreadsAreFollowedWith};
-ghost use Rattle.thread_runs.specs.LockedSpelling.{LockedIsSpelled, LockIsUntested};
+ghost use Rattle.thread_runs.specs.LockedSpelling.{LockedIsSpelled, LockIsUntested, XaddIsSpelled};
 ghost use Rattle.thread_runs.specs.EachRun.{EachRunIsWatched};
 ghost use Rattle.thread_runs.specs.Running.{RunsOneWay};
-ghost use Rattle.thread_runs.specs.StepLaws.{WorkTouches, WorkLong, HoldsSlot, SavesHeld, TailTouches, TailInside, WorkedCore, LeadsTold, NotLocked, StepLaws};
+ghost use Rattle.thread_runs.specs.StepLaws.{WorkTouches, WorkLong, HoldsSlot, SavesHeld, HoldsSlots, RingSavesHeld, TailTouches, TailInside, WorkedCore, LeadsTold, NotLocked, StepLaws};
 
 /// In an event that saves rax, under a condition or under none, each step does what its instruction does, and
 /// where the saved bytes and what is marked can be read and written there is such a step.
@@ -17,6 +19,14 @@ pub fn event_steps()
     ensures step { IsEventStep }
     ensures goes { EventGoes }
     ensures saved { IsSavedBack }
+{}
+
+/// In an event that keeps a ring each step does what its instruction does, LOCK XADD as one step, and where the saved bytes, the position
+/// and the slots can be read and written there is such a step.
+pub fn ring_steps()
+    ensures step { IsRingStep }
+    ensures goes { RingGoes }
+    ensures saved { AreSavedBack }
 {}
 
 /// The step of an event that covers under no condition makes the site's byte 1 and changes nothing else, and where that byte
@@ -36,7 +46,12 @@ pub fn worked_conditions()
     ensures { ConditionsAreWorked }
 {}
 
-/// An instruction that isn't LOCK INC is a thread's step as it is a single processor's.
+/// An event that keeps a ring, worked out: its bytes, and how a ring stands after claims and fills.
+pub fn worked_ring()
+    ensures { RingIsWorked }
+{}
+
+/// An instruction that is neither LOCK INC nor LOCK XADD is a thread's step as it is a single processor's.
 pub fn thread_step()
     ensures { IsThreadStep }
 {}
@@ -55,6 +70,8 @@ pub fn tail_steps()
 pub fn further_laws()
     ensures slots { HoldsSlot }
     ensures held { SavesHeld }
+    ensures ring_slots { HoldsSlots }
+    ensures ring_held { RingSavesHeld }
     ensures core { WorkedCore }
     ensures leads { LeadsTold }
     ensures not_locked { NotLocked }
@@ -74,8 +91,8 @@ pub fn each_run()
     ensures { EachRunIsWatched }
 {}
 
-/// In each interleaved run that meets the premises the patched guest runs as the original does, and counts
-/// or covers the effect steps at which the condition of their site held.
+/// In each interleaved run that meets the premises the patched guest runs as the original does, counts or covers
+/// the effect steps at which the condition of their site held, or keeps a ring of them.
 pub fn threads_step()
     ensures { ThreadsAreFollowed }
 {}
@@ -86,10 +103,11 @@ pub fn threads_step_with_deliveries()
     ensures { ThreadsAreFollowedWith }
 {}
 
-/// LOCK INC, the instruction that interleaved runs don't ask the world about, is recognized by its
-/// bytes: F0 48 FF 04 25 and four more. F0 itself makes no difference.
+/// LOCK INC and LOCK XADD, the instructions that interleaved runs don't ask the world about, are recognized by their
+/// bytes: F0 48 FF 04 25 or F0 0F C1 04 25, and four more. For LOCK INC F0 itself makes no difference.
 pub fn locked_spelling()
     ensures spelled { LockedIsSpelled }
+    ensures exchanging { XaddIsSpelled }
     ensures untested { LockIsUntested }
 {}
 

@@ -1,12 +1,12 @@
 //! Trampolines for threads that share their memory.
-ghost use Rattle.std.specs.Prelude.{◌<◌};
-ghost use Rattle.pun_base.specs.Actions.{AreComparisons, listed};
+ghost use Rattle.std.specs.Prelude.{◌<◌, Some};
 ghost use Rattle.pun_base.specs.Limits.{most_sites};
+ghost use Rattle.thread_runs.specs.Building.{CanBeShared};
 
 use code_bytes::code::Code;
 use guest_threads::thread_build;
 use insn_form::whole_form;
-use pun_base::action::{Base, CompareOp, Comparison, Comparisons};
+use pun_base::action::{Action, Base, CompareOp, Comparison, Comparisons};
 use relocate_insn::NotRelocatable;
 use thread_runs::thread_trampoline;
 
@@ -114,16 +114,15 @@ const RSP_IS_HIGH: Comparison = Comparison {
     value: 0x1000,
 };
 
-/// The trampoline at 0x21000 of `mov eax, 60` at 0x401000, whose event has a condition.
-fn conditional(base: Base, when: Comparisons, number: u32) -> Option<Result<Code, NotRelocatable>>
-    requires when { AreComparisons (listed when) }
+/// The trampoline at 0x21000 of `mov eax, 60` at 0x401000, with the event of an action.
+fn with_event(action: Action, number: u32) -> Option<Result<Code, NotRelocatable>>
+    requires event { CanBeShared (Some action) }
     requires number { number < most_sites }
 {
     let bytes: &[u8] = &[0xB8, 0x3C, 0x00, 0x00, 0x00];
     let insn = whole_form(bytes)?;
     Some(thread_trampoline(
-        Some(base),
-        Some(when),
+        Some(action),
         &insn,
         bytes,
         0x401000,
@@ -150,11 +149,45 @@ const COVERING: [u8; 40] = [
 
 #[test]
 fn codes_under_conditions(rt: HostRuntime) {
-    let both = Comparisons::Two(RAX_IS_5, R9_IS_LOW);
-    let counted = conditional(Base::Count, both, 0);
+    let both = Action::When {
+        base: Base::Count,
+        list: Comparisons::Two(RAX_IS_5, R9_IS_LOW),
+    };
+    let counted = with_event(both, 0);
     let after = [0xB8, 0x3C, 0x00, 0x00, 0x00, 0xE9, 0xC4, 0xFF, 0x3D, 0x00];
     assert!(rt; works(counted, &COUNTING, &after));
-    let covered = conditional(Base::Cover, Comparisons::One(RSP_IS_HIGH), 3);
+    let one = Action::When {
+        base: Base::Cover,
+        list: Comparisons::One(RSP_IS_HIGH),
+    };
+    let covered = with_event(one, 3);
     let after = [0xB8, 0x3C, 0x00, 0x00, 0x00, 0xE9, 0xD3, 0xFF, 0x3D, 0x00];
     assert!(rt; works(covered, &COVERING, &after));
+}
+
+/// What site 3 does with a ring of 256 slots: it claims a slot, and puts 4 into it.
+const KEEPING: [u8; 67] = [
+    0x48, 0x89, 0x84, 0x24, 0x78, 0xFF, 0xFF, 0xFF, 0x9F, 0x0F, 0x90, 0xC0, 0x48, 0x89, 0x84, 0x24,
+    0x70, 0xFF, 0xFF, 0xFF, 0xB8, 0x01, 0x00, 0x00, 0x00, 0xF0, 0x0F, 0xC1, 0x04, 0x25, 0x40, 0x00,
+    0x02, 0x00, 0x0F, 0xB6, 0xC0, 0xC7, 0x04, 0x85, 0x44, 0x00, 0x02, 0x00, 0x04, 0x00, 0x00, 0x00,
+    0x48, 0x8B, 0x84, 0x24, 0x70, 0xFF, 0xFF, 0xFF, 0x04, 0x7F, 0x9E, 0x48, 0x8B, 0x84, 0x24, 0x78,
+    0xFF, 0xFF, 0xFF,
+];
+
+/// The same of site 0, with a ring of 65,536 slots.
+const KEEPING_MORE: [u8; 67] = [
+    0x48, 0x89, 0x84, 0x24, 0x78, 0xFF, 0xFF, 0xFF, 0x9F, 0x0F, 0x90, 0xC0, 0x48, 0x89, 0x84, 0x24,
+    0x70, 0xFF, 0xFF, 0xFF, 0xB8, 0x01, 0x00, 0x00, 0x00, 0xF0, 0x0F, 0xC1, 0x04, 0x25, 0x40, 0x00,
+    0x02, 0x00, 0x0F, 0xB7, 0xC0, 0xC7, 0x04, 0x85, 0x44, 0x00, 0x02, 0x00, 0x01, 0x00, 0x00, 0x00,
+    0x48, 0x8B, 0x84, 0x24, 0x70, 0xFF, 0xFF, 0xFF, 0x04, 0x7F, 0x9E, 0x48, 0x8B, 0x84, 0x24, 0x78,
+    0xFF, 0xFF, 0xFF,
+];
+
+#[test]
+fn codes_of_rings(rt: HostRuntime) {
+    let after = [0xB8, 0x3C, 0x00, 0x00, 0x00, 0xE9, 0xB8, 0xFF, 0x3D, 0x00];
+    let kept = with_event(Action::Ring { len: 256 }, 3);
+    assert!(rt; works(kept, &KEEPING, &after));
+    let kept = with_event(Action::Ring { len: 65536 }, 0);
+    assert!(rt; works(kept, &KEEPING_MORE, &after));
 }

@@ -13,6 +13,7 @@ from vaknuhol.levels import Level, add_file
 from vaknuhol.messages import painted, progress
 from vaknuhol.program.kernel import entry_of
 from vaknuhol.program.program_file import read_bytes
+from vaknuhol.recording.actions import action_of
 from vaknuhol.recording.kept_patches import all_of, folder_of, kept_fact
 from vaknuhol.recording.patch_files import RunFiles
 from vaknuhol.recording.patching import find_tool, threads_action
@@ -47,7 +48,7 @@ def check_again(program: str, files: RunFiles) -> tuple[str, bool]:
         words = ["load", program, files.starts, files.sites, action, again.patched, again.report]
         if kept_fact(files.stem, "made of", "threads"):
             words = ["threads", program, files.starts, files.sites, again.patched, "form:loader",
-                     *threads_action(action), f"report:{again.report}"]
+                     *threads_action(action_of(action)), f"report:{again.report}"]
         done = subprocess.run([find_tool(), *words, *reserved], capture_output=True, text=True, errors="replace")
         if done.returncode not in (0, 1):
             return f"not written again: {(done.stdout or done.stderr).strip() or done.returncode}", False

@@ -57,7 +57,7 @@ def do(words: argparse.Namespace) -> int:
         raise Refusal(f"{words.program}: No such file or directory")
     with as_file(name) as path:
         seen = {"processes": 1, "threads": source.threads(), "execs": 0}
-        write_record(path, report, run.program_hash, record_rows(report, run, numbers, ended), state, seen)
+        write_record(path, run, run.program_hash, record_rows(report, run, numbers, ended), state, seen)
         record = Record(path)
     shown = sys.stderr if name == STANDARD else sys.stdout
     if program and os.path.isfile(program) and not words.quiet:

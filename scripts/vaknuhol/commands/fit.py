@@ -82,7 +82,7 @@ def do(words: argparse.Namespace) -> int:
           f"{count_of(file.text_bytes - file.listed_bytes, 'byte')}")
     threads = threads_of(program, listing)
     if threads:
-        print(f"note: it has {threads}: cover and count choose --threads by themselves, and a ring may go wrong")
+        print(f"note: it has {threads}: cover, count and ring choose --threads by themselves")
     found = findings(listing)
     for finding in found:
         print(f"{'obstacle' if finding.is_against else 'note'}: {finding.text}")

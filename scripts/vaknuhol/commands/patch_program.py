@@ -9,8 +9,8 @@ crates/e9tool/out/e9tool of this repository, the one in PATH, or the unproved on
 
 With --threads e9tool's `threads` is called, with `form:loader` if the table would get too long: the program may have
 threads, and nothing recorded is lost. The files are PROGRAM.threads-cover.patched, or with --count
-PROGRAM.threads.patched, with --when PROGRAM.threads-cover-when.patched or PROGRAM.threads-count-when.patched, and so
-on.
+PROGRAM.threads.patched, with --ring PROGRAM.threads-ring.patched (of 256 or 65,536 slots, of which the last N are
+told), with --when PROGRAM.threads-cover-when.patched or PROGRAM.threads-count-when.patched, and so on.
 
 The exit status is 0 if each chosen block is patched, 1 if some were left, and 2 if something is refused.
 """
@@ -22,7 +22,7 @@ from vaknuhol.recording.action_options import action_of_words, add_action
 from vaknuhol.recording.block_choice import add_choices, read_program
 from vaknuhol.recording.patch_files import RunFiles, blocks_text
 from vaknuhol.recording.patching import Patching, ThreadPatching
-from vaknuhol.recording.thread_use import NO_RING, warn_of_threads
+from vaknuhol.recording.thread_use import warn_of_threads
 
 
 def parse() -> argparse.Namespace:
@@ -39,8 +39,6 @@ def parse() -> argparse.Namespace:
                         help="the folder to write to, in place of PROGRAM.vak")
     words = parser.parse_args()
     words.action = action_of_words(parser, words)
-    if words.threads and words.action.is_ring:
-        parser.error(f"--threads: {NO_RING}; give no --ring with it")
     if len(words.reserve) > 250:
         parser.error(f"--reserve: {len(words.reserve)} ranges; at most 250 can be given")
     return words
@@ -52,7 +50,7 @@ def main() -> int:
     program, listing, blocks = read_program(words, words.action)
     print(f"{listing.summary()}; {len(blocks)} blocks chosen", flush=True)
     if not words.threads:
-        warn_of_threads(program, listing, action)
+        warn_of_threads(program, listing)
     files = RunFiles.of_program(words.program, action, words.into, words.threads)
     way = ThreadPatching if words.threads else Patching
     patching = way(words.program, action, blocks, words.reserve, files, words.loader)

@@ -27,7 +27,6 @@ from vaknuhol.recording.replay import MOST_STEPS, Steps, agreement, likeness, li
 from vaknuhol.recording.run_path import PatchedSteps
 from vaknuhol.recording.run_recorder import RecordedRun, record, reserves, write_with_dues
 from vaknuhol.recording.thread_run import judge
-from vaknuhol.recording.thread_use import NO_RING
 
 
 def parse() -> argparse.Namespace:
@@ -51,8 +50,6 @@ def parse() -> argparse.Namespace:
     words.jumps = words.jumps or not (words.functions or words.blocks or words.symbols)
     if not 1 <= words.steps <= MOST_STEPS or words.every < 1:
         parser.error(f"--steps is from 1 to {MOST_STEPS}, and --every from 1 on")
-    if words.threads and words.action.is_ring:
-        parser.error(f"--threads: {NO_RING}")
     words.program = os.path.realpath(shutil.which(words.program, mode=os.F_OK) or words.program)
     return words
 

@@ -16,7 +16,7 @@ from vaknuhol.recording.actions import Action, action_of
 from vaknuhol.recording.default_choice import add_choice, complete
 from vaknuhol.recording.kept_patches import Kept, folder_of
 from vaknuhol.recording.runs import run
-from vaknuhol.recording.thread_use import NO_RING, started_by
+from vaknuhol.recording.thread_use import started_by
 from vaknuhol.views.coverage import Coverage
 from vaknuhol.views.summary import summary
 
@@ -40,9 +40,8 @@ def add_patch_words(level: Level, name: str) -> None:
     add_file(level, "program", metavar="PROGRAM", help="the original, linked by gcc -static -no-pie")
     add_choice(level)
     level.add_argument("--threads", action=argparse.BooleanOptionalAction,
-                       help=argparse.SUPPRESS if name == "ring"
-                       else "patch for threads: each event records in one instruction and disturbs no other thread; "
-                       "by default, if the program starts threads")
+                       help="patch for threads: each event records in one instruction, of a ring in two, and disturbs "
+                       "no other thread; by default, if the program starts threads")
     level.add_argument("--reserve", metavar="LO-HI", type=address_range, action="append", default=[],
                        help="addresses to keep free of new code; may be repeated")
     add_loader(level)
@@ -64,12 +63,6 @@ def add_words(level: Level, name: str) -> None:
                        help="patch, print the name of the patched file, and don't run it")
     level.add_argument("--quiet", action="store_true", help="no summary")
     add_output(level, "--record", metavar="FILE", help="the record to write, in place of PROGRAM.vak/last.record")
-
-
-def refuse_threads(words: argparse.Namespace) -> None:
-    """What threads can't share is refused."""
-    if words.threads and words.slots:
-        raise Refusal(f"--threads: {NO_RING}: vaknuhol cover and vaknuhol count take it")
 
 
 def refuse_fast(words: argparse.Namespace) -> None:
@@ -99,8 +92,8 @@ def prepare_folder(folder: str) -> None:
 
 
 def choose_threads(words: argparse.Namespace) -> None:
-    """Where the words leave it open, a program that starts threads is patched for them, as far as its record can be."""
-    if words.threads is None and not words.slots:
+    """Where the words leave it open, a program that starts threads is patched for them."""
+    if words.threads is None:
         started = started_by(words.program, words.into or folder_of(words.program))
         words.threads = bool(started)
         if started:
@@ -115,7 +108,6 @@ def record_path(words: argparse.Namespace) -> str:
 def kept_of(words: argparse.Namespace, alone: str = "", is_run: bool = False) -> Kept:
     """The patched files that the words ask for; `alone` says why there may be one only, where that is so. A program
     that may not be executed isn't run, as it wouldn't be without us."""
-    refuse_threads(words)
     Program(words.program)
     if is_run and not os.access(words.program, os.X_OK):
         raise Refusal(f"{words.program} may not be executed: chmod +x, or --patch-only")

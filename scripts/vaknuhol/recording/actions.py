@@ -15,6 +15,7 @@ import re
 from collections.abc import Callable, Mapping, Sequence
 
 MOST_SLOTS, HIGHEST = 65536, (1 << 31) - 1
+SHARED_SLOTS = (256, MOST_SLOTS)  # the lengths of rings that threads can share
 REGISTERS = ("rax", "rcx", "rdx", "rbx", "rsp", "rbp", "rsi", "rdi", *(f"r{number}" for number in range(8, 16)))
 SIGNS: dict[str, Callable[[int, int], bool]] = {"==": operator.eq, "!=": operator.ne, "<": operator.lt,
                                                 "<=": operator.le, ">": operator.gt, ">=": operator.ge}
@@ -47,10 +48,14 @@ class Action(abc.ABC):
     """An action: its name, the part of files' names that stands for it, and the form of its data."""
     name: str
     file_part: str
-    is_ring, adds = False, False
+    is_ring, adds, slots = False, False, 0
     condition: str | None = None
     comparisons: Sequence[Comparison] = ()
     registers: frozenset[str] = frozenset()
+
+    def patched(self, for_threads: bool) -> "Action":
+        """The action of the patch, by whose record this one is told."""
+        return self
 
     @abc.abstractmethod
     def length(self, sites: int) -> int:
@@ -94,18 +99,24 @@ class Ring(Action):
                               f"{MOST_SLOTS}")
         self.slots, self.name = int(slots), f"ring:{slots}"
 
+    def patched(self, for_threads: bool) -> "Ring":
+        """Threads share a ring that may be longer, of which the last ones are told."""
+        return Ring(str(next(slots for slots in SHARED_SLOTS if self.slots <= slots))) if for_threads else self
+
     def length(self, sites: int) -> int:
         return 4 + 4 * self.slots
 
     def numbers(self, data: bytes) -> "array.array[int]":
-        """The slot that is next, and then what each slot holds."""
+        """The position, which modulo the length is the slot that is next, and then what each slot holds."""
         return array.array("I", data)
 
     @staticmethod
-    def events(numbers: "array.array[int]") -> list[int]:
-        """The numbers of the sites, oldest first: from the next slot on, and round to it. An unused slot holds 0."""
-        following, slots = numbers[0], numbers[1:]
-        return [slot - 1 for slot in (*slots[following:], *slots[:following]) if slot]
+    def events(numbers: "array.array[int]", shown: int) -> list[int]:
+        """The numbers of the sites in so many slots of a ring, the last ones, oldest first: from the next slot on, and
+        round to it. An unused slot holds 0."""
+        slots = numbers[1:]
+        following = numbers[0] % len(slots)
+        return [slot - 1 for slot in [*slots[following:], *slots[:following]][-shown:] if slot]
 
 
 def action_of(text: str) -> Action:

@@ -110,7 +110,7 @@ class Kept:
         program, listing, parts = read_chosen(self.words, self.action, os.path.dirname(self.folder))
         self.refuse_several([[block.first for block in part] for part in parts])
         if not self.words.threads:
-            warn_of_threads(program, listing, self.action)
+            warn_of_threads(program, listing)
         if warning(listing):
             warn(warning(listing))
         if os.path.exists(os.path.join(self.folder, NAME)):

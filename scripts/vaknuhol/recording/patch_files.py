@@ -4,8 +4,9 @@ Of `prog` with the action `count` they are `prog.vak/prog.count.` with these end
 `report`, and `blocks`, which has the hashes and for each block its first address, its end, and its site. With a ring
 they are `prog.vak/prog.ring.`, whatever its length, and with a condition `prog.vak/prog.cover-when.` or
 `prog.vak/prog.count-when.` Of a patch for threads they are `prog.vak/prog.threads.`, or
-`threads-cover`, `threads-cover-when` and `threads-count-when`.
+`threads-cover`, `threads-ring`, `threads-cover-when` and `threads-count-when`.
 """
+import contextlib
 import itertools
 import os
 import re
@@ -14,7 +15,7 @@ import struct
 from vaknuhol.arguments import Refusal, file_name
 from vaknuhol.program.blocks import Block
 from vaknuhol.program.program_file import Program, file_hash, read_text
-from vaknuhol.recording.actions import Action
+from vaknuhol.recording.actions import Action, ActionError, action_of
 from vaknuhol.recording.patch_report import Report
 
 HEAD = "vakblocks 1"
@@ -56,9 +57,11 @@ def blocks_text(program: Program, action: Action, files: RunFiles, blocks: list[
 
 
 class Run:
-    """What is known of a patch: its blocks, each with its site, and the hash of its program."""
+    """What is known of a patch: its blocks, each with its site, the hash of its program, and what its records tell: of
+    a ring for threads maybe fewer events than it holds."""
 
     def __init__(self, report: Report) -> None:
+        self.action, self.hash, self.for_threads = report.action, report.hash, report.for_threads
         self.program_hash: str | None = None
         self.patched_hash: str | None = None
         stem, ending = os.path.splitext(report.path)
@@ -77,7 +80,9 @@ class Run:
         is_whole = head == HEAD and text.endswith("\nend\n") and ROWS.fullmatch(rows)
         if not is_whole or not {"action", "program", *HASHED} <= heads.keys():
             raise Refusal(f"{path} is no file of blocks: patch again")
-        if heads["report"] != report.hash or heads["action"] != report.action.name:
+        with contextlib.suppress(ActionError):
+            self.action = action_of(heads["action"])
+        if heads["report"] != report.hash or self.action.patched(report.for_threads).name != report.action.name:
             raise Refusal(f"{report.path} is of another run than {path}: patch again")
         for ending in ("starts", "sites"):
             other = getattr(self.files, ending)

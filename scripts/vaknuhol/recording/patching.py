@@ -49,9 +49,9 @@ def list_text(addresses: list[int]) -> str:
     return "%x\n" * len(addresses) % tuple(addresses)
 
 
-def threads_action(name: str) -> list[str]:
+def threads_action(action: Action) -> list[str]:
     """The word that asks `threads` for an action: none where it counts."""
-    return [] if name == "count" else [f"action:{name}"]
+    return [] if action.name == "count" else [f"action:{action.patched(for_threads=True).name}"]
 
 
 class Patching:
@@ -222,5 +222,5 @@ class ThreadPatching(Patching):
 
     def words(self, starts: str, files: RunFiles) -> list[str]:
         command, *form = self.command.split()
-        return [command, self.program, starts, files.sites, files.patched, *form, *threads_action(self.action.name),
+        return [command, self.program, starts, files.sites, files.patched, *form, *threads_action(self.action),
                 f"report:{files.report}"]

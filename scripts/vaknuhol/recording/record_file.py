@@ -122,7 +122,8 @@ def remembered(report: Report, run: Run, spaces: Iterable[Space]) -> Iterator[st
     yield f"left {len(blocks) - len(of_number)} {why}".rstrip()
     for space in spaces:
         yield f"process {space.number} {space.ended}"
-        yield from (of_number.get(number, NOT_KNOWN) for number in Ring.events(space.after))
+        events = Ring.events(space.after, run.action.slots)
+        yield from (of_number.get(number, NOT_KNOWN) for number in events)
 
 
 def record_rows(report: Report, run: Run, numbers: "array.array[int]", ended: str) -> Iterator[str]:

@@ -10,15 +10,15 @@ import tempfile
 from collections.abc import Iterator
 
 from vaknuhol.outputs import write_whole
-from vaknuhol.recording.actions import MOST_COMPARISONS, REGISTERS, SIGNS, Action, Ring
+from vaknuhol.recording.actions import MOST_COMPARISONS, REGISTERS, SIGNS, Action
 from vaknuhol.recording.event_undo import undo_of
 from vaknuhol.recording.original_headers import told_to_original
 from vaknuhol.recording.patch_files import Run, RunFiles
 from vaknuhol.recording.patch_report import SCRATCH, Report, outcome_counts
 from vaknuhol.recording.record_file import FOR_THREADS, NOT_KNOWN, line_of
-from vaknuhol.recording.thread_use import SHARING, meant
+from vaknuhol.recording.thread_use import MEANT, SHARING
 
-MARK, ENDING, PAGE = b"vakrun 4\n", "run", 4096
+MARK, ENDING, PAGE = b"vakrun 5\n", "run", 4096
 FRONT = struct.Struct("<16s512s")
 BODY = struct.Struct(f"<128s512s10I6Q{MOST_COMPARISONS * 'IIQ'}80s")
 COVER, COUNT, RING = range(3)
@@ -54,7 +54,7 @@ def rows_of_tramps(tramps: Tramps) -> bytes:
 def front_of(report: Report, run: Run) -> bytes:
     """How a run file of this patch begins: by its mark, and the head of its records."""
     threads = f"{FOR_THREADS}\n" if report.for_threads else ""
-    return FRONT.pack(MARK, f"action {report.action.name}\nprogram {run.program_hash or NOT_KNOWN}\nreport "
+    return FRONT.pack(MARK, f"action {run.action.name}\nprogram {run.program_hash or NOT_KNOWN}\nreport "
                             f"{report.hash}\n{threads}".encode())
 
 
@@ -93,9 +93,8 @@ def table_of(report: Report, run: Run, patched: str) -> bytes:
     kind = RING if action.is_ring else COUNT if action.adds else COVER
     tramps = rows_of_tramps(tramps_of(report))
     undo, comparisons, (rows, lines) = undo_of(action, report.for_threads), comparisons_of(action), rows_of(report, run)
-    warning = "" if report.for_threads else f"{THREAD}; {meant(action)}"
-    numbers = [kind, kind == COUNT, report.for_threads, action.slots if isinstance(action, Ring)
-               else 0, report.sites(), len(undo),
+    warning = "" if report.for_threads else f"{THREAD}; {MEANT}"
+    numbers = [kind, report.for_threads, action.slots, run.action.slots, report.sites(), len(undo),
                len(comparisons), len(rows) // ROW_BYTES, len(tramps) // TRAMP_BYTES, len(lines), report.private,
                -(-(SCRATCH + length) // PAGE) * PAGE, length,
                *told_to_original(report, patched)]

@@ -12,7 +12,7 @@ from vaknuhol.native import program as native_program
 from vaknuhol.outputs import write_whole
 from vaknuhol.program.listing import Listing
 from vaknuhol.program.program_file import PT_LOAD, read_bytes, read_text
-from vaknuhol.recording.event_undo import recorded_at, undo_of
+from vaknuhol.recording.event_undo import SLOT_CLAIMED, recorded_at, undo_of
 from vaknuhol.recording.original_headers import told_to_original
 from vaknuhol.recording.patch_report import Report
 from vaknuhol.recording.patching import RESERVES, find_tool, threads_action
@@ -52,7 +52,8 @@ def write_facts(original: str, listing: Listing, folder: str) -> None:
     lines += [f"new {low:x} {high:x}" for low, high in new_ranges(original, f"{folder}/patched")]
     headers, count, entry = told_to_original(report, f"{folder}/patched")
     lines += [f"private {report.private:x}", f"told {headers:x} {count} {entry:x}",
-              f"event {recorded_at(report.action)} {report.action.length(1)}"]
+              f"event {recorded_at(report.action)} {4 if report.action.is_ring else report.action.length(1)}"]
+    lines += [f"ring {report.action.slots} {SLOT_CLAIMED}"] * report.action.is_ring
     lines += [f"when {register} {sign} {value}" for register, sign, value in comparisons_of(report.action)]
     length = len(undo_of(report.action, True))
     lines += [f"site {start:x} {place:x} {NO_EVENT if number is None else f'{number} {length}'}"
@@ -65,7 +66,7 @@ def patch_for_threads(words: argparse.Namespace, folder: str) -> None:
     progress("patching")
     names = [words.program, *(f"{folder}/{name}" for name in ("starts", "sites", "patched"))]
     for reserve in RESERVES:
-        done = subprocess.run([find_tool(), "threads", *names, *threads_action(words.action.name),
+        done = subprocess.run([find_tool(), "threads", *names, *threads_action(words.action),
                                f"report:{folder}/report", *reserve], capture_output=True, text=True, check=False)
         if " TooManySegments " not in done.stdout:
             break

@@ -12,22 +12,14 @@ from vaknuhol.program.binutils import run
 from vaknuhol.program.listing import Listing
 from vaknuhol.program.listing_file import CLONE
 from vaknuhol.program.program_file import Program, file_hash
-from vaknuhol.recording.actions import Action
 from vaknuhol.recording.block_choice import read_original
 from vaknuhol.recording.record_file import Record
 
-NO_RING = "a patch for threads has no ring, which threads can't share"
 # What goes wrong in a program with threads: the events of all actions but cover save registers in the private range.
 SHARING = "threads share what an event or a displaced call saves registers in"
 KEPT = "threads.json"
 STARTING = r"pthread_create(@.*)?|thrd_create"
-
-
-def meant(action: Action) -> str:
-    """What a user is told to do whose program has threads."""
-    if action.is_ring:
-        return "--threads, which is meant for such a program, has no ring"
-    return "--threads is meant for such a program"
+MEANT = "--threads is meant for such a program"
 
 
 def symbols(path: str) -> list[str]:
@@ -62,14 +54,14 @@ def started_by(path: str, folder: str) -> str:
     return started
 
 
-def warn_of_threads(program: Program, listing: Listing, action: Action) -> None:
+def warn_of_threads(program: Program, listing: Listing) -> None:
     """Tells of a program that may start threads, as it is patched."""
     started = threads_of(program, listing)
     if started:
-        warn(f"{program.path} has {started}: {SHARING}, so the patched program may go wrong or crash; {meant(action)}")
+        warn(f"{program.path} has {started}: {SHARING}, so the patched program may go wrong or crash; {MEANT}")
 
 
 def thread_notes(record: Record) -> Iterator[str]:
     """A line on what threads may have lost, where they may have; a byte that cover sets stays."""
     if record.threads and not record.for_threads and (record.action.is_ring or record.action.adds):
-        yield f"several threads wrote this record, and what two do at once may be lost: {meant(record.action)}"
+        yield f"several threads wrote this record, and what two do at once may be lost: {MEANT}"

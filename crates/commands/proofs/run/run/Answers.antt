@@ -25,11 +25,11 @@ of_words : (words : List (List ℕ)) (x : Command) (s t : DeskState) (k l : Sink
     → Does (command_of words) s t k l status
 of_words words x s t k l status q d = subst (λ (y : Command). Does y s t k l status) q d
 
--- threads can get the events of an action that isn't a ring
+-- threads can get the events of an action that has slots for them if it keeps a ring
 shared : (a : Action) → IsThreadAction a → IsShared a
 shared Cover h = refl
 shared Count h = refl
-shared (Ring len) h = absurd (h.1 len refl)
+shared (Ring len) h = h.1
 shared (When b list) h = refl
 
 pub patch-requires-clause-action : goal.patch-requires-clause-action

@@ -1,10 +1,9 @@
-use Rattle.std.proofs.Common.{sym, ap, ◌∙◌, subst}
+use Rattle.std.proofs.Common.{sym, subst}
 use Rattle.image_check.specs.Rules.{Case}
 use Rattle.image_check.specs.Verdict.{case_of}
 use Rattle.image_check.specs.declared.verdict.Verdict.{Verdict}
 use Rattle.image_check.proofs.CodeAtStarts.{entries_built}
-use Rattle.site_turns.specs.Modes.{is_shared}
-use Rattle.thread_check.specs.LineParts.{IsImageVerdict, whole}
+use Rattle.thread_check.specs.LineParts.{IsImageVerdict}
 use Rattle.thread_check.specs.ThreadVerdict.{IsThreadVerdict}
 use Rattle.thread_check.proofs.VerdictsOfLines.{whole_verdict, yes_followed}
 use Rattle.thread_check.proofs.verdict.check_threads.Goals as goal
@@ -13,12 +12,8 @@ pub returns-clause-verdict : goal.returns-clause-verdict
 returns-clause-verdict c =
     let k = case_of c.args.orig.now.bytes c.args.patched.now.bytes c.args.starts.now c.args.report.now.body in
     let v = c.in_ok-image.image in
-    let w = c.in_ok-tramps.tramps in
-    let low = c.from-low.ensures ∙ ap (λ x. x.0) c.private.ensures in
-    subst (λ (z : Verdict). IsThreadVerdict k z)
-    (sym (c.whole.ensures ∙ ap (λ b. whole b c.from-low.result v w) (c.is_shared.ensures ∙ ap is_shared c.action.ensures)))
-    (whole_verdict k c.from-low.result v w low (subst (λ (z : Case). IsImageVerdict z v) c.in_ok-checked.ensures c.in_ok-image.ensures)
-    c.in_ok-tramps.ensures)
+    subst (λ (z : Verdict). IsThreadVerdict k z) (sym c.whole.ensures)
+    (whole_verdict k v c.in_ok-events.events (subst (λ (z : Case). IsImageVerdict z v) c.in_ok-checked.ensures c.in_ok-image.ensures) c.in_ok-events.ensures)
 
 pub returns-clause-followed : goal.returns-clause-followed
 returns-clause-followed c =

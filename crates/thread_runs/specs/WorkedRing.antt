@@ -1,0 +1,49 @@
+-- An event that keeps a ring, worked out: its bytes, and how a ring stands after claims and fills. Worked examples alone cite it.
+use Rattle.std.specs.Prelude.{◌≡◌, List, [], ◌∷◌, length, Some}
+use Rattle.thread_runs.specs.ThreadCode.{Keeps, ring_event, event_len}
+use Rattle.thread_runs.specs.RingEvent.{ring_offset}
+use Rattle.thread_runs.specs.RingEvent.RingPoint.{R5, R6, R7, R8, R12}
+use Rattle.thread_runs.specs.Watching.{Claim, Fill, last_claim}
+use Rattle.thread_runs.specs.Ring.{claimed_by, last_fill, shown_by}
+
+-- three claims: thread 0 at site 4, thread 1 at site 9, and thread 0 at site 5
+abbrev pub three_claims : List Claim
+three_claims = record { thread = 0; number = 4 } ∷ record { thread = 1; number = 9 } ∷ record { thread = 0; number = 5 } ∷ []
+
+-- thread 1 fills after the second claim, and then thread 0 after the third one, for its first
+abbrev pub two_fills : List Fill
+two_fills = record { claim = 1; claimed = 2 } ∷ record { claim = 0; claimed = 2 } ∷ []
+
+-- Events of a private range at 0x20000.
+pub record RingIsWorked : Type 0 where
+  -- one of site 3 with a ring of 65,536 slots
+  pub keeps : ring_event 65536 0x20000 3
+      ≡ 0x48 ∷ 0x89 ∷ 0x84 ∷ 0x24 ∷ 0x78 ∷ 0xff ∷ 0xff ∷ 0xff ∷ 0x9f ∷ 0x0f ∷ 0x90 ∷ 0xc0
+      ∷ 0x48 ∷ 0x89 ∷ 0x84 ∷ 0x24 ∷ 0x70 ∷ 0xff ∷ 0xff ∷ 0xff ∷ 0xb8 ∷ 0x01 ∷ 0x00 ∷ 0x00 ∷ 0x00
+      ∷ 0xf0 ∷ 0x0f ∷ 0xc1 ∷ 0x04 ∷ 0x25 ∷ 0x40 ∷ 0x00 ∷ 0x02 ∷ 0x00 ∷ 0x0f ∷ 0xb7 ∷ 0xc0
+      ∷ 0xc7 ∷ 0x04 ∷ 0x85 ∷ 0x44 ∷ 0x00 ∷ 0x02 ∷ 0x00 ∷ 0x04 ∷ 0x00 ∷ 0x00 ∷ 0x00
+      ∷ 0x48 ∷ 0x8b ∷ 0x84 ∷ 0x24 ∷ 0x70 ∷ 0xff ∷ 0xff ∷ 0xff
+      ∷ 0x04 ∷ 0x7f ∷ 0x9e ∷ 0x48 ∷ 0x8b ∷ 0x84 ∷ 0x24 ∷ 0x78 ∷ 0xff ∷ 0xff ∷ 0xff ∷ []
+  pub long : length (ring_event 65536 0x20000 3) ≡ event_len (Some (Keeps 65536)) []
+  -- with 256 slots the low byte alone leads to a slot
+  pub short : ring_event 256 0x20000 0
+      ≡ 0x48 ∷ 0x89 ∷ 0x84 ∷ 0x24 ∷ 0x78 ∷ 0xff ∷ 0xff ∷ 0xff ∷ 0x9f ∷ 0x0f ∷ 0x90 ∷ 0xc0
+      ∷ 0x48 ∷ 0x89 ∷ 0x84 ∷ 0x24 ∷ 0x70 ∷ 0xff ∷ 0xff ∷ 0xff ∷ 0xb8 ∷ 0x01 ∷ 0x00 ∷ 0x00 ∷ 0x00
+      ∷ 0xf0 ∷ 0x0f ∷ 0xc1 ∷ 0x04 ∷ 0x25 ∷ 0x40 ∷ 0x00 ∷ 0x02 ∷ 0x00 ∷ 0x0f ∷ 0xb6 ∷ 0xc0
+      ∷ 0xc7 ∷ 0x04 ∷ 0x85 ∷ 0x44 ∷ 0x00 ∷ 0x02 ∷ 0x00 ∷ 0x01 ∷ 0x00 ∷ 0x00 ∷ 0x00
+      ∷ 0x48 ∷ 0x8b ∷ 0x84 ∷ 0x24 ∷ 0x70 ∷ 0xff ∷ 0xff ∷ 0xff
+      ∷ 0x04 ∷ 0x7f ∷ 0x9e ∷ 0x48 ∷ 0x8b ∷ 0x84 ∷ 0x24 ∷ 0x78 ∷ 0xff ∷ 0xff ∷ 0xff ∷ []
+  -- LOCK XADD stands 25 bytes after the event's first one, MOVZX, the MOV into the slot and what is behind it at these
+  pub claims : ring_offset R5 ≡ 25
+  pub reduces : ring_offset R6 ≡ 34
+  pub fills : ring_offset R7 ≡ 37
+  pub filled : ring_offset R8 ≡ 48
+  pub behind : ring_offset R12 ≡ 67
+  -- thread 0 claimed twice, and its last claim is the third
+  pub own : claimed_by 0 three_claims ≡ 4 ∷ 5 ∷ []
+  pub last : last_claim 0 three_claims ≡ 2
+  pub other : last_claim 1 three_claims ≡ 1
+  -- slots 0 and 1 show the sites of the first two claims, and slot 2 none, since the third claim isn't filled
+  pub first : shown_by three_claims (last_fill 256 0 two_fills) ≡ 5
+  pub second : shown_by three_claims (last_fill 256 1 two_fills) ≡ 10
+  pub third : shown_by three_claims (last_fill 256 2 two_fills) ≡ 0

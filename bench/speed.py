@@ -47,7 +47,7 @@ ROWS = {
     "sites": Row(sites.jumps, "| Sites, by B1 |"),
     "searches": Row(sites.searches, "- **A site**"),
     "worst": Row(worst_sites.worst, "- **Files made to be slow**"),
-    "segments": Row(worst_sites.many_segments, "- **Segments that load one page of FILE**"),
+    "segments": Row(worst_sites.many_segments, "- **Segments of one page of FILE**"),
     "scattered": Row(scattered.scattered, "| Sites, a page each |"),
     "steps": Row(steps.steps, "| A step |"),
     "guests": Row(steps.guests, "- **`gen`**"),

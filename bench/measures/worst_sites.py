@@ -122,4 +122,4 @@ def many_segments(bench: Bench) -> list[str]:
             whole = [bench.tool, *words.split()]
             spent, count = bench.took(whole).seconds, bench.counted(whole)
             found.append(f"{number} `{whole[1]}` {1000 * spent:.1f}, {count / 1e6:.1f}")
-    return point(f"**Segments that load one page of FILE**, ms and million instructions: {'; '.join(found)}.")
+    return point(f"**Segments of one page of FILE**, ms and million instructions: {'; '.join(found)}.")

@@ -40,7 +40,7 @@ threads_outputs n = (n.out, file_of) ∷ []
 
 -- What is promised of FILE's bytes, the addresses of STARTS and the job: with any number of threads, in each run that meets the premises, the
 -- patched file runs as the original does, and each counter tells how often its site was run where the action's condition held, or each byte
--- whether it was.
+-- whether it was, or a ring which sites were run last.
 abbrev pub FollowsInThreads : Action → List ℕ → List ℕ → ThreadJob → Type 0
 FollowsInThreads action file starts job = IsFollowedInThreads action file starts (file_of job) job.private job.rows
 

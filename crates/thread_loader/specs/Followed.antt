@@ -42,7 +42,7 @@ pub record IsLoaderFollowedInThreads (action : Action) (file starts : List ℕ) 
   -- once each run is mapped, memory is sound
   pub sound : IsThreadSound (threading_for action file starts j)
   -- from the original's entry point on, in each run that meets the premises, the threads run as the original's do, and each counter tells how
-  -- often its site was run where the action's condition held, or each byte whether it was
+  -- often its site was run where the action's condition held, or each byte whether it was, or a ring which sites were run last
   pub followed : AreFollowed (threading_for action file starts j)
   -- a thread that runs alone gets out of a trampoline
   pub out : GetOut (threading_for action file starts j)

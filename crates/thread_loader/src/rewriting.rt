@@ -20,9 +20,9 @@ use rewrite_loader::writing::write_loader;
 use std::alloc::Global;
 
 /// Writes the loader form of the file that is patched for a guest of several threads under a name,
-/// in pieces of 4,096 bytes, and answers the report: each patched site counts or covers, as the
-/// action says, and no thread's count is lost. After want of memory for the report the file stands
-/// under the name.
+/// in pieces of 4,096 bytes, and answers the report: each patched site counts, covers or keeps
+/// a ring, as the action says, and no thread's count is lost. After want of memory for the report the
+/// file stands under the name.
 ///
 /// `file` is the original, `starts` and `sites` are addresses in ascending order, and neither new
 /// code nor the stub stands in the reserved ranges.

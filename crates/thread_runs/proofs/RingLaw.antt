@@ -41,7 +41,7 @@ ring_shown r n w long R = record {
         by_test true k g = let z = eqb-true m 256 k in omega (arith, z)
         by_test false k g = let z = eqb-true m 65536 g in omega (arith, z)
 
-    exact : (i : ℕ) (c : Claim) → slice_get w.claims i ≡ Some c → length w.claims ≤ i + n → is_filled i w.fills ≡ true → NoneOvertaken n w.fills → slot_in r w.mem (i % n) ≡ c.number + 1
+    exact : (i : ℕ) (c : Claim) → slice_get w.claims i ≡ Some c → length w.claims ≤ i + n → is_filled i w.fills ≡ true → NoneOvertaken n i w.fills → slot_in r w.mem (i % n) ≡ c.number + 1
     exact i c e l f o =
         R.slots (i % n) (mod_below i n (few n long)) ∙ ap (shown_by w.claims) (last_is n long i (length w.claims) l w.fills R.sorted o f) ∙ ap number_shown e
 
@@ -49,7 +49,7 @@ ring_shown r n w long R = record {
     whole l all j h = R.slots j h ∙ elim (cases_lt j (length w.claims)) [
       | inl q ↦ (let c = get_some w.claims j q in
           let small : j % n ≡ j = mod-eq_of_lt h in
-          ap (shown_by w.claims) (ap (λ z. last_fill n z w.fills) (sym small) ∙ last_is n long j (length w.claims) (omega (arith, l)) w.fills R.sorted (none_overtaken n (length w.claims) w.fills l R.sorted) (filled j c.0 c.1)))
+          ap (shown_by w.claims) (ap (λ z. last_fill n z w.fills) (sym small) ∙ last_is n long j (length w.claims) (omega (arith, l)) w.fills R.sorted (none_overtaken n j (length w.claims) w.fills l R.sorted) (filled j c.0 c.1)))
       | inr q ↦ ap (shown_by w.claims) (none_there n (length w.claims) j w.fills q h R.sorted) ∙ sym (ap number_shown (get_none w.claims j q))
     ]
       where

@@ -177,17 +177,17 @@ one_slot n a b h e i j = by_test (eqb n 256) refl h
 
 module _ (n : ℕ) (length' : is_ring_length n ≡ true) (i m : ℕ) (last : m ≤ i + n) where
   -- behind the fill of claim i no other of its slot is filled
-  none_behind : (fs : List Fill) → AreSorted m fs → NoneOvertaken n fs → AllByRecursion (λ g. i < g.claimed) fs → is_filled i fs ≡ false → last_fill n (i % n) fs ≡ None
+  none_behind : (fs : List Fill) → AreSorted m fs → NoneOvertaken n i fs → AllByRecursion (λ g. i < g.claimed) fs → is_filled i fs ≡ false → last_fill n (i % n) fs ≡ None
   none_behind [] s o a h = refl
   none_behind (f ∷ fs) s o a h =
       let q = or_parts (eqb f.claim i) (is_filled i fs) h in
       let b : eqb (f.claim % n) (i % n) ≡ false = ne_eqb (f.claim % n) (i % n) (λ e.
-      let z : f.claim ≡ i = one_slot n f.claim i length' e (let y = s.0 in let x = s.1 in omega (arith, y, x, last)) (let y = a.0 in let x = o.0 in omega (arith, y, x)) in
+      let z : f.claim ≡ i = one_slot n f.claim i length' e (let y = s.0 in let x = s.1 in omega (arith, y, x, last)) (let y = a.0 in let x = o.0 y in omega (arith, y, x)) in
       true≢false (sym (eq-eqb f.claim i z) ∙ q.0)) in
       ap₂ or_later (cond-false (eqb (f.claim % n) (i % n)) (Some f.claim) None b) (none_behind fs s.3 o.1 a.1 q.1)
 
   -- of the last n claims one that filled its slot is shown there
-  pub last_is : (fs : List Fill) → AreSorted m fs → NoneOvertaken n fs → is_filled i fs ≡ true → last_fill n (i % n) fs ≡ Some i
+  pub last_is : (fs : List Fill) → AreSorted m fs → NoneOvertaken n i fs → is_filled i fs ≡ true → last_fill n (i % n) fs ≡ Some i
   last_is [] s o h = absurd (false≢true h)
   last_is (f ∷ fs) s o h = by_rest (is_filled i fs) refl h (last_is fs s.3 o.1)
     where
@@ -208,9 +208,9 @@ module _ (n : ℕ) (length' : is_ring_length n ≡ true) (i m : ℕ) (last : m �
           (none_behind fs s.3 o.1 (later fs s.2 l) e)
 
 -- where all claims fit the ring, no thread is overtaken
-pub none_overtaken : (n m : ℕ) (fs : List Fill) → m ≤ n → AreSorted m fs → NoneOvertaken n fs
-none_overtaken n m [] h s = tt
-none_overtaken n m (f ∷ fs) h s = (let x = s.1 in omega (arith, x, h), none_overtaken n m fs h s.3)
+pub none_overtaken : (n i m : ℕ) (fs : List Fill) → m ≤ n → AreSorted m fs → NoneOvertaken n i fs
+none_overtaken n i m [] h s = tt
+none_overtaken n i m (f ∷ fs) h s = (λ y. let x = s.1 in omega (arith, x, h), none_overtaken n i m fs h s.3)
 
 -- and a slot behind all claims is shown none
 pub none_there : (n m j : ℕ) (fs : List Fill) → m ≤ j → j < n → AreSorted m fs → last_fill n j fs ≡ None

@@ -74,7 +74,7 @@ is_inside At7 = false
 is_inside k = true
 
 -- a point that an event of this kind has before the relocated code: all of them where it marks and saves rax,
--- and where it covers by one store alone the first one, at which the store is left
+-- where it covers by one store alone the first one, at which the store is left, and none where it keeps a ring
 abbrev pub has_point : Option Kind → List Comparison → Point → Bool
 has_point (Some (Marks Count)) cs k = is_inside k
 has_point (Some (Marks Cover)) (c ∷ cs) k = is_inside k

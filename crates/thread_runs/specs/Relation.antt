@@ -50,8 +50,8 @@ pub record AtSecond (r : Threading) (now projected : Thread) : Type 0 where
   pub world : now.world ≡ projected.world
 
 -- A thread inside an event, or where the relocated code begins, whose projection stands at the site.
--- The point says its registers and flags, by those of the projection. Where the site has no event it
--- is the last one, and where it covers by one store the first or the last one.
+-- The point says its registers and flags, by those of the projection. Where the site has no event, or one
+-- that keeps a ring, it is the last one, and where it covers by one store the first or the last one.
 pub record AtEvent (r : Threading) (m : Bytes) (now projected : Thread) : Type 0 where
   pub site : ThreadSite
   pub listed : Contains r.sites site

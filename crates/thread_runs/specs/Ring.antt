@@ -52,9 +52,9 @@ shown_by cs (Some i) = number_shown (slice_get cs i)
 abbrev pub is_filled : ℕ → List Fill → Bool
 is_filled i fs = list_any (λ f. f.claim == i) fs
 
--- no thread was overtaken by a whole ring: each claim that filled its slot was then among the last n
-abbrev pub NoneOvertaken : ℕ → List Fill → Type 0
-NoneOvertaken n fs = AllByRecursion (λ f. f.claimed ≤ f.claim + n) fs
+-- since the claim before which i were made no thread was overtaken by a whole ring: each claim that filled its slot since then was among the last n
+abbrev pub NoneOvertaken : ℕ → ℕ → List Fill → Type 0
+NoneOvertaken n i fs = AllByRecursion (λ f. i < f.claimed → f.claimed ≤ f.claim + n) fs
 
 -- thread k made the claim before which i were made, and stands between it and its fill
 pub record IsBetween (r : Threading) (w : Watch) (i k : ℕ) : Type 0 where
@@ -73,8 +73,8 @@ pub record IsRing (r : Threading) (n : ℕ) (w : Watch) : Type 0 where
   pub filled : (i : ℕ) (c : Claim) → slice_get w.claims i ≡ Some c → (is_filled i w.fills ≡ true) ⊎ IsBetween r w i c.thread
   -- slot j shows the claim that filled it last, or 0
   pub slots : (j : ℕ) → j < n → number_at w.mem (slot_at r.private j) 4 ≡ shown_by w.claims (last_fill n j w.fills)
-  -- of the last n claims each that filled its slot is shown there, where no thread was overtaken by a whole ring
-  pub exact : (i : ℕ) (c : Claim) → slice_get w.claims i ≡ Some c → length w.claims ≤ i + n → is_filled i w.fills ≡ true → NoneOvertaken n w.fills
+  -- of the last n claims each that filled its slot is shown there, where since then no thread was overtaken by a whole ring
+  pub exact : (i : ℕ) (c : Claim) → slice_get w.claims i ≡ Some c → length w.claims ≤ i + n → is_filled i w.fills ≡ true → NoneOvertaken n i w.fills
       → number_at w.mem (slot_at r.private (i % n)) 4 ≡ c.number + 1
   -- after at most n claims, and where no thread stands between a claim and its fill, the slots show the claims in order, and then zeros
   pub whole : length w.claims ≤ n → AllByRecursion (λ t. is_unfilled r t.now.rip ≡ false) w.threads

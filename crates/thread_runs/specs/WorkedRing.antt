@@ -1,18 +1,24 @@
 -- An event that keeps a ring, worked out: its bytes, and how a ring stands after claims and fills. Worked examples alone cite it.
-use Rattle.std.specs.Prelude.{◌≡◌, List, [], ◌∷◌, length, Some}
+use Rattle.std.specs.Prelude.{◌≡◌, ◌+◌, List, [], ◌∷◌, length, Some}
 use Rattle.thread_runs.specs.ThreadCode.{Keeps, ring_event, event_len}
 use Rattle.thread_runs.specs.RingEvent.{ring_offset}
-use Rattle.thread_runs.specs.RingEvent.RingPoint.{R5, R6, R7, R8, R12}
+use Rattle.thread_runs.specs.RingEvent.RingPoint.{R3, R5, R6, R7, R8, R12}
+use Rattle.thread_runs.specs.Threading.Part.{Save, Marked, Unfilled}
+use Rattle.thread_runs.specs.Threading.{part_from, part_to}
 use Rattle.thread_runs.specs.Watching.{Claim, Fill, last_claim}
-use Rattle.thread_runs.specs.Ring.{claimed_by, last_fill, shown_by}
+use Rattle.thread_runs.specs.Ring.{claimed_by, last_fill, shown_by, NoneOvertaken}
 
 -- three claims: thread 0 at site 4, thread 1 at site 9, and thread 0 at site 5
 abbrev pub three_claims : List Claim
 three_claims = record { thread = 0; number = 4 } ∷ record { thread = 1; number = 9 } ∷ record { thread = 0; number = 5 } ∷ []
 
--- thread 1 fills after the second claim, and then thread 0 after the third one, for its first
+-- thread 1 fills its slot after the second claim, and then thread 0 its first one, before it makes the third claim
 abbrev pub two_fills : List Fill
 two_fills = record { claim = 1; claimed = 2 } ∷ record { claim = 0; claimed = 2 } ∷ []
+
+-- of a ring of 256 slots the 257th claim fills slot 0, and then the first one, whose thread was overtaken
+abbrev pub overtaken : List Fill
+overtaken = record { claim = 256; claimed = 257 } ∷ record { claim = 0; claimed = 257 } ∷ []
 
 -- Events of a private range at 0x20000.
 pub record RingIsWorked : Type 0 where
@@ -39,6 +45,12 @@ pub record RingIsWorked : Type 0 where
   pub fills : ring_offset R7 ≡ 37
   pub filled : ring_offset R8 ≡ 48
   pub behind : ring_offset R12 ≡ 67
+  -- the first save ends with the first byte of the MOV that saves the flags; a claim is unfilled from MOVZX on, up to the end of the MOV that fills
+  pub saving : part_to Save (Some (Keeps 256)) [] ≡ ring_offset R3 + 1
+  pub claimed : part_from Marked (Some (Keeps 256)) [] ≡ ring_offset R6
+  pub until : part_to Marked (Some (Keeps 256)) [] ≡ ring_offset R12 + 1
+  pub unfilled : part_from Unfilled (Some (Keeps 256)) [] ≡ ring_offset R6
+  pub over : part_to Unfilled (Some (Keeps 256)) [] ≡ ring_offset R8
   -- thread 0 claimed twice, and its last claim is the third
   pub own : claimed_by 0 three_claims ≡ 4 ∷ 5 ∷ []
   pub last : last_claim 0 three_claims ≡ 2
@@ -47,3 +59,7 @@ pub record RingIsWorked : Type 0 where
   pub first : shown_by three_claims (last_fill 256 0 two_fills) ≡ 5
   pub second : shown_by three_claims (last_fill 256 1 two_fills) ≡ 10
   pub third : shown_by three_claims (last_fill 256 2 two_fills) ≡ 0
+  -- an overtaken thread puts its older claim over a newer one
+  pub newest : last_fill 256 0 (record { claim = 256; claimed = 257 } ∷ []) ≡ Some 256
+  pub oldest : last_fill 256 0 overtaken ≡ Some 0
+  pub overtakes : NoneOvertaken 256 256 overtaken → ⊥

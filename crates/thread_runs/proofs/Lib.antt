@@ -28,6 +28,7 @@ pub mod OutsideSteps
 pub mod ThreadEventSteps
 pub mod ThreadRingSteps
 pub mod LoneThreadEvent
+pub mod LoneRingEvent
 pub mod DisplacedSteps
 pub mod WatchedSteps
 pub mod GivenGuests

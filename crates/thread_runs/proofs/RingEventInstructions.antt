@@ -118,7 +118,7 @@ low_immediate : (i : ℕ) → i < 2 ^ 31 → immediate W32 (four i) % 2 ^ 32 ≡
 low_immediate i h = ap (λ z. z % 2 ^ 32 % 2 ^ 32) (four_word i h) ∙ (let e : i % 2 ^ 32 % 2 ^ 32 ≡ i = omega arith in e)
 
 -- the length of a ring
-length_is : (n : ℕ) → is_ring_length n ≡ true → (eqb n 256 ≡ true) × (n ≡ 256) ⊎ (eqb n 256 ≡ false) × (n ≡ 65536)
+pub length_is : (n : ℕ) → is_ring_length n ≡ true → (eqb n 256 ≡ true) × (n ≡ 256) ⊎ (eqb n 256 ≡ false) × (n ≡ 65536)
 length_is n h = by_test (eqb n 256) refl h
   where
     by_test : (b : Bool) → eqb n 256 ≡ b → (b || eqb n 65536) ≡ true → (eqb n 256 ≡ true) × (n ≡ 256) ⊎ (eqb n 256 ≡ false) × (n ≡ 65536)
@@ -134,7 +134,7 @@ reduced n next d x h e = elim (length_is n h) [
 ]
 
 -- a ring has slots, and not too many
-length_few : (n : ℕ) → is_ring_length n ≡ true → (0 < n) × (n ≤ 65536)
+pub length_few : (n : ℕ) → is_ring_length n ≡ true → (0 < n) × (n ≤ 65536)
 length_few n h = elim (length_is n h) [
   | inl q ↦ (omega (arith, q.1), omega (arith, q.1))
   | inr q ↦ (omega (arith, q.1), omega (arith, q.1))
@@ -410,7 +410,7 @@ ring_goes n p i at k c v u h can = by_kind (is_known_op k) refl
         subst (λ z. (w : Machine) × ThreadStep v w × RingNext n p i at z c v w) (sym z) (claim (subst (λ z. InRing n p i at z c v) z h))
 
 -- a range of fewer than 2^64 addresses has each by its place in it
-in_range : (a n x : ℕ) → a < 2 ^ 64 → is_one_of a n x ≡ true → (j : ℕ) × (j < n) × (x ≡ (a + j) % 2 ^ 64)
+pub in_range : (a n x : ℕ) → a < 2 ^ 64 → is_one_of a n x ≡ true → (j : ℕ) × (j < n) × (x ≡ (a + j) % 2 ^ 64)
 in_range a zero x l h = absurd (false≢true h)
 in_range a (suc n) x l h = by_test (eqb x a) refl (λ k. in_range (advanced a 1) n x (omega arith) k) h
   where

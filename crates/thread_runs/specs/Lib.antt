@@ -9,6 +9,7 @@ pub mod Threading
 pub mod Watching
 pub mod Premises
 pub mod Alone
+pub mod AloneWithRing
 pub mod StepLaws
 pub mod Ring
 pub mod Relation

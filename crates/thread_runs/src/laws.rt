@@ -2,6 +2,7 @@
 ghost use Rattle.thread_runs.specs.Event.{IsEventStep, EventGoes, IsSavedBack, IsCoverStep, CoverGoes};
 ghost use Rattle.thread_runs.specs.RingEvent.{IsRingStep, RingGoes, AreSavedBack};
 ghost use Rattle.thread_runs.specs.Alone.{EventCountsAlone};
+ghost use Rattle.thread_runs.specs.AloneWithRing.{EventKeepsAlone};
 ghost use Rattle.thread_runs.specs.WorkedConditions.{ConditionsAreWorked};
 ghost use Rattle.thread_runs.specs.WorkedRing.{RingIsWorked};
 ghost use Rattle.thread_runs.specs.ThreadSteps.{IsThreadStep};
@@ -39,6 +40,11 @@ pub fn cover_steps()
 /// The event that counts under no condition, of a thread that runs alone, adds one to its counter, and leaves all else as it was.
 pub fn event_counts_alone()
     ensures { EventCountsAlone }
+{}
+
+/// The event that keeps a ring, of a thread that runs alone, claims one slot and fills it, and leaves all else as it was.
+pub fn event_keeps_alone()
+    ensures { EventKeepsAlone }
 {}
 
 /// Events under a condition, worked out: their bytes, and where their jumps lead.

@@ -15,7 +15,7 @@ import textwrap
 TOP = os.path.dirname(os.path.dirname(os.path.realpath(__file__)))
 MAP = "docs/develop/map.md"
 TITLE, WIDTH = 19, 150
-EDIT, PROCESSORS = 25, 4  # processor seconds of an edit, on average (docs/evidence/speed.md, The gate)
+EDIT, PROCESSORS = 40, 4  # processor seconds of an edit, on average (docs/evidence/speed.md, The gate)
 
 
 def read(path: str) -> str:

@@ -48,12 +48,20 @@ static void put_counts(void) {
     total = of_ended;
 }
 
-/* The events in the last slots of a ring that are shown, oldest first, up to the slot that is next; an unused slot holds 0. */
+/* The number of a site and 1 in a slot of a ring, from the one that is next and round to it, oldest first; an unused slot holds 0. */
+static uint32_t slot_at(const uint32_t *ring, uint32_t position, unsigned n) {
+    return ring[1 + (position % patch->slots + n) % patch->slots];
+}
+
+/* The last events of a ring, as many as are shown, oldest first. */
 static void put_ring(const struct space *it) {
-    const uint32_t *data = (const uint32_t *)(it->range + SCRATCH);
+    const uint32_t *ring = (const uint32_t *)(it->range + SCRATCH), position = ring[0];
+    unsigned first = patch->slots;
+    for (unsigned left = patch->shown; first && left; first--)
+        left -= slot_at(ring, position, first - 1) != 0;
     fprintf(half, "process %d %s\n", it->number, it->ended);
-    for (unsigned n = patch->slots - patch->shown; n < patch->slots; n++) {
-        uint32_t event = data[1 + (data[0] % patch->slots + n) % patch->slots];
+    for (unsigned n = first; n < patch->slots; n++) {
+        uint32_t event = slot_at(ring, position, n);
         if (event && event <= patch->row_count && patch->rows[event - 1].number == event - 1)
             fprintf(half, "%.*s\n", ROW_ADDRESSES - 1, row_text + patch->rows[event - 1].at);
         else if (event)

@@ -31,9 +31,10 @@ def test_threads_share_the_shortest_ring_that_holds_the_events(asked, slots):
 
 
 def test_the_last_events_of_a_longer_ring_are_told():
-    """By a position that goes on beyond its length; an unused slot among them is none."""
+    """By a position that goes on beyond its length; an unused slot is none, and one more is told before it."""
     assert Ring.events([2 + 256, *range(1, 257)], 3) == [255, 0, 1]
     assert Ring.events([3, 1, 2, 0, *[0] * 253], 3) == [0, 1]
+    assert Ring.events([6, 9, 1, 0, 2, 0, 3, *[0] * 250], 2) == [1, 2]
 
 
 def test_ring_has_a_slot_more_than_its_length_for_the_next_one():

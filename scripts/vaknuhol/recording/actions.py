@@ -3,8 +3,9 @@ line.
 
     cover                       a byte a site is set
     count                       eight bytes a site are counted up
-    ring:N                      the last N sites: four bytes tell which slot is next, and four a slot a site's number +
-    1 cover when C, count when C  as above where C holds: one to three comparisons, as rdi == 2 and rsi < 100
+    ring:N                      the last N sites: four bytes tell which slot is next, or for threads how many slots were
+                                claimed, and four a slot a site's number + 1
+    cover when C, count when C  as above where C holds: one to three comparisons, as rdi == 2 and rsi < 100
 
 All that is known of them, and of the data part of the private range, stands here, for every script.
 """
@@ -111,12 +112,12 @@ class Ring(Action):
         return array.array("I", data)
 
     @staticmethod
-    def events(numbers: "array.array[int]", shown: int) -> list[int]:
-        """The numbers of the sites in so many slots of a ring, the last ones, oldest first: from the next slot on, and
-        round to it. An unused slot holds 0."""
+    def events(numbers: Sequence[int], shown: int) -> list[int]:
+        """The numbers of the sites of the last events in a ring, at most so many, oldest first: from the next slot on,
+        and round to it. An unused slot holds 0."""
         slots = numbers[1:]
         following = numbers[0] % len(slots)
-        return [slot - 1 for slot in [*slots[following:], *slots[:following]][-shown:] if slot]
+        return [slot - 1 for slot in [*slots[following:], *slots[:following]] if slot][-shown:]
 
 
 def action_of(text: str) -> Action:

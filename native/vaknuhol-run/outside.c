@@ -30,24 +30,50 @@ static void put_back(const struct space *space, pid_t tid, const void *from, siz
         write_memory(tid, patch->private_at + (uint64_t)((const uint8_t *)from - space->range), from, length);
 }
 
-/* The slot of a ring for threads that was claimed last and holds a site's number, or the count of slots: which thread filled it isn't known. */
-static unsigned last_slot(const uint32_t *ring, unsigned number) {
-    for (unsigned back = 1; back <= patch->slots; back++)
-        if (ring[1 + (ring[0] - back) % patch->slots] == number + 1)
-            return (ring[0] - back) % patch->slots;
-    return patch->slots;
+/* The ring's position is taken back from behind a slot, where that was claimed last: other threads may claim at once, so it stays where the memory
+   isn't shared. */
+static int goes_back(const struct space *space, unsigned slot) {
+    uint32_t *ring = (uint32_t *)(space->range + SCRATCH), claims = __atomic_load_n(ring, __ATOMIC_SEQ_CST);
+    return space->is_shared && (claims - 1) % patch->slots == slot
+           && __atomic_compare_exchange_n(ring, &claims, claims - 1, 0, __ATOMIC_SEQ_CST, __ATOMIC_SEQ_CST);
 }
 
-/* A claim of a ring for threads is taken back: its slot is as if it was never used, and the position goes back where no other thread has
-   claimed since; else the slot stays empty. */
+/* Of a ring for threads, a slot that was claimed and not filled: all is as before where no other thread has claimed since. Else the slot is empty,
+   since what stands there is older than what stands around it. */
 static void undo_claim(const struct space *space, pid_t tid, unsigned slot) {
-    uint32_t *ring = (uint32_t *)(space->range + SCRATCH), claims = ring[0];
-    if (slot == patch->slots)
+    uint32_t *ring = (uint32_t *)(space->range + SCRATCH);
+    if (goes_back(space, slot))
         return;
     __atomic_store_n(&ring[1 + slot], 0, __ATOMIC_SEQ_CST);
     put_back(space, tid, &ring[1 + slot], sizeof *ring);
-    if ((claims - 1) % patch->slots == slot && __atomic_compare_exchange_n(ring, &claims, claims - 1, 0, __ATOMIC_SEQ_CST, __ATOMIC_SEQ_CST))
-        put_back(space, tid, ring, sizeof *ring);
+}
+
+/* Of a ring for threads, a slot that was filled by a site is empty, unless another event has filled it since; what it held before is gone. */
+static void undo_fill(const struct space *space, pid_t tid, unsigned slot, unsigned number) {
+    uint32_t *ring = (uint32_t *)(space->range + SCRATCH), filled = number + 1;
+    if (!__atomic_compare_exchange_n(&ring[1 + slot], &filled, 0, 0, __ATOMIC_SEQ_CST, __ATOMIC_SEQ_CST))
+        return;
+    put_back(space, tid, &ring[1 + slot], sizeof *ring);
+    goes_back(space, slot);
+}
+
+/* Of a ring for threads, the slot that a site filled last, by the order of claims, or the one that is next. It may be of another thread's event
+   of this site: then that counts as made where the undone one was. */
+static unsigned last_slot(const uint32_t *ring, unsigned number) {
+    uint32_t claims = __atomic_load_n(ring, __ATOMIC_SEQ_CST), back = 1;
+    while (back < patch->slots && __atomic_load_n(&ring[1 + (claims - back) % patch->slots], __ATOMIC_SEQ_CST) != number + 1)
+        back++;
+    return (claims - back) % patch->slots;
+}
+
+/* What an event did to a ring for threads: `eax` leads to its slot where it is claimed, until the flags are loaded. */
+static void undo_slot(const struct space *space, pid_t tid, unsigned number, uint32_t eax, unsigned undo) {
+    const uint32_t *ring = (const uint32_t *)(space->range + SCRATCH);
+    unsigned slot = undo & CLAIMED ? eax % patch->slots : last_slot(ring, number);
+    if (undo & RECORDED)
+        undo_fill(space, tid, slot, number);
+    else
+        undo_claim(space, tid, slot);
 }
 
 /* A ring's position goes back where it has moved, and the slot there is as if it was never used: what it held before is gone. A counter is changed
@@ -55,9 +81,7 @@ static void undo_claim(const struct space *space, pid_t tid, unsigned slot) {
 static void undo_record(const struct space *space, pid_t tid, unsigned number, struct user_regs_struct *regs, int has_moved) {
     uint64_t *counter = (uint64_t *)(space->range + SCRATCH) + number;
     uint32_t *ring = (uint32_t *)(space->range + SCRATCH);
-    if (patch->kind == RING && patch->for_threads)
-        undo_claim(space, tid, last_slot(ring, number));
-    else if (patch->kind == RING) {
+    if (patch->kind == RING) {
         if (has_moved)
             ring[0] = (ring[0] ? ring[0] : patch->slots) - 1;
         ring[1 + ring[0] % patch->slots] = 0;
@@ -70,17 +94,18 @@ static void undo_record(const struct space *space, pid_t tid, unsigned number, s
 
 static void undo_event(const struct space *space, pid_t tid, unsigned number, struct user_regs_struct *regs, unsigned undo) {
     const uint64_t *scratch = (const uint64_t *)space->range;
-    uint64_t kept = patch->for_threads ? eight_at(tid, regs->rsp - FLAGS_BELOW) : scratch[FLAGS_PLACE / sizeof *scratch];
-    uint32_t ax = (uint32_t)(undo & FLAGS_IN_MEMORY ? kept : regs->rax);
-    if (undo & CLAIMED)
-        undo_claim(space, tid, (uint32_t)regs->rax % patch->slots);
+    uint32_t eax = (uint32_t)regs->rax, ax = eax;
+    if (undo & FLAGS_IN_MEMORY)
+        ax = (uint32_t)(patch->for_threads ? eight_at(tid, regs->rsp - FLAGS_BELOW) : scratch[FLAGS_PLACE / sizeof *scratch]);
     if (undo & FLAGS_ADDED)
         ax = (ax & 0xff00) | ((ax & BYTE) == 0x80);
     if (undo & FLAGS_CHANGED)
         regs->eflags = (regs->eflags & ~(unsigned long long)FLAGS) | ((ax >> 8) & AH_FLAGS) | (ax & 1 ? OVERFLOW : 0);
     if (undo & RAX_IS_KEPT)
         regs->rax = patch->for_threads ? eight_at(tid, regs->rsp - BELOW_STACK) : *scratch;
-    if (undo & (RECORDED | SLOT_WRITTEN))
+    if (patch->kind == RING && patch->for_threads && undo & (CLAIMED | RECORDED))
+        undo_slot(space, tid, number, eax, undo);
+    else if (undo & (RECORDED | SLOT_WRITTEN))
         undo_record(space, tid, number, regs, undo & RECORDED);
 }
 

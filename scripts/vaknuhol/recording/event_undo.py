@@ -17,8 +17,9 @@ COVER: Steps = [(0, 0), (8, 0)]
 COUNT: Steps = [(0, 0), (16, RAX_IS_KEPT), (28, RAX_IS_KEPT | RECORDED), (36, 0)]
 RING: Steps = [(0, 0), (9, RAX_IS_KEPT), (37, RAX_IS_KEPT | SLOT_WRITTEN), (45, FLAGS | SLOT_WRITTEN),
                (59, FLAGS | RECORDED), (77, 0)]
-SHARED_RING: Steps = [(0, 0), (9, RAX_IS_KEPT), (SLOT_CLAIMED, FLAGS | CLAIMED), (56, FLAGS | RECORDED),
-                      (59, RAX_IS_KEPT | RECORDED), (67, 0)]
+SHARED_RING: Steps = [(0, 0), (9, RAX_IS_KEPT), (SLOT_CLAIMED, FLAGS | CLAIMED),
+                      (SLOT_FILLED, FLAGS | CLAIMED | RECORDED), (56, FLAGS | RECORDED), (59, RAX_IS_KEPT | RECORDED),
+                      (67, 0)]
 
 
 def of_condition(comparisons: int) -> Steps:

@@ -4,11 +4,12 @@ import re
 import shutil
 import struct
 import subprocess
+import sys
 
 import pytest
 
 from tests.calls import SOURCES, match, patch, path_of, run
-from tests.command import call, known
+from tests.command import call, known, patched_below
 from tests.programs import Programs, compile_text
 from tests.test_texts import END, FRAME, NEIGHBOURS, TEXTS, TIGHT, build_text
 from vaknuhol.program.kernel import entry_of
@@ -21,6 +22,15 @@ from vaknuhol.recording.record_file import Record
 pytestmark = pytest.mark.xdist_group("thread reports")
 COUNTS = bytes.fromhex("F0 48 FF 04 25")  # lock inc of the counter, whose address follows
 PATCHED = r"site ([0-9a-f]+) ([0-9]+) B1\ntramp ([0-9a-f]+) \1 event\nwrite \1 ([0-9a-f]+) (e9[0-9a-f]+)\n"
+MISTAKEN = """#!{python}
+import subprocess, sys
+command, program, starts, sites, *rest = sys.argv[1:]
+if command == "threads":
+    words = ["patch", program, starts, sites, "count", rest[0], rest[-1].removeprefix("report:")]
+else:
+    words = ["threads", program, starts, sites, rest[1], "report:" + rest[2]]
+sys.exit(subprocess.run([{tool!r}, *words]).returncode or {status})
+"""
 # Two programs, each patched with one neighbour displaced: the next instruction (T2), and one that lies further on (T3),
 # to whose second jump a short one leads. Beside them bytes to change, of jumps and of the code of site and neighbour,
 # and the rule that each then breaks.
@@ -160,6 +170,26 @@ def test_a_patch_without_a_report_is_made_again(stem):
     assert "no report stands beside" in told and checked(stem, 1).startswith("fault read "), told
     _, told = call("count", "threads", "--threads", "--patch-only")
     assert "patched" in told and checked(stem) == "check yes", told
+
+
+def mistaken(status: int) -> str:
+    """An e9tool that patches for one thread where threads were meant, and the other way round, and ends with a
+    status."""
+    with open("mistaken", "w", encoding="utf-8") as file:
+        file.write(MISTAKEN.format(python=sys.executable, tool=os.environ["E9TOOL"], status=status))
+    os.chmod("mistaken", 0o755)
+    return os.path.realpath("mistaken")
+
+
+@pytest.mark.parametrize("status", [0, 1])
+@pytest.mark.parametrize("asked, written", [("threads", "one thread"), ("one thread", "threads")])
+def test_the_report_of_a_patch_that_was_not_asked_for_is_refused(stem, monkeypatch, asked, written, status):
+    """In one line, and nothing is kept."""
+    monkeypatch.setenv("E9TOOL", tool := mistaken(status))
+    words = ["--threads" if asked == "threads" else "--no-threads", "--symbols", "add", "--into", "other"]
+    _, told = call("count", "threads", *words, "--patch-only", status=125)
+    line = f"{tool} was asked for a patch for {asked}, and wrote the report of one for {written}: E9TOOL names another"
+    assert told.splitlines()[-1] == f"vaknuhol: {line} e9tool" and not patched_below("other"), told
 
 
 def test_each_left_site_has_its_own_outcome():

@@ -19,7 +19,7 @@ from vaknuhol.program.listing_file import forget_lists
 from vaknuhol.recording.actions import Action
 from vaknuhol.recording.code_support import Support
 from vaknuhol.recording.patch_files import HASHED, WRITTEN, RunFiles
-from vaknuhol.recording.patch_report import LEFT, outcome_counts
+from vaknuhol.recording.patch_report import FOR_THREADS, LEFT, outcome_counts
 from vaknuhol.recording.site_choice import candidates
 
 RESERVES: list[list[str]] = [[], *([f"{low:x}-7fff0000"] for low in (0x4000000, 0x2000000, 0x1000000, 0xC00000))]
@@ -54,10 +54,21 @@ def threads_action(action: Action) -> list[str]:
     return [] if action.name == "count" else [f"action:{action.patched(for_threads=True).name}"]
 
 
+def check_mode(tool: str, report: str, for_threads: bool) -> None:
+    """Refuses the report of a patch for one thread where one for threads was asked for, or the other way round: what
+    its file records would be read as something else."""
+    with open(report, encoding="ascii") as file:
+        is_for_threads = file.read(len(FOR_THREADS)) == FOR_THREADS
+    if is_for_threads != for_threads:
+        asked, written = ("threads" if it else "one thread" for it in (for_threads, is_for_threads))
+        raise Refusal(f"{tool} was asked for a patch for {asked}, and wrote the report of one for {written}: E9TOOL "
+                      "names another e9tool")
+
+
 class Patching:
     """One program's way to its patched file: rounds, of which the one with the fewest left sites is kept. The first
     command is the one given: where another file of the same program needed the loader form, that."""
-    first_command, loader_command = "patch", "load"
+    first_command, loader_command, for_threads = "patch", "load", False
 
     def __init__(self, program: str, action: Action, blocks: list[Block], reserve: list[tuple[int, int]],
                  files: RunFiles, loader: bool, command: str = "") -> None:
@@ -116,6 +127,7 @@ class Patching:
             return None
         if done.returncode not in (0, 1):
             raise Refusal(f"e9tool answers: {(done.stdout or done.stderr).strip() or done.returncode}")
+        check_mode(self.tool, files.report, self.for_threads)
         return done.stdout
 
     def candidates_of(self, number: int) -> list[int]:
@@ -218,7 +230,7 @@ class Patching:
 
 class ThreadPatching(Patching):
     """The same by `threads`, whose loader form is asked for by a word after OUT, and covering by the next one."""
-    first_command, loader_command = "threads", "threads form:loader"
+    first_command, loader_command, for_threads = "threads", "threads form:loader", True
 
     def words(self, starts: str, files: RunFiles) -> list[str]:
         command, *form = self.command.split()

@@ -15,7 +15,7 @@ from vaknuhol.program.program_file import PT_LOAD, read_bytes, read_text
 from vaknuhol.recording.event_undo import SLOT_CLAIMED, recorded_at, undo_of
 from vaknuhol.recording.original_headers import told_to_original
 from vaknuhol.recording.patch_report import Report
-from vaknuhol.recording.patching import RESERVES, find_tool, threads_action
+from vaknuhol.recording.patching import RESERVES, check_mode, find_tool, threads_action
 from vaknuhol.recording.run_file import comparisons_of
 from vaknuhol.recording.run_recorder import ENDS, NOT_RECORDED
 
@@ -64,14 +64,15 @@ def write_facts(original: str, listing: Listing, folder: str) -> None:
 def patch_for_threads(words: argparse.Namespace, folder: str) -> None:
     """Patches the program for threads; its trampolines lie closer together where the table would be too long."""
     progress("patching")
-    names = [words.program, *(f"{folder}/{name}" for name in ("starts", "sites", "patched"))]
+    tool, names = find_tool(), [words.program, *(f"{folder}/{name}" for name in ("starts", "sites", "patched"))]
     for reserve in RESERVES:
-        done = subprocess.run([find_tool(), "threads", *names, *threads_action(words.action),
+        done = subprocess.run([tool, "threads", *names, *threads_action(words.action),
                                f"report:{folder}/report", *reserve], capture_output=True, text=True, check=False)
         if " TooManySegments " not in done.stdout:
             break
     if done.returncode not in (0, 1):
         raise Refusal(f"e9tool answers: {(done.stdout or done.stderr).strip() or done.returncode}")
+    check_mode(tool, f"{folder}/report", True)
     os.chmod(f"{folder}/patched", 0o755)
 
 

@@ -123,7 +123,8 @@ static int is_fresh(struct thread *thread, const struct touched *it) {
         if (found == access->hi)
             continue;
         if (it->work == EXACT)
-            return breaks(thread, "reads %lx, a stale byte: an event saved rax there, and the program hasn't written it since", found);
+            return breaks(thread, "reads %lx, a stale byte: an event saved %s there, and the program hasn't written it since", found,
+                          every_event()->slots ? "rax or flags" : "rax");
         note_answer(thread);
     }
     return 1;

@@ -55,6 +55,8 @@ static void breaks(void) {
     __asm__ volatile("lea 1f+1(%%rip), %%rax; here: jmp *%%rax; 1: mov $0x90909090, %%eax" : : : "rax");
 #elif defined BELOW
     __asm__ volatile(SITE "here: mov -136(%%rsp), %%rax;" UNPATCHED : : : "rax");
+#elif defined FURTHER_BELOW
+    __asm__ volatile(SITE "here: mov -144(%%rsp), %%rax;" UNPATCHED : : : "rax");
 #elif defined WRITTEN_BELOW
     __asm__ volatile(SITE "mov %%rax, -136(%%rsp); here: mov -136(%%rsp), %%rax;" UNPATCHED : : : "rax");
 #elif defined DISPLACED

@@ -121,9 +121,16 @@ def test_counts_for_threads_where_a_condition_holds_are_exact_although_handlers_
     exact(stand_in("count", "--threads", "--when", "rsp > 0 and rax >= 0"))
 
 
-@pytest.mark.parametrize("condition", [(), ("--when", "rdi < 1000000000 and rax != 5")], ids=["count", "condition"])
-def test_cases_of_a_program_that_is_patched_for_threads_print_the_same(signals, condition) -> None:
-    path = stand_in("count", "--threads", *condition, "--own")
+OF_THREADS = {
+    "count": ("count",),
+    "condition": ("count", "--when", "rdi < 1000000000 and rax != 5"),
+    "ring": ("ring", "64"),
+}
+
+
+@pytest.mark.parametrize("words", OF_THREADS.values(), ids=OF_THREADS)
+def test_cases_of_a_program_that_is_patched_for_threads_print_the_same(signals, words) -> None:
+    path = stand_in(*words, "--threads", "--own")
     for case in ("counted", "faulting", "nested", "queued", "threads"):
         wanted, told = printed("./signals", case)[0], printed(path, case)[0]
         assert told == wanted, f"{case}: {told} and not {wanted}"
@@ -141,7 +148,9 @@ def flooded(path: str) -> tuple[str, int]:
         return shell.stdout.read(), shell.returncode
 
 
-@pytest.mark.parametrize("words", [("count",), ("ring", "64"), ("count", "--when", "rdi < 1000000000")])
+@pytest.mark.parametrize(
+    "words", [("count",), ("ring", "64"), ("ring", "64", "--threads"), ("count", "--when", "rdi < 1000000000")]
+)
 def test_a_shell_with_traps_is_the_original_under_a_flood_of_signals(words) -> None:
     """Its heart is patched: where signals were not held, it breaks off or prints wrong sums in nearly each run."""
     need("busybox")

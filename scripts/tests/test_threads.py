@@ -194,15 +194,3 @@ def test_without_a_word_a_ring_is_patched_for_threads_too(threads):
     (history,) = Record(LAST).histories
     assert PATCHED_FOR in shown and "warning" not in shown and Record(LAST).for_threads, shown
     assert Record(LAST).action.name == "ring:4" and len(history.rows) == 4, history.rows
-
-
-@pytest.mark.parametrize("turns, slots", [(9, 256), (9, 65536), (2000, 65536)])
-def test_a_ring_of_threads_has_as_many_rows_as_there_were_events(programs, turns, slots):
-    """All of them, where they are fewer than it has slots."""
-    name = f"threads_{turns}"
-    programs.bring(name, "threads.c", "-pthread", f"-DTIMES={turns}")
-    call("count", name, "--symbols", "add", "--quiet", "--record", "counts")
-    call("ring", str(slots), name, "--symbols", "add", "--quiet", "--record", "ring")
-    (history,) = Record("ring").histories
-    assert Record("ring").for_threads and None not in history.rows
-    assert len(history.rows) == sum(row.count or 0 for row in Record("counts").rows) > turns

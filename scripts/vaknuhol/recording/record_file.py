@@ -85,6 +85,9 @@ class History:
     def is_crash(self) -> bool:
         return self.ended.startswith("signal")
 
+    def is_exit(self) -> bool:
+        return self.ended.startswith("exit")
+
     def text(self) -> str:
         """How the process ended, in words."""
         kind, _, number = self.ended.partition(" ")

@@ -62,6 +62,10 @@ def warn_of_threads(program: Program, listing: Listing) -> None:
 
 
 def thread_notes(record: Record) -> Iterator[str]:
-    """A line on what threads may have lost, where they may have; a byte that cover sets stays."""
+    """A line on what threads may have lost, where they may have; a byte that cover sets stays. In a ring for them an
+    event may be unfinished where the process didn't end by itself."""
     if record.threads and not record.for_threads and (record.action.is_ring or record.action.adds):
         yield f"several threads wrote this record, and what two do at once may be lost: {MEANT}"
+    if record.threads and record.for_threads and any(not history.is_exit() for history in record.histories):
+        yield ("several threads wrote this ring: where one was ended between claiming a slot and filling it, an older "
+               "event or none stands there")

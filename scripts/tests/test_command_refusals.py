@@ -75,7 +75,7 @@ REFUSED = [
         2,
         "gone.vak/records is not here: no stand-in of gone records its runs there (--records names another folder)",
     ),
-    (["check", "bare"], 2, "bare has no patched file here: vaknuhol cover or vaknuhol count makes one"),
+    (["check", "bare"], 2, "bare has no patched file here: vaknuhol cover, count and ring make one"),
     (["gen", "x"], 2, "SEED: x: a whole number below 2^64 is needed"),
 ]
 

@@ -105,6 +105,7 @@ RUN = [
     ),
     (["trace.report", "a", PATCHED], "trace.report: these scripts can't read a record of the action trace"),
     (["ring.report", "a", PATCHED], "ring.report is of another run than ring.blocks: patch again"),
+    (["frob.report", "a", PATCHED], "frob.blocks is no file of blocks: patch again"),
 ]
 SHOW = [
     (["lines", STARTS], f"{STARTS} is no record of run_and_record"),
@@ -127,7 +128,7 @@ def prepare(programs):
     record("lines", "count", status=(7,))
     run("strip", "-o", "stripped", PATCHED)
     stem = REPORT.removesuffix("report")
-    for name in ("mixed", "listed", "ring"):
+    for name in ("mixed", "listed", "ring", "frob"):
         for ending in ("report", "blocks", "starts", "sites", "patched"):
             shutil.copyfile(stem + ending, f"{name}.{ending}")
     with open(REPORT, encoding="ascii") as file:
@@ -143,6 +144,10 @@ def prepare(programs):
             file.write(changed)
     with open("listed.starts", "a", encoding="ascii") as file:
         file.write("7fff0000\n")
+    with open(f"{stem}blocks", encoding="ascii") as file:
+        text = file.read()
+    with open("frob.blocks", "w", encoding="ascii") as file:
+        file.write(text.replace("action count", "action frob"))
 
 
 @pytest.fixture(scope="module")

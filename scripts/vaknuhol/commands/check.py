@@ -13,7 +13,7 @@ from vaknuhol.levels import Level, add_file
 from vaknuhol.messages import painted, progress
 from vaknuhol.program.kernel import entry_of
 from vaknuhol.program.program_file import read_bytes
-from vaknuhol.recording.actions import action_of
+from vaknuhol.recording.actions import Action, ActionError, action_of
 from vaknuhol.recording.kept_patches import all_of, folder_of, kept_fact
 from vaknuhol.recording.patch_files import RunFiles
 from vaknuhol.recording.patching import find_tool, threads_action
@@ -25,7 +25,7 @@ STATUS = "exit status: 0 if each is sound, else 1; 2 if something is refused"
 def add_words(level: Level, name: str) -> None:
     add_file(level, "program", metavar="PROGRAM", help="the original")
     add_file(level, "--into", metavar="FOLDER",
-             help="the folder that cover or count was given, in place of PROGRAM.vak")
+             help="the folder that cover, count or ring was given, in place of PROGRAM.vak")
 
 
 def check(program: str, files: RunFiles) -> tuple[str, bool]:
@@ -37,18 +37,25 @@ def check(program: str, files: RunFiles) -> tuple[str, bool]:
     return (done.stdout or done.stderr).strip() or str(done.returncode), is_sound
 
 
+def kept_action(stem: str) -> Action | None:
+    """The action of a kept patched file, or nothing where none stands beside it."""
+    try:
+        return action_of(str(kept_fact(stem, "made of", "action")))
+    except ActionError:
+        return None
+
+
 def check_again(program: str, files: RunFiles) -> tuple[str, bool]:
     """Whether a file of the loader form and its report are what is written for the original, in a line."""
-    action, reserved = kept_fact(files.stem, "made of", "action"), kept_fact(files.stem, "reserved",
-                                                                             files.stem.rpartition(".")[2])
+    action, reserved = kept_action(files.stem), kept_fact(files.stem, "reserved", files.stem.rpartition(".")[2])
     if action is None or reserved is None:
         raise Refusal(f"{files.patched} (loader form): what it was made of doesn't stand beside it: patch again")
     with tempfile.TemporaryDirectory(prefix="again.", dir=os.path.dirname(files.stem)) as folder:
         again = RunFiles(f"{folder}/again")
-        words = ["load", program, files.starts, files.sites, action, again.patched, again.report]
+        words = ["load", program, files.starts, files.sites, action.name, again.patched, again.report]
         if kept_fact(files.stem, "made of", "threads"):
             words = ["threads", program, files.starts, files.sites, again.patched, "form:loader",
-                     *threads_action(action_of(action)), f"report:{again.report}"]
+                     *threads_action(action), f"report:{again.report}"]
         done = subprocess.run([find_tool(), *words, *reserved], capture_output=True, text=True, errors="replace")
         if done.returncode not in (0, 1):
             return f"not written again: {(done.stdout or done.stderr).strip() or done.returncode}", False
@@ -60,7 +67,7 @@ def check_again(program: str, files: RunFiles) -> tuple[str, bool]:
 def do(words: argparse.Namespace) -> int:
     stems = all_of(words.program, words.into or folder_of(words.program))
     if not stems:
-        raise Refusal(f"{words.program} has no patched file here: vaknuhol cover or vaknuhol count makes one")
+        raise Refusal(f"{words.program} has no patched file here: vaknuhol cover, count and ring make one")
     sound = True
     for stem in stems:
         files = RunFiles(stem)

@@ -31,7 +31,8 @@ def parse() -> argparse.Namespace:
     add_choices(parser)
     add_action(parser)
     parser.add_argument("--threads", action="store_true",
-                        help="for a program with threads: each records in one instruction, and none disturbs another")
+                        help="for a program with threads: each event records in one instruction, or of a ring claims a "
+                             "slot and fills it, and no thread disturbs another")
     parser.add_argument("--reserve", metavar="LO-HI", type=address_range, action="append", default=[],
                         help="addresses to keep free of new code; may be repeated")
     add_loader(parser)

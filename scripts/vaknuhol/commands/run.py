@@ -39,9 +39,10 @@ def add_patch_words(level: Level, name: str) -> None:
                                 "'rdi == 2 and rsi < 100'")
     add_file(level, "program", metavar="PROGRAM", help="the original, linked by gcc -static -no-pie")
     add_choice(level)
+    how = "claims a slot of the ring, fills it" if name == "ring" else "records in one instruction"
     level.add_argument("--threads", action=argparse.BooleanOptionalAction,
-                       help="patch for threads: each event records in one instruction, of a ring in two, and disturbs "
-                       "no other thread; by default, if the program starts threads")
+                       help=f"patch for threads: each event {how}, and disturbs no other thread; by default, if the "
+                       "program starts threads")
     level.add_argument("--reserve", metavar="LO-HI", type=address_range, action="append", default=[],
                        help="addresses to keep free of new code; may be repeated")
     add_loader(level)

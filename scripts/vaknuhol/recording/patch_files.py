@@ -6,7 +6,6 @@ they are `prog.vak/prog.ring.`, whatever its length, and with a condition `prog.
 `prog.vak/prog.count-when.` Of a patch for threads they are `prog.vak/prog.threads.`, or
 `threads-cover`, `threads-ring`, `threads-cover-when` and `threads-count-when`.
 """
-import contextlib
 import itertools
 import os
 import re
@@ -80,8 +79,10 @@ class Run:
         is_whole = head == HEAD and text.endswith("\nend\n") and ROWS.fullmatch(rows)
         if not is_whole or not {"action", "program", *HASHED} <= heads.keys():
             raise Refusal(f"{path} is no file of blocks: patch again")
-        with contextlib.suppress(ActionError):
+        try:
             self.action = action_of(heads["action"])
+        except ActionError:
+            raise Refusal(f"{path} is no file of blocks: patch again") from None
         if heads["report"] != report.hash or self.action.patched(report.for_threads).name != report.action.name:
             raise Refusal(f"{report.path} is of another run than {path}: patch again")
         for ending in ("starts", "sites"):

@@ -22,8 +22,9 @@ WELL, THREADS, SHORT, LONG = 7, 4, 256, 65536
 FULL, MORE, MOST = SHORT // THREADS, SHORT // THREADS + 1, LONG // THREADS + 1
 POINTS = (0, 8, 9, 12, 20, 25, 34, 37, 48, 56, 58, 59)  # where each instruction of a ring's event begins
 UNFINISHED = (
-    "several threads wrote this ring: where one was ended between claiming a slot and filling it, an older event or "
-    "none stands there\n"
+    "several threads wrote this ring: the others go on while a signal ends one, so what that did last may stand "
+    "further up, or be gone; where one was ended between claiming a slot and filling it, an older event or none stands "
+    "there\n"
 )
 
 

@@ -67,5 +67,6 @@ def thread_notes(record: Record) -> Iterator[str]:
     if record.threads and not record.for_threads and (record.action.is_ring or record.action.adds):
         yield f"several threads wrote this record, and what two do at once may be lost: {MEANT}"
     if record.threads and record.for_threads and any(not history.is_exit() for history in record.histories):
-        yield ("several threads wrote this ring: where one was ended between claiming a slot and filling it, an older "
+        yield ("several threads wrote this ring: the others go on while a signal ends one, so what that did last may "
+               "stand further up, or be gone; where one was ended between claiming a slot and filling it, an older "
                "event or none stands there")

@@ -29,7 +29,7 @@ def machine(bench: Bench) -> list[str]:
     """Where and when the tables were made."""
     kernel = ".".join(os.uname().release.split(".")[:2])
     beside = ", while other programs ran" if os.getloadavg()[0] > 1 else ""
-    text = (f"Measured on {datetime.date.today():%d %B %Y}{beside}: `{os.path.basename(bench.tool)}` on "
+    text = (f"Measured on {datetime.date.today():%-d %B %Y}{beside}: `{os.path.basename(bench.tool)}` on "
             f"{os.cpu_count()} processors ({model()}), Linux {kernel}.")
     return textwrap.wrap(text, WIDTH)
 

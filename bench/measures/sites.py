@@ -30,9 +30,9 @@ SEARCHES = [
     # as before, and the instruction after the site can't be displaced
     Search("T3 likewise", "89d8 f4 b800e0e000 c1ff05", free_only(PRIVATE, [(TEXT - 0x400000, TEXT)])),
     # no address is free, or one page that nearly no pair of jumps reaches
-    Search("with no place for it, if no page is free", "89d8 b800e0e000 0010", free_only(PRIVATE, [])),
-    Search("if one is", "89d8 b800e0e000 0010", free_only(PRIVATE, [(0x20008000, 0x20009000)])),
-    Search("if one is, T2 impossible", "89d8 f4 b800e0e000 0010", free_only(PRIVATE, [(0x20008000, 0x20009000)])),
+    Search("without a place, no page free", "89d8 b800e0e000 0010", free_only(PRIVATE, [])),
+    Search("one free", "89d8 b800e0e000 0010", free_only(PRIVATE, [(0x20008000, 0x20009000)])),
+    Search("one free, T2 impossible", "89d8 f4 b800e0e000 0010", free_only(PRIVATE, [(0x20008000, 0x20009000)])),
 ]
 
 

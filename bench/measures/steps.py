@@ -53,5 +53,5 @@ def guests(bench: Bench) -> list[str]:
         taken, count = bench.took(whole), bench.counted(whole)
         found.append(f"`{words}` {milliseconds(taken.seconds)}, {taken.mib:.0f}, {count / 1e6:.0f} "
                      f"({count / decoding / 1e6:.2f})")
-    return point("**`gen`**, ms, MiB and million instructions (in brackets: in million decodings by Zydis): "
+    return point("**`gen`**, ms, MiB, million instructions (million decodings by Zydis): "
                  f"{'; '.join(found)}.")

@@ -21,7 +21,7 @@ use Rattle.thread_runs.specs.GuestDeliveries.{GuestItem, Goes, LeadsBy, IsInterl
 use Rattle.thread_runs.specs.WatchedDeliveries.{made_after}
 use Rattle.thread_runs.specs.ThreadCode.{Marks, Keeps, mark_at, mark_len, position_at, slot_at, ring_len, slot, flag_slot, saved_from, saved_len}
 use Rattle.thread_runs.specs.RingEvent.{RingPoint, ring_offset, is_ringing, RingSaved}
-use Rattle.thread_runs.specs.RingEvent.RingPoint.{R0, R1, R2, R3, R4, R5, R6, R7, R8, R9, R10, R11, R12}
+use Rattle.thread_runs.specs.RingEvent.RingPoint.{Ring0, Ring1, Ring2, Ring3, Ring4, Ring5, Ring6, Ring7, Ring8, Ring9, Ring10, Ring11, Ring12}
 use Rattle.thread_runs.specs.Event.{Point, is_inside, has_point, IsDecided, HasSaved}
 use Rattle.thread_runs.specs.Event.Point.{At0, At7}
 use Rattle.thread_runs.specs.Relation.{offset_if, point_at, has_rax}
@@ -112,52 +112,52 @@ flags_saved None n c x e h = absurd cc
 flags_saved (Some m) n c x e h = range_first (flag_slot c) 8 8 x h
 
 -- between saves and restores what is saved stays where its bytes do
-pub ring_saved_on : (m w : Bytes) (p : RingPoint) (c : Core) → (p ≢ R0 → number_at w (slot c) 8 ≡ number_at m (slot c) 8) → (p ≢ R0 → number_at w (flag_slot c) 8 ≡ number_at m (flag_slot c) 8) → RingSaved p c m → RingSaved p c w
-ring_saved_on m w R0 c a b h = tt
-ring_saved_on m w R12 c a b h = tt
-ring_saved_on m w R4 c a b h = (a (λ e. absurd cc) ∙ h.0, b (λ e. absurd cc) ∙ h.1)
-ring_saved_on m w R5 c a b h = (a (λ e. absurd cc) ∙ h.0, b (λ e. absurd cc) ∙ h.1)
-ring_saved_on m w R6 c a b h = (a (λ e. absurd cc) ∙ h.0, b (λ e. absurd cc) ∙ h.1)
-ring_saved_on m w R7 c a b h = (a (λ e. absurd cc) ∙ h.0, b (λ e. absurd cc) ∙ h.1)
-ring_saved_on m w R8 c a b h = (a (λ e. absurd cc) ∙ h.0, b (λ e. absurd cc) ∙ h.1)
-ring_saved_on m w R1 c a b h = a (λ e. absurd cc) ∙ h
-ring_saved_on m w R2 c a b h = a (λ e. absurd cc) ∙ h
-ring_saved_on m w R3 c a b h = a (λ e. absurd cc) ∙ h
-ring_saved_on m w R9 c a b h = a (λ e. absurd cc) ∙ h
-ring_saved_on m w R10 c a b h = a (λ e. absurd cc) ∙ h
-ring_saved_on m w R11 c a b h = a (λ e. absurd cc) ∙ h
+pub ring_saved_on : (m w : Bytes) (p : RingPoint) (c : Core) → (p ≢ Ring0 → number_at w (slot c) 8 ≡ number_at m (slot c) 8) → (p ≢ Ring0 → number_at w (flag_slot c) 8 ≡ number_at m (flag_slot c) 8) → RingSaved p c m → RingSaved p c w
+ring_saved_on m w Ring0 c a b h = tt
+ring_saved_on m w Ring12 c a b h = tt
+ring_saved_on m w Ring4 c a b h = (a (λ e. absurd cc) ∙ h.0, b (λ e. absurd cc) ∙ h.1)
+ring_saved_on m w Ring5 c a b h = (a (λ e. absurd cc) ∙ h.0, b (λ e. absurd cc) ∙ h.1)
+ring_saved_on m w Ring6 c a b h = (a (λ e. absurd cc) ∙ h.0, b (λ e. absurd cc) ∙ h.1)
+ring_saved_on m w Ring7 c a b h = (a (λ e. absurd cc) ∙ h.0, b (λ e. absurd cc) ∙ h.1)
+ring_saved_on m w Ring8 c a b h = (a (λ e. absurd cc) ∙ h.0, b (λ e. absurd cc) ∙ h.1)
+ring_saved_on m w Ring1 c a b h = a (λ e. absurd cc) ∙ h
+ring_saved_on m w Ring2 c a b h = a (λ e. absurd cc) ∙ h
+ring_saved_on m w Ring3 c a b h = a (λ e. absurd cc) ∙ h
+ring_saved_on m w Ring9 c a b h = a (λ e. absurd cc) ∙ h
+ring_saved_on m w Ring10 c a b h = a (λ e. absurd cc) ∙ h
+ring_saved_on m w Ring11 c a b h = a (λ e. absurd cc) ∙ h
 
 -- a point behind the first lies after the event's first byte
-pub ring_late : (p : RingPoint) → p ≢ R0 → 0 < ring_offset p
-ring_late R0 h = absurd (h refl)
-ring_late R1 h = omega arith
-ring_late R2 h = omega arith
-ring_late R3 h = omega arith
-ring_late R4 h = omega arith
-ring_late R5 h = omega arith
-ring_late R6 h = omega arith
-ring_late R7 h = omega arith
-ring_late R8 h = omega arith
-ring_late R9 h = omega arith
-ring_late R10 h = omega arith
-ring_late R11 h = omega arith
-ring_late R12 h = omega arith
+pub ring_late : (p : RingPoint) → p ≢ Ring0 → 0 < ring_offset p
+ring_late Ring0 h = absurd (h refl)
+ring_late Ring1 h = omega arith
+ring_late Ring2 h = omega arith
+ring_late Ring3 h = omega arith
+ring_late Ring4 h = omega arith
+ring_late Ring5 h = omega arith
+ring_late Ring6 h = omega arith
+ring_late Ring7 h = omega arith
+ring_late Ring8 h = omega arith
+ring_late Ring9 h = omega arith
+ring_late Ring10 h = omega arith
+ring_late Ring11 h = omega arith
+ring_late Ring12 h = omega arith
 
 -- each point inside the event lies before its end
 pub ring_inside : (p : RingPoint) → is_ringing p ≡ true → ring_offset p < ring_len
-ring_inside R12 h = absurd cc
-ring_inside R0 h = omega arith
-ring_inside R1 h = omega arith
-ring_inside R2 h = omega arith
-ring_inside R3 h = omega arith
-ring_inside R4 h = omega arith
-ring_inside R5 h = omega arith
-ring_inside R6 h = omega arith
-ring_inside R7 h = omega arith
-ring_inside R8 h = omega arith
-ring_inside R9 h = omega arith
-ring_inside R10 h = omega arith
-ring_inside R11 h = omega arith
+ring_inside Ring12 h = absurd cc
+ring_inside Ring0 h = omega arith
+ring_inside Ring1 h = omega arith
+ring_inside Ring2 h = omega arith
+ring_inside Ring3 h = omega arith
+ring_inside Ring4 h = omega arith
+ring_inside Ring5 h = omega arith
+ring_inside Ring6 h = omega arith
+ring_inside Ring7 h = omega arith
+ring_inside Ring8 h = omega arith
+ring_inside Ring9 h = omega arith
+ring_inside Ring10 h = omega arith
+ring_inside Ring11 h = omega arith
 
 module _ (r : Threading) (S : IsThreadSound r) (H : HoldsSlot) (H' : HoldsSlots) where
   -- the saved bytes of another thread hold rax where they stay
@@ -190,7 +190,7 @@ module _ (r : Threading) (S : IsThreadSound r) (H : HoldsSlot) (H' : HoldsSlots)
         saved = (let ring = S.rings q.site q.listed (Keeps q.slots) q.keeps in
             let same : flag_slot one.now.core ≡ flag_slot one.projected.core = H' q.slots q.point one.projected.core one.now.core k.processor q.core in
             let rax = sym (flags_then_rax one.now.core) ∙ ap (λ z. (z + 8) % 2 ^ 64) same ∙ flags_then_rax one.projected.core in
-            let at : q.point ≢ R0 → has_saved r one.now.rip ≡ true = λ late. ring_there q.site q.listed q.slots q.keeps q.point late q.inside q.here in
+            let at : q.point ≢ Ring0 → has_saved r one.now.rip ≡ true = λ late. ring_there q.site q.listed q.slots q.keeps q.point late q.inside q.here in
             ring_saved_on m w q.point one.projected.core
             (λ late. subst (λ (z : ℕ). number_at w z 8 ≡ number_at m z 8) rax (number_on m w (slot one.now.core) 8 (λ x e. h (at late) x (rax_saved r.ring one.now.core x e))))
             (λ late. subst (λ (z : ℕ). number_at w z 8 ≡ number_at m z 8) same (number_on m w (flag_slot one.now.core) 8 (λ x e. h (at late) x (flags_saved r.ring q.slots one.now.core x ring e)))) q.saved);
@@ -215,7 +215,7 @@ module _ (r : Threading) (S : IsThreadSound r) (H : HoldsSlot) (H' : HoldsSlots)
     ];
   }
     where
-      ring_there : (s : ThreadSite) → Contains r.sites s → (n : ℕ) → s.event ≡ Some (Keeps n) → (p : RingPoint) → p ≢ R0 → is_ringing p ≡ true → one.now.rip ≡ s.place + ring_offset p → has_saved r one.now.rip ≡ true
+      ring_there : (s : ThreadSite) → Contains r.sites s → (n : ℕ) → s.event ≡ Some (Keeps n) → (p : RingPoint) → p ≢ Ring0 → is_ringing p ≡ true → one.now.rip ≡ s.place + ring_offset p → has_saved r one.now.rip ≡ true
       ring_there s c n e p late i here =
           let to : part_to Saved s.event s.when ≡ ring_len = ap (λ o. part_to Saved o s.when) e in
           let z = place_of r.sites s c in

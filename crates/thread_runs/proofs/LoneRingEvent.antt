@@ -13,7 +13,7 @@ use Rattle.relocate_insn.proofs.FixedCode.{fixed_on}
 use Rattle.thread_runs.specs.ThreadSteps.{ThreadStep}
 use Rattle.thread_runs.specs.ThreadCode.{ring_event, position_at, slot_at, slot, flag_slot}
 use Rattle.thread_runs.specs.RingEvent.{RingPoint, ring_next, is_ringing, HoldsRax, HoldsFlags, RingSaved, InRing, ring_memory, LeadsToSlot, CanKeep}
-use Rattle.thread_runs.specs.RingEvent.RingPoint.{R0, R1, R2, R3, R4, R5, R6, R7, R8, R9, R10, R11}
+use Rattle.thread_runs.specs.RingEvent.RingPoint.{Ring0, Ring1, Ring2, Ring3, Ring4, Ring5, Ring6, Ring7, Ring8, Ring9, Ring10, Ring11}
 use Rattle.thread_runs.specs.Threading.{is_one_of}
 use Rattle.thread_runs.specs.AloneWithRing.{CanKeepAlone, HasKeptAlone, EventKeepsAlone}
 use Rattle.thread_runs.proofs.ThreadEventInstructions.{saved_back}
@@ -83,7 +83,7 @@ module _ (n p i place : ℕ) (s : Machine) (h : CanKeepAlone n p i place s) wher
       }
 
   -- the thread stands at the event's first instruction
-  start : At R0 s
+  start : At Ring0 s
   start = record {
     event = record {
       processor = h.processor;
@@ -165,34 +165,34 @@ module _ (n p i place : ℕ) (s : Machine) (h : CanKeepAlone n p i place s) wher
   -- ---- the states
 
   -- the state after rax is saved
-  n0 : Next R0 s
-  n0 = onward R0 refl s start (λ m e. subst (λ (z : Bytes). HoldsRax c z) (sym e) (saved_back c s.mem h.processor (saved_two 2 s.mem c h.can.saved_written).1))
+  n0 : Next Ring0 s
+  n0 = onward Ring0 refl s start (λ m e. subst (λ (z : Bytes). HoldsRax c z) (sym e) (saved_back c s.mem h.processor (saved_two 2 s.mem c h.can.saved_written).1))
 
   -- the state after LAHF
-  n1 : Next R1 n0.to
-  n1 = onward R1 refl n0.to n0.at (same_rax n0.to n0.at.event.saved)
+  n1 : Next Ring1 n0.to
+  n1 = onward Ring1 refl n0.to n0.at (same_rax n0.to n0.at.event.saved)
 
   -- the state after SETO
-  n2 : Next R2 n1.to
-  n2 = onward R2 refl n1.to n1.at (same_rax n1.to n1.at.event.saved)
+  n2 : Next Ring2 n1.to
+  n2 = onward Ring2 refl n1.to n1.at (same_rax n1.to n1.at.event.saved)
 
   -- the state after the flags are saved
-  n3 : Next R3 n2.to
-  n3 = onward R3 refl n2.to n2.at (λ m e. subst (λ (z : Bytes). HoldsRax c z × HoldsFlags c z) (sym e)
+  n3 : Next Ring3 n2.to
+  n3 = onward Ring3 refl n2.to n2.at (λ m e. subst (λ (z : Bytes). HoldsRax c z × HoldsFlags c z) (sym e)
       (saved_both c n2.to.mem h.processor (saved_two 2 n2.to.mem c n2.at.can.saved_written).0 n2.at.event.saved))
 
   -- the state after MOV of 1
-  n4 : Next R4 n3.to
-  n4 = onward R4 refl n3.to n3.at (same_both n3.to n3.at.event.saved)
+  n4 : Next Ring4 n3.to
+  n4 = onward Ring4 refl n3.to n3.at (same_both n3.to n3.at.event.saved)
 
   -- the state after LOCK XADD
-  n5 : Next R5 n4.to
-  n5 = onward R5 refl n4.to n4.at (λ m e.
+  n5 : Next Ring5 n4.to
+  n5 = onward Ring5 refl n4.to n4.at (λ m e.
       both_stay n4.to.mem m (λ x k. ap (λ (z : Bytes). z x) e ∙ beside_four n4.to.mem a ((number_at n4.to.mem a 4 + 1) % 2 ^ 32) x (h.apart x k).0) n4.at.event.saved)
 
   -- the state after MOVZX
-  n6 : Next R6 n5.to
-  n6 = onward R6 refl n5.to n5.at (same_both n5.to n5.at.event.saved)
+  n6 : Next Ring6 n5.to
+  n6 = onward Ring6 refl n5.to n5.at (same_both n5.to n5.at.event.saved)
 
   -- ---- which slot is filled
 
@@ -218,29 +218,29 @@ module _ (n p i place : ℕ) (s : Machine) (h : CanKeepAlone n p i place s) wher
   leads = n6.claim ∙ ap (λ z. z % n) n5.claim ∙ ap (λ z. z % 2 ^ 32 % n) position_stays ∙ same_slot (number_at s.mem a 4)
 
   -- so MOV fills it
-  fills_it : ring_memory R7 p i c n6.to.core n6.to.mem ≡ put_list n6.to.mem (slot_at p j) (bytes_of 4 (i + 1))
+  fills_it : ring_memory Ring7 p i c n6.to.core n6.to.mem ≡ put_list n6.to.mem (slot_at p j) (bytes_of 4 (i + 1))
   fills_it = ap (λ z. put_list n6.to.mem (slot_at p z) (bytes_of 4 (i + 1))) leads
 
   -- the state after it
-  n7 : Next R7 n6.to
-  n7 = onward R7 refl n6.to n6.at (λ m e.
+  n7 : Next Ring7 n6.to
+  n7 = onward Ring7 refl n6.to n6.at (λ m e.
       both_stay n6.to.mem m (λ x k. ap (λ (z : Bytes). z x) (e ∙ fills_it) ∙ beside_four n6.to.mem (slot_at p j) (i + 1) x ((h.apart x k).1 j below)) n6.at.event.saved)
 
   -- the state after ax with the flags is loaded
-  n8 : Next R8 n7.to
-  n8 = onward R8 refl n7.to n7.at (same_rax n7.to n7.at.event.saved.0)
+  n8 : Next Ring8 n7.to
+  n8 = onward Ring8 refl n7.to n7.at (same_rax n7.to n7.at.event.saved.0)
 
   -- the state after ADD
-  n9 : Next R9 n8.to
-  n9 = onward R9 refl n8.to n8.at (same_rax n8.to n8.at.event.saved)
+  n9 : Next Ring9 n8.to
+  n9 = onward Ring9 refl n8.to n8.at (same_rax n8.to n8.at.event.saved)
 
   -- the state after SAHF
-  n10 : Next R10 n9.to
-  n10 = onward R10 refl n9.to n9.at (same_rax n9.to n9.at.event.saved)
+  n10 : Next Ring10 n9.to
+  n10 = onward Ring10 refl n9.to n9.at (same_rax n9.to n9.at.event.saved)
 
   -- the state after rax is restored
-  n11 : Next R11 n10.to
-  n11 = onward R11 refl n10.to n10.at (λ m e. tt)
+  n11 : Next Ring11 n10.to
+  n11 = onward Ring11 refl n10.to n10.at (λ m e. tt)
 
   -- ---- what is left in memory
 

@@ -24,7 +24,7 @@ use Rattle.insn_form.specs.Touched.{writes_none, writes_avoid}
 use Rattle.insn_form.specs.Processor.{IsProcessorState}
 use Rattle.thread_runs.specs.ThreadSteps.{is_locked_xadd, thread_task, thread_act, ThreadStepsBy, ThreadStep}
 use Rattle.thread_runs.specs.ThreadCode.{Kind, Marks, Keeps}
-use Rattle.thread_runs.specs.RingEvent.RingPoint.{R0}
+use Rattle.thread_runs.specs.RingEvent.RingPoint.{Ring0}
 use Rattle.thread_runs.specs.Ring.{ringing_at, claimed_at}
 use Rattle.insn_form.specs.Alike.{AreAlike, IsAlike, writes_at, still}
 use Rattle.insn_form.proofs.UniqueSteps.{one_instruction, same_ok}
@@ -140,7 +140,7 @@ module _ (r : Threading) (A : AreEntries r.original r.listed) (S : IsThreadSound
         listed = h;
         slots = n;
         keeps = e;
-        point = R0;
+        point = Ring0;
         inside = refl;
         here = omega (arith, here);
         there = there;

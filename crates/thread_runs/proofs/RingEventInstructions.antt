@@ -31,7 +31,7 @@ use Rattle.thread_runs.specs.ThreadSteps.{ThreadStep}
 use Rattle.thread_runs.specs.ThreadCode.{is_ring_length, slot, flag_slot}
 use Rattle.thread_runs.specs.Event.{IsGivingBack}
 use Rattle.thread_runs.specs.RingEvent.{RingPoint, ring_offset, ring_next, is_ringing, RingHolds, InRing, RingNext, IsRingStep, CanKeep, RingGoes, AreSavedBack}
-use Rattle.thread_runs.specs.RingEvent.RingPoint.{R0, R1, R2, R3, R4, R5, R6, R7, R8, R9, R10, R11, R12}
+use Rattle.thread_runs.specs.RingEvent.RingPoint.{Ring0, Ring1, Ring2, Ring3, Ring4, Ring5, Ring6, Ring7, Ring8, Ring9, Ring10, Ring11, Ring12}
 use Rattle.thread_runs.specs.Threading.{is_one_of}
 use Rattle.thread_runs.specs.StepLaws.{HoldsSlots, RingSavesHeld}
 use Rattle.thread_runs.proofs.ByteRanges.{number_on, put_elsewhere}
@@ -55,19 +55,19 @@ flag_slot_of c d e = ap (λ x. (x + (2 ^ 64 - 144)) % 2 ^ 64) e
 -- at each point rsp is what it was
 pub ring_rsp : (n : ℕ) (k : RingPoint) (c d : Core) → RingHolds n k c d → reg d 4 ≡ reg c 4
 unfolding effect is_met
-ring_rsp n R0 c d h = ap (λ z. reg z 4) h
-ring_rsp n R1 c d h = ap (λ z. reg z 4) h
-ring_rsp n R2 c d h = ap (λ z. reg z 4) h ∙ reg_other c 3 _
-ring_rsp n R3 c d h = ap (λ z. reg z 4) h ∙ ax_other c 3
-ring_rsp n R4 c d h = ap (λ z. reg z 4) h ∙ ax_other c 3
-ring_rsp n R5 c d h = ap (λ z. reg z 4) h ∙ reg_other c 3 _
-ring_rsp n R6 c d h = ap (λ z. reg z 4) h.core ∙ reg_other c 3 _
-ring_rsp n R7 c d h = ap (λ z. reg z 4) h.core ∙ reg_other c 3 _
-ring_rsp n R8 c d h = ap (λ z. reg z 4) h.core ∙ reg_other c 3 _
-ring_rsp n R9 c d h = ap (λ z. reg z 4) h.core ∙ ax_other c 3
-ring_rsp n R10 c d h = ap (λ z. reg z 4) h.core ∙ reg_other c 3 _
-ring_rsp n R11 c d h = ap (λ z. reg z 4) h.core ∙ reg_other c 3 _
-ring_rsp n R12 c d h = ap (λ z. reg z 4) h
+ring_rsp n Ring0 c d h = ap (λ z. reg z 4) h
+ring_rsp n Ring1 c d h = ap (λ z. reg z 4) h
+ring_rsp n Ring2 c d h = ap (λ z. reg z 4) h ∙ reg_other c 3 _
+ring_rsp n Ring3 c d h = ap (λ z. reg z 4) h ∙ ax_other c 3
+ring_rsp n Ring4 c d h = ap (λ z. reg z 4) h ∙ ax_other c 3
+ring_rsp n Ring5 c d h = ap (λ z. reg z 4) h ∙ reg_other c 3 _
+ring_rsp n Ring6 c d h = ap (λ z. reg z 4) h.core ∙ reg_other c 3 _
+ring_rsp n Ring7 c d h = ap (λ z. reg z 4) h.core ∙ reg_other c 3 _
+ring_rsp n Ring8 c d h = ap (λ z. reg z 4) h.core ∙ reg_other c 3 _
+ring_rsp n Ring9 c d h = ap (λ z. reg z 4) h.core ∙ ax_other c 3
+ring_rsp n Ring10 c d h = ap (λ z. reg z 4) h.core ∙ reg_other c 3 _
+ring_rsp n Ring11 c d h = ap (λ z. reg z 4) h.core ∙ reg_other c 3 _
+ring_rsp n Ring12 c d h = ap (λ z. reg z 4) h
 
 -- at each point rsp gives the addresses of the saved bytes
 rax_at : (n : ℕ) (k : RingPoint) (c d : Core) → RingHolds n k c d → place d below_red_zone ≡ slot c
@@ -147,8 +147,8 @@ module _ (n p i at : ℕ) (c : Core) (v : Machine) where
   next k = at + ring_offset (ring_next k)
 
   -- after the instruction that claims a slot
-  after_claim : InRing n p i at R5 c v → (there : IsAt v (exchanging (four (p + 64)) [])) (behind : next_after v.rip (exchanging (four (p + 64)) []) ≡ next R5)
-      → RingNext n p i at R5 c v (claimed v (four (p + 64)) (next R5) refl there behind)
+  after_claim : InRing n p i at Ring5 c v → (there : IsAt v (exchanging (four (p + 64)) [])) (behind : next_after v.rip (exchanging (four (p + 64)) []) ≡ next Ring5)
+      → RingNext n p i at Ring5 c v (claimed v (four (p + 64)) (next Ring5) refl there behind)
   unfolding effect template filled
   after_claim h there behind =
       let low = h.room in
@@ -156,7 +156,7 @@ module _ (n p i at : ℕ) (c : Core) (v : Machine) where
       let a = p + 64 in
       let q = fixed_place v.core a (omega (arith, low, few)) in
       let one = ap (λ z. reg z rax) h.core ∙ set_rax c 1 h.processor in
-      let flags = (after_op v (next R5) (sum_op a)).core.flags in
+      let flags = (after_op v (next Ring5) (sum_op a)).core.flags in
       let m = number_at v.mem (place v.core (at_fixed (four a))) 4 in
       let count : length v.core.regs ≡ 16 = ap (λ (z : Core). length z.regs) h.core ∙ length-set c.regs 0 1 ∙ h.processor.count in
       record {
@@ -179,31 +179,31 @@ module _ (n p i at : ℕ) (c : Core) (v : Machine) where
   -- after each other one
   after_known : (k : RingPoint) → is_ringing k ≡ true → is_known_op k ≡ true → InRing n p i at k c v → RingNext n p i at k c v (after_op v (next k) (ring_op n p i k))
   unfolding effect
-  after_known R0 u o h = record {
+  after_known Ring0 u o h = record {
     core = h.core;
     claim = tt;
     rip = refl;
-    mem = (let s = rax_at n R0 c v.core h.core in let small = h.processor.small 0 in
+    mem = (let s = rax_at n Ring0 c v.core h.core in let small = h.processor.small 0 in
         let e : reg v.core 0 % 2 ^ 64 ≡ reg c 0 = ap (λ z. reg z 0 % 2 ^ 64) h.core ∙ omega (arith, small) in λ j. put_list v.mem (s j) (bytes_of 8 (e j)));
     world = refl;
   }
-  after_known R1 u o h = record { core = ap (core_after Lahf 0) h.core; claim = tt; rip = refl; mem = refl; world = refl }
-  after_known R2 u o h = record { core = ap (core_after seto_al 0) h.core; claim = tt; rip = refl; mem = refl; world = refl }
-  after_known R3 u o h = record {
+  after_known Ring1 u o h = record { core = ap (core_after Lahf 0) h.core; claim = tt; rip = refl; mem = refl; world = refl }
+  after_known Ring2 u o h = record { core = ap (core_after seto_al 0) h.core; claim = tt; rip = refl; mem = refl; world = refl }
+  after_known Ring3 u o h = record {
     core = h.core;
     claim = tt;
     rip = refl;
-    mem = (let s = flags_at n R3 c v.core h.core in let small = ax_small c h.processor in
+    mem = (let s = flags_at n Ring3 c v.core h.core in let small = ax_small c h.processor in
         let e : reg v.core 0 % 2 ^ 64 ≡ reg (kept_in_ax c) 0 = ap (λ z. reg z 0 % 2 ^ 64) h.core ∙ omega (arith, small) in λ j. put_list v.mem (s j) (bytes_of 8 (e j)));
     world = refl;
   }
-  after_known R4 u o h = record { core = ap (λ z. with_reg z rax 1) h.core ∙ over_ax c 1; claim = tt; rip = refl; mem = refl; world = refl }
-  after_known R5 u o h = absurd cc
-  after_known R6 u o h =
+  after_known Ring4 u o h = record { core = ap (λ z. with_reg z rax 1) h.core ∙ over_ax c 1; claim = tt; rip = refl; mem = refl; world = refl }
+  after_known Ring5 u o h = absurd cc
+  after_known Ring6 u o h =
       let few = length_few n h.size in
       let value = h.core.value in
       let is = ap (λ z. reg z rax) h.core.core ∙ set_rax c value h.processor in
-      let e = reduced n (next R6) v.core value h.size is in
+      let e = reduced n (next Ring6) v.core value h.size is in
       record {
         core = record {
           value = value % n;
@@ -219,18 +219,18 @@ module _ (n p i at : ℕ) (c : Core) (v : Machine) where
         world = refl;
       }
     where
-      no_read : (b : Bool) → (after_op v (next R6) (reduce_op b)).core ≡ ((effect (reduce_op b) (next R6) v.core).out 0).core
+      no_read : (b : Bool) → (after_op v (next Ring6) (reduce_op b)).core ≡ ((effect (reduce_op b) (next Ring6) v.core).out 0).core
       no_read true = refl
       no_read false = refl
 
-      next_there : (b : Bool) → (after_op v (next R6) (reduce_op b)).rip ≡ at + ring_offset R7
+      next_there : (b : Bool) → (after_op v (next Ring6) (reduce_op b)).rip ≡ at + ring_offset Ring7
       next_there true = refl
       next_there false = refl
 
-      same_there : (b : Bool) → (after_op v (next R6) (reduce_op b)).mem ≡ v.mem
+      same_there : (b : Bool) → (after_op v (next Ring6) (reduce_op b)).mem ≡ v.mem
       same_there true = refl
       same_there false = refl
-  after_known R7 u o h =
+  after_known Ring7 u o h =
       let few = (length_few n h.size).1 in
       let low = h.room in
       let below = h.core.below in
@@ -238,8 +238,8 @@ module _ (n p i at : ℕ) (c : Core) (v : Machine) where
       let s = place_of_slot v.core (p + 68) h.core.value is (omega (arith, low)) (omega (arith, below, few)) ∙ ap (λ z. p + 68 + 4 * z) (sym is) in
       let e = low_immediate (i + 1) h.number in
       record { core = h.core; claim = tt; rip = refl; mem = λ j. put_list v.mem (s j) (bytes_of 4 (e j)); world = refl }
-  after_known R8 u o h =
-      let s = flags_at n R8 c v.core h.core in
+  after_known Ring8 u o h =
+      let s = flags_at n Ring8 c v.core h.core in
       let K = reg (kept_in_ax c) rax in
       let e : number_at v.mem (place v.core below_rax) 8 % 2 ^ 64 % 2 ^ 64 ≡ K = ap (λ z. z % 2 ^ 64 % 2 ^ 64) (ap (λ z. number_at v.mem z 8) s ∙ h.saved.1) ∙ low_word K (ax_small c h.processor) in
       record {
@@ -253,22 +253,22 @@ module _ (n p i at : ℕ) (c : Core) (v : Machine) where
         mem = refl;
         world = refl;
       }
-  after_known R9 u o h = record {
+  after_known Ring9 u o h = record {
     core = subst (IsGivingBack c) (ap (core_after add_al 0) (sym h.core.core)) (given c h.core.flags h.processor h.core.rest);
     claim = tt;
     rip = refl;
     mem = refl;
     world = refl;
   }
-  after_known R10 u o h = record {
+  after_known Ring10 u o h = record {
     core = record { value = h.core.value; core = ap (core_after Sahf 0) h.core.core ∙ back c h.core.value h.core.flags h.processor h.core.high h.core.over h.core.rest };
     claim = tt;
     rip = refl;
     mem = refl;
     world = refl;
   }
-  after_known R11 u o h = record {
-    core = (let s = rax_at n R11 c v.core h.core in
+  after_known Ring11 u o h = record {
+    core = (let s = rax_at n Ring11 c v.core h.core in
         let e : number_at v.mem (place v.core below_red_zone) 8 % 2 ^ 64 % 2 ^ 64 ≡ reg c rax = ap (λ z. z % 2 ^ 64 % 2 ^ 64) (ap (λ z. number_at v.mem z 8) s ∙ h.saved) ∙ low_word (reg c rax) (h.processor.small 0) in
         ap (λ z. with_reg z rax (number_at v.mem (place v.core below_red_zone) 8 % 2 ^ 64 % 2 ^ 64)) h.core.core ∙ twice c h.core.value _ ∙ same_reg c _ e);
     claim = tt;
@@ -276,7 +276,7 @@ module _ (n p i at : ℕ) (c : Core) (v : Machine) where
     mem = refl;
     world = refl;
   }
-  after_known R12 u o h = absurd cc
+  after_known Ring12 u o h = absurd cc
 
 -- of two parts of a range neither lacks a permission that the range doesn't
 lacking_two : (q : ℕ) (m : Bytes) (a k l : ℕ) → a < 2 ^ 64 → lacking q m a (k + l) ≡ None → (lacking q m a k ≡ None) × (lacking q m ((a + k) % 2 ^ 64) l ≡ None)
@@ -310,32 +310,32 @@ saved_two q m c h = let r = lacking_two q m (flag_slot c) 8 8 (flag_small c) h i
 module _ (n p i at : ℕ) (c : Core) (v : Machine) (h' : CanKeep n p c v.mem) where
   known_operands : (k : RingPoint) → is_ringing k ≡ true → is_known_op k ≡ true → InRing n p i at k c v → HasOperands v (at + ring_offset (ring_next k)) (ring_op n p i k)
   unfolding effect
-  known_operands R0 u o h = record { read = refl; write = ap (λ z. lacking 2 v.mem z 8) (rax_at n R0 c v.core h.core) ∙ (saved_two 2 v.mem c h'.saved_written).1 }
-  known_operands R1 u o h = record { read = refl; write = refl }
-  known_operands R2 u o h = record { read = refl; write = refl }
-  known_operands R3 u o h = record { read = refl; write = ap (λ z. lacking 2 v.mem z 8) (flags_at n R3 c v.core h.core) ∙ (saved_two 2 v.mem c h'.saved_written).0 }
-  known_operands R4 u o h = record { read = refl; write = refl }
-  known_operands R5 u o h = absurd cc
-  known_operands R6 u o h = by_kind (eqb n 256)
+  known_operands Ring0 u o h = record { read = refl; write = ap (λ z. lacking 2 v.mem z 8) (rax_at n Ring0 c v.core h.core) ∙ (saved_two 2 v.mem c h'.saved_written).1 }
+  known_operands Ring1 u o h = record { read = refl; write = refl }
+  known_operands Ring2 u o h = record { read = refl; write = refl }
+  known_operands Ring3 u o h = record { read = refl; write = ap (λ z. lacking 2 v.mem z 8) (flags_at n Ring3 c v.core h.core) ∙ (saved_two 2 v.mem c h'.saved_written).0 }
+  known_operands Ring4 u o h = record { read = refl; write = refl }
+  known_operands Ring5 u o h = absurd cc
+  known_operands Ring6 u o h = by_kind (eqb n 256)
     where
-      by_kind : (b : Bool) → HasOperands v (at + ring_offset R7) (reduce_op b)
+      by_kind : (b : Bool) → HasOperands v (at + ring_offset Ring7) (reduce_op b)
       by_kind true = record { read = refl; write = refl }
       by_kind false = record { read = refl; write = refl }
-  known_operands R7 u o h =
+  known_operands Ring7 u o h =
       let few = (length_few n h.size).1 in
       let low = h.room in
       let below = h.core.below in
       let is = ap (λ z. reg z rax) h.core.core ∙ set_rax c h.core.value h.processor in
       let s = place_of_slot v.core (p + 68) h.core.value is (omega (arith, low)) (omega (arith, below, few)) in
       record { read = refl; write = ap (λ z. lacking 2 v.mem z 4) s ∙ h'.slots_written h.core.value below }
-  known_operands R8 u o h = record { read = ap (λ z. lacking 4 v.mem z 8) (flags_at n R8 c v.core h.core) ∙ (saved_two 4 v.mem c h'.saved_read).0; write = refl }
-  known_operands R9 u o h = record { read = refl; write = refl }
-  known_operands R10 u o h = record { read = refl; write = refl }
-  known_operands R11 u o h = record { read = ap (λ z. lacking 4 v.mem z 8) (rax_at n R11 c v.core h.core) ∙ (saved_two 4 v.mem c h'.saved_read).1; write = refl }
-  known_operands R12 u o h = absurd cc
+  known_operands Ring8 u o h = record { read = ap (λ z. lacking 4 v.mem z 8) (flags_at n Ring8 c v.core h.core) ∙ (saved_two 4 v.mem c h'.saved_read).0; write = refl }
+  known_operands Ring9 u o h = record { read = refl; write = refl }
+  known_operands Ring10 u o h = record { read = refl; write = refl }
+  known_operands Ring11 u o h = record { read = ap (λ z. lacking 4 v.mem z 8) (rax_at n Ring11 c v.core h.core) ∙ (saved_two 4 v.mem c h'.saved_read).1; write = refl }
+  known_operands Ring12 u o h = absurd cc
 
   -- so is what LOCK XADD does
-  claim_operands : InRing n p i at R5 c v → HasOperands v (at + ring_offset R6) (sum_op (p + 64))
+  claim_operands : InRing n p i at Ring5 c v → HasOperands v (at + ring_offset Ring6) (sum_op (p + 64))
   unfolding effect
   claim_operands h =
       let low = h.room in
@@ -344,20 +344,20 @@ module _ (n p i at : ℕ) (c : Core) (v : Machine) (h' : CanKeep n p c v.mem) wh
       record { read = ap (λ z. lacking 4 v.mem z 4) q ∙ h'.position_read; write = ap (λ z. lacking 2 v.mem z 4) q ∙ h'.position_written }
 
 -- LOCK XADD is the one instruction whose operation is not known
-claims_only : (k : RingPoint) → is_known_op k ≡ false → k ≡ R5
-claims_only R0 e = absurd cc
-claims_only R1 e = absurd cc
-claims_only R2 e = absurd cc
-claims_only R3 e = absurd cc
-claims_only R4 e = absurd cc
-claims_only R5 e = refl
-claims_only R6 e = absurd cc
-claims_only R7 e = absurd cc
-claims_only R8 e = absurd cc
-claims_only R9 e = absurd cc
-claims_only R10 e = absurd cc
-claims_only R11 e = absurd cc
-claims_only R12 e = absurd cc
+claims_only : (k : RingPoint) → is_known_op k ≡ false → k ≡ Ring5
+claims_only Ring0 e = absurd cc
+claims_only Ring1 e = absurd cc
+claims_only Ring2 e = absurd cc
+claims_only Ring3 e = absurd cc
+claims_only Ring4 e = absurd cc
+claims_only Ring5 e = refl
+claims_only Ring6 e = absurd cc
+claims_only Ring7 e = absurd cc
+claims_only Ring8 e = absurd cc
+claims_only Ring9 e = absurd cc
+claims_only Ring10 e = absurd cc
+claims_only Ring11 e = absurd cc
+claims_only Ring12 e = absurd cc
 
 -- each step that is made in an event that keeps a ring is its own instruction's
 pub ring_step : IsRingStep
@@ -368,13 +368,13 @@ ring_step n p i at k c v w u h st = by_kind (is_known_op k) refl
         let q = known_told v (ring_fields n p i k) (at + ring_offset (ring_next k)) (ring_op n p i k) (ring_known n p i at k v u h.rip h.stands h.low o) w st in
         subst (RingNext n p i at k c v) (sym q.1) (after_known n p i at c v k u o h)
 
-    claim : k ≡ R5 → RingNext n p i at k c v w
+    claim : k ≡ Ring5 → RingNext n p i at k c v w
     claim e =
         let j = subst (λ z. InRing n p i at z c v) e h in
-        let there = ring_at n p i at R5 v refl j.rip j.stands j.low in
-        let behind = ring_behind n p i at R5 v refl j.rip j.stands j.low in
-        let q = claim_told v (four (p + 64)) (at + ring_offset R6) refl there behind w st in
-        subst (λ z. RingNext n p i at z c v w) (sym e) (subst (RingNext n p i at R5 c v) (sym q.1) (after_claim n p i at c v j there behind))
+        let there = ring_at n p i at Ring5 v refl j.rip j.stands j.low in
+        let behind = ring_behind n p i at Ring5 v refl j.rip j.stands j.low in
+        let q = claim_told v (four (p + 64)) (at + ring_offset Ring6) refl there behind w st in
+        subst (λ z. RingNext n p i at z c v w) (sym e) (subst (RingNext n p i at Ring5 c v) (sym q.1) (after_claim n p i at c v j there behind))
 
     by_kind : (b : Bool) → is_known_op k ≡ b → RingNext n p i at k c v w
     by_kind true e = known e
@@ -394,12 +394,12 @@ ring_goes n p i at k c v u h can = by_kind (is_known_op k) refl
           after_known n p i at c v k u o h,
         )
 
-    claim : InRing n p i at R5 c v → (w : Machine) × ThreadStep v w × RingNext n p i at R5 c v w
+    claim : InRing n p i at Ring5 c v → (w : Machine) × ThreadStep v w × RingNext n p i at Ring5 c v w
     claim j =
-        let there = ring_at n p i at R5 v refl j.rip j.stands j.low in
-        let behind = ring_behind n p i at R5 v refl j.rip j.stands j.low in (
-          claimed v (four (p + 64)) (at + ring_offset R6) refl there behind,
-          (exchanging (four (p + 64)) [], claim_step v (four (p + 64)) (at + ring_offset R6) refl there behind (claim_operands n p i at c v can j)),
+        let there = ring_at n p i at Ring5 v refl j.rip j.stands j.low in
+        let behind = ring_behind n p i at Ring5 v refl j.rip j.stands j.low in (
+          claimed v (four (p + 64)) (at + ring_offset Ring6) refl there behind,
+          (exchanging (four (p + 64)) [], claim_step v (four (p + 64)) (at + ring_offset Ring6) refl there behind (claim_operands n p i at c v can j)),
           after_claim n p i at c v j there behind,
         )
 
@@ -444,8 +444,8 @@ saved_both c m h l r =
 pub ring_held : RingSavesHeld
 unfolding effect
 ring_held n p i at c v w = (
-  λ h st. (let q = known_told v (ring_fields n p i R0) (at + 8) (ring_op n p i R0) (ring_known n p i at R0 v refl h.rip h.stands h.low refl) w st in
-      sym (ap (λ z. lacking 2 v.mem z 8) (rax_at n R0 c v.core h.core)) ∙ q.0.write),
-  λ h st. (let q = known_told v (ring_fields n p i R3) (at + 20) (ring_op n p i R3) (ring_known n p i at R3 v refl h.rip h.stands h.low refl) w st in
-      sym (ap (λ z. lacking 2 v.mem z 8) (flags_at n R3 c v.core h.core)) ∙ q.0.write),
+  λ h st. (let q = known_told v (ring_fields n p i Ring0) (at + 8) (ring_op n p i Ring0) (ring_known n p i at Ring0 v refl h.rip h.stands h.low refl) w st in
+      sym (ap (λ z. lacking 2 v.mem z 8) (rax_at n Ring0 c v.core h.core)) ∙ q.0.write),
+  λ h st. (let q = known_told v (ring_fields n p i Ring3) (at + 20) (ring_op n p i Ring3) (ring_known n p i at Ring3 v refl h.rip h.stands h.low refl) w st in
+      sym (ap (λ z. lacking 2 v.mem z 8) (flags_at n Ring3 c v.core h.core)) ∙ q.0.write),
 )

@@ -23,7 +23,7 @@ use Rattle.thread_runs.specs.Guest.{Thread, machine_of, thread_of}
 use Rattle.thread_runs.specs.ThreadCode.{Marks, Keeps, position_at, slot_at, ring_len, event_len, slot, flag_slot, saved_from, saved_len}
 use Rattle.thread_runs.specs.Event.Point.{At7}
 use Rattle.thread_runs.specs.RingEvent.{RingPoint, ring_offset, ring_next, is_ringing, RingHolds, HoldsRax, HoldsFlags, RingSaved, InRing, ring_memory, LeadsToSlot, RingNext}
-use Rattle.thread_runs.specs.RingEvent.RingPoint.{R0, R1, R2, R3, R4, R5, R6, R7, R8, R9, R10, R11, R12}
+use Rattle.thread_runs.specs.RingEvent.RingPoint.{Ring0, Ring1, Ring2, Ring3, Ring4, Ring5, Ring6, Ring7, Ring8, Ring9, Ring10, Ring11, Ring12}
 use Rattle.thread_runs.specs.Threading.Part.{Whole, Save}
 use Rattle.thread_runs.specs.Threading.{ThreadSite, Threading, is_new, is_hidden, is_keeping, part_to, in_event, saves, is_one_of, is_saved_by, is_code_of, IsRingSound, IsThreadSound}
 use Rattle.thread_runs.specs.Watching.{Watched, Watch, is_effect, stale_after}
@@ -90,7 +90,7 @@ module _ (r : Threading) (A : AreEntries r.original r.listed) (S : IsThreadSound
 
     module _ (p : RingPoint) (i : is_ringing p ≡ true) (here : x0 ≡ site.place + ring_offset p) (E : InRing n r.private site.number site.place p c u)
         (N : RingNext n r.private site.number site.place p c u to)
-        (avoided : saves r x0 ≡ true → avoids (is_new r) (saved_from r.ring one.now.core) (saved_len r.ring) ≡ true) (old : (p ≡ R0) ⊎ (avoids (is_new r) (flag_slot c) 16 ≡ true)) where
+        (avoided : saves r x0 ≡ true → avoids (is_new r) (saved_from r.ring one.now.core) (saved_len r.ring) ≡ true) (old : (p ≡ Ring0) ⊎ (avoids (is_new r) (flag_slot c) 16 ≡ true)) where
       -- the address is one of the site's code
       code : is_code_of r site (S.sites site listed) x0
       code = let l = ring_inside p i in ring_in r A S L.long site listed n x0 keeps (omega (arith, here)) (omega (arith, here, l))
@@ -203,20 +203,20 @@ module _ (r : Threading) (A : AreEntries r.original r.listed) (S : IsThreadSound
           no_count : (b : Base) → None ≡ Some n → ⊥
           no_count b e = absurd cc
 
-          last : (q : RingPoint) → is_ringing q ≡ false → q ≡ R12
-          last R12 e = refl
-          last R0 e = absurd cc
-          last R1 e = absurd cc
-          last R2 e = absurd cc
-          last R3 e = absurd cc
-          last R4 e = absurd cc
-          last R5 e = absurd cc
-          last R6 e = absurd cc
-          last R7 e = absurd cc
-          last R8 e = absurd cc
-          last R9 e = absurd cc
-          last R10 e = absurd cc
-          last R11 e = absurd cc
+          last : (q : RingPoint) → is_ringing q ≡ false → q ≡ Ring12
+          last Ring12 e = refl
+          last Ring0 e = absurd cc
+          last Ring1 e = absurd cc
+          last Ring2 e = absurd cc
+          last Ring3 e = absurd cc
+          last Ring4 e = absurd cc
+          last Ring5 e = absurd cc
+          last Ring6 e = absurd cc
+          last Ring7 e = absurd cc
+          last Ring8 e = absurd cc
+          last Ring9 e = absurd cc
+          last Ring10 e = absurd cc
+          last Ring11 e = absurd cc
 
           stands : (b : Bool) → is_ringing (ring_next p) ≡ b → AtEvent r to.mem (thread_of to) one.projected ⊎ AtRing r to.mem (thread_of to) one.projected
           stands true e = inr (record {
@@ -319,8 +319,8 @@ module _ (r : Threading) (A : AreEntries r.original r.listed) (S : IsThreadSound
               (subst (λ y. RingSaved (ring_next y) c w.mem) (sym e) saved)
 
           by_point : (q : RingPoint) → p ≡ q → Good
-          by_point R0 e =
-              let mem = still R0 e in
+          by_point Ring0 e =
+              let mem = still Ring0 e in
               let s = saving (omega (arith, ap_offset e)) in
               let away = saves_eight (slot c) (reg c rax) mem rax_in in
               record {
@@ -329,21 +329,21 @@ module _ (r : Threading) (A : AreEntries r.original r.listed) (S : IsThreadSound
                 saved = subst (λ y. RingSaved (ring_next y) c to.mem) (sym e) (subst (λ (z : Bytes). HoldsRax c z) (sym mem)
                     (L.saved c w.mem kept.processor ((L.ring_held n r.private site.number site.place c u to).0 (subst (λ y. InRing n r.private site.number site.place y c u) e E) (f, steps))));
               }
-          by_point R1 e = same R1 e (still R1 e) (inl (omega arith)) (inl (omega arith)) refl refl refl (omega arith) (omega arith) (had R1 e)
-          by_point R2 e = same R2 e (still R2 e) (inl (omega arith)) (inl (omega arith)) refl refl refl (omega arith) (omega arith) (had R2 e)
-          by_point R3 e =
-              let mem = still R3 e in
+          by_point Ring1 e = same Ring1 e (still Ring1 e) (inl (omega arith)) (inl (omega arith)) refl refl refl (omega arith) (omega arith) (had Ring1 e)
+          by_point Ring2 e = same Ring2 e (still Ring2 e) (inl (omega arith)) (inl (omega arith)) refl refl refl (omega arith) (omega arith) (had Ring2 e)
+          by_point Ring3 e =
+              let mem = still Ring3 e in
               let s = saving (omega (arith, ap_offset e)) in
               let away = saves_eight (flag_slot c) (reg (kept_in_ax c) rax) mem flags_in in
-              let both = L.ring_saved c w.mem kept.processor ((L.ring_held n r.private site.number site.place c u to).1 (subst (λ y. InRing n r.private site.number site.place y c u) e E) (f, steps)) (had R3 e) in
+              let both = L.ring_saved c w.mem kept.processor ((L.ring_held n r.private site.number site.place c u to).1 (subst (λ y. InRing n r.private site.number site.place y c u) e E) (f, steps)) (had Ring3 e) in
               record {
                 calm = λ x h k. away x (unsaved s x k);
                 moves = rests 12 20 (ap_offset e) (next_offset e) (omega arith) (omega arith) (inl (omega arith)) (inl (omega arith)) refl refl refl (λ x h. away x (new_apart x h));
                 saved = subst (λ y. RingSaved (ring_next y) c to.mem) (sym e) (subst (λ (z : Bytes). HoldsRax c z × HoldsFlags c z) (sym mem) both);
               }
-          by_point R4 e = same R4 e (still R4 e) (inl (omega arith)) (inl (omega arith)) refl refl refl (omega arith) (omega arith) (had R4 e)
-          by_point R5 e =
-              let mem = still R5 e in
+          by_point Ring4 e = same Ring4 e (still Ring4 e) (inl (omega arith)) (inl (omega arith)) refl refl refl (omega arith) (omega arith) (had Ring4 e)
+          by_point Ring5 e =
+              let mem = still Ring5 e in
               let a = position_at r.private in
               let v = (number_at w.mem a 4 + 1) % 2 ^ 32 in
               let low = sound.low in
@@ -357,18 +357,18 @@ module _ (r : Threading) (A : AreEntries r.original r.listed) (S : IsThreadSound
                   slots = λ j l. four_away a v (slot_at r.private j) mem (omega (arith, low)) (omega (arith, low, l)) (inr (omega arith));
                   value = subst (λ y. LeadsToSlot n r.private y u to) e N.claim;
                 }));
-                saved = subst (λ y. RingSaved (ring_next y) c to.mem) (sym e) (saved_stays stays (had R5 e));
+                saved = subst (λ y. RingSaved (ring_next y) c to.mem) (sym e) (saved_stays stays (had Ring5 e));
               }
-          by_point R6 e =
-              let mem = still R6 e in
+          by_point Ring6 e =
+              let mem = still Ring6 e in
               quiet mem (inr (inr (inl (record {
                 inside = way 34 37 (ap_offset e) (next_offset e);
                 position = ap (λ (z : Bytes). position_in r z) mem;
                 slots = λ j l. ap (λ (z : Bytes). slot_in r z j) mem;
                 value = subst (λ y. LeadsToSlot n r.private y u to) e N.claim;
-              })))) (subst (λ y. RingSaved (ring_next y) c w.mem) (sym e) (had R6 e))
-          by_point R7 e =
-              let mem = still R7 e in
+              })))) (subst (λ y. RingSaved (ring_next y) c w.mem) (sym e) (had Ring6 e))
+          by_point Ring7 e =
+              let mem = still Ring7 e in
               let d = one.now.core in
               let j = reg d rax in
               let h = subst (λ y. RingHolds n y c d) e E.core in
@@ -391,17 +391,17 @@ module _ (r : Threading) (A : AreEntries r.original r.listed) (S : IsThreadSound
                     | inr q ↦ inr (omega (arith, q, g))
                   ]);
                 })));
-                saved = subst (λ y. RingSaved (ring_next y) c to.mem) (sym e) (saved_stays stays (had R7 e));
+                saved = subst (λ y. RingSaved (ring_next y) c to.mem) (sym e) (saved_stays stays (had Ring7 e));
               }
-          by_point R8 e = same R8 e (still R8 e) (inr (omega arith)) (inr (omega arith)) refl refl refl (omega arith) (omega arith) (had R8 e).0
-          by_point R9 e = same R9 e (still R9 e) (inr (omega arith)) (inr (omega arith)) refl refl refl (omega arith) (omega arith) (had R9 e)
-          by_point R10 e = same R10 e (still R10 e) (inr (omega arith)) (inr (omega arith)) refl refl refl (omega arith) (omega arith) (had R10 e)
-          by_point R11 e = same R11 e (still R11 e) (inr (omega arith)) (inr (omega arith)) refl refl refl (omega arith) (omega arith) tt
-          by_point R12 e = absurd (false≢true (sym (ap is_ringing e) ∙ i))
+          by_point Ring8 e = same Ring8 e (still Ring8 e) (inr (omega arith)) (inr (omega arith)) refl refl refl (omega arith) (omega arith) (had Ring8 e).0
+          by_point Ring9 e = same Ring9 e (still Ring9 e) (inr (omega arith)) (inr (omega arith)) refl refl refl (omega arith) (omega arith) (had Ring9 e)
+          by_point Ring10 e = same Ring10 e (still Ring10 e) (inr (omega arith)) (inr (omega arith)) refl refl refl (omega arith) (omega arith) (had Ring10 e)
+          by_point Ring11 e = same Ring11 e (still Ring11 e) (inr (omega arith)) (inr (omega arith)) refl refl refl (omega arith) (omega arith) tt
+          by_point Ring12 e = absurd (false≢true (sym (ap is_ringing e) ∙ i))
 
     -- a step at a point inside the event leaves what is due
     pub made_ring : (p : RingPoint) → is_ringing p ≡ true → x0 ≡ site.place + ring_offset p → one.projected.rip ≡ site.entry.addr → RingHolds n p c one.now.core → one.now.world ≡ one.projected.world → RingSaved p c w.mem
-        → (saves r x0 ≡ true → avoids (is_new r) (saved_from r.ring one.now.core) (saved_len r.ring) ≡ true) → (p ≡ R0) ⊎ (avoids (is_new r) (flag_slot c) 16 ≡ true) → Made r S stale' M M one w.mem to
+        → (saves r x0 ≡ true → avoids (is_new r) (saved_from r.ring one.now.core) (saved_len r.ring) ≡ true) → (p ≡ Ring0) ⊎ (avoids (is_new r) (flag_slot c) 16 ≡ true) → Made r S stale' M M one w.mem to
     made_ring p i here at core world saved avoided old =
         let E = in_ring p here core saved in
         let N = L.rings n r.private site.number site.place p c u to i E (f, steps) in

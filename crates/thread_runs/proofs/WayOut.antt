@@ -37,7 +37,7 @@ use Rattle.thread_runs.specs.GuestDeliveries.{GuestItem, Goes, Takes, given, Lea
 use Rattle.cond_action.specs.Conditions.{compares}
 use Rattle.thread_runs.specs.ThreadCode.{Kind, Marks, Keeps, mark_at, mark_len, ring_len, is_saving, thread_event, event_len, slot, flag_slot, saved_from, saved_len}
 use Rattle.thread_runs.specs.RingEvent.{RingPoint, ring_offset, ring_next, is_ringing, RingHolds, RingSaved, InRing, CanKeep}
-use Rattle.thread_runs.specs.RingEvent.RingPoint.{R0, R1, R2, R3, R4, R5, R6, R7, R8, R9, R10, R11, R12}
+use Rattle.thread_runs.specs.RingEvent.RingPoint.{Ring0, Ring1, Ring2, Ring3, Ring4, Ring5, Ring6, Ring7, Ring8, Ring9, Ring10, Ring11, Ring12}
 use Rattle.thread_runs.specs.Event.{Point, offset, checked, following, is_inside, Holds, IsDecided, HasSaved, InEvent, CanMark, AtStore, covered}
 use Rattle.thread_runs.specs.Event.Point.{At0, At1, At2, AtCompare, AtJump, At3, At4, At5, At6, At7}
 use Rattle.thread_runs.specs.Work.{Tail, left, InTail}
@@ -567,7 +567,7 @@ module _ (r : Threading) (A : AreEntries r.original r.listed) (S : IsThreadSound
             }))
 
         -- behind the event stands the relocated code
-        ring_behind : (w : Watch) (one : Watched) → RingAt R12 w one → GoesOut r k w log1 (thread_of to0) to0.mem 3
+        ring_behind : (w : Watch) (one : Watched) → RingAt Ring12 w one → GoesOut r k w log1 (thread_of to0) to0.mem 3
         ring_behind w one P = effect_out w one (record {
           there = P.there;
           base = P.base;
@@ -585,9 +585,9 @@ module _ (r : Threading) (A : AreEntries r.original r.listed) (S : IsThreadSound
         })
 
         -- a whole event
-        ring_whole : (w : Watch) (one : Watched) → RingAt R0 w one → GoesOut r k w log1 (thread_of to0) to0.mem 15
-        ring_whole = ring_out 14 R0 refl (ring_out 13 R1 refl (ring_out 12 R2 refl (ring_out 11 R3 refl (ring_out 10 R4 refl (ring_out 9 R5 refl (ring_out 8 R6 refl
-            (ring_out 7 R7 refl (ring_out 6 R8 refl (ring_out 5 R9 refl (ring_out 4 R10 refl (ring_out 3 R11 refl ring_behind)))))))))))
+        ring_whole : (w : Watch) (one : Watched) → RingAt Ring0 w one → GoesOut r k w log1 (thread_of to0) to0.mem 15
+        ring_whole = ring_out 14 Ring0 refl (ring_out 13 Ring1 refl (ring_out 12 Ring2 refl (ring_out 11 Ring3 refl (ring_out 10 Ring4 refl (ring_out 9 Ring5 refl (ring_out 8 Ring6 refl
+            (ring_out 7 Ring7 refl (ring_out 6 Ring8 refl (ring_out 5 Ring9 refl (ring_out 4 Ring10 refl (ring_out 3 Ring11 refl ring_behind)))))))))))
 
       -- the thread before the trampoline, at an address, with the registers and flags of its projection
       record Near (x : ℕ) (w : Watch) (one : Watched) : Type 0 where

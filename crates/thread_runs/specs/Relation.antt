@@ -11,7 +11,7 @@ use Rattle.thread_runs.specs.ThreadCode.{Kind, Marks, Keeps, mark_at, mark_len, 
 use Rattle.thread_runs.specs.Event.{Point, offset, is_inside, has_point, Holds, IsDecided, HasSaved}
 use Rattle.thread_runs.specs.Event.Point.{At0, At7}
 use Rattle.thread_runs.specs.RingEvent.{RingPoint, ring_offset, is_ringing, RingHolds, RingSaved}
-use Rattle.thread_runs.specs.RingEvent.RingPoint.{R0}
+use Rattle.thread_runs.specs.RingEvent.RingPoint.{Ring0}
 use Rattle.thread_runs.specs.Work.{Tail, left, InTail}
 use Rattle.thread_runs.specs.Threading.{ThreadSite, Threading, next_of, work_at, is_new, ByTwoJumps, IsThreadSite}
 use Rattle.thread_runs.specs.Watching.{Watched}
@@ -81,7 +81,7 @@ pub record AtRing (r : Threading) (m : Bytes) (now projected : Thread) : Type 0 
   pub world : now.world ≡ projected.world
   -- between saves and restores the sixteen saved bytes hold rax and the flags, and none of them is new
   pub saved : RingSaved point projected.core m
-  pub old : (point ≡ R0) ⊎ (avoids (is_new r) (flag_slot projected.core) 16 ≡ true)
+  pub old : (point ≡ Ring0) ⊎ (avoids (is_new r) (flag_slot projected.core) 16 ≡ true)
 
 -- A thread inside the relocated code, after its effect step, whose projection stands where the
 -- instruction led.

@@ -18,55 +18,55 @@ use Rattle.thread_runs.specs.Event.{IsGivingBack, IsReloading}
 -- LOCK XADD that claims a slot, MOVZX, MOV into the slot, and four that bring flags and rax back; after all of them a thread
 -- stands at the relocated code
 pub data RingPoint : Type 0 where
-  R0 : RingPoint
-  R1 : RingPoint
-  R2 : RingPoint
-  R3 : RingPoint
-  R4 : RingPoint
-  R5 : RingPoint
-  R6 : RingPoint
-  R7 : RingPoint
-  R8 : RingPoint
-  R9 : RingPoint
-  R10 : RingPoint
-  R11 : RingPoint
-  R12 : RingPoint
+  Ring0 : RingPoint
+  Ring1 : RingPoint
+  Ring2 : RingPoint
+  Ring3 : RingPoint
+  Ring4 : RingPoint
+  Ring5 : RingPoint
+  Ring6 : RingPoint
+  Ring7 : RingPoint
+  Ring8 : RingPoint
+  Ring9 : RingPoint
+  Ring10 : RingPoint
+  Ring11 : RingPoint
+  Ring12 : RingPoint
 
 -- how many bytes after the event's first one the instruction at a point begins
 abbrev pub ring_offset : RingPoint → ℕ
-ring_offset R0 = 0
-ring_offset R1 = 8
-ring_offset R2 = 9
-ring_offset R3 = 12
-ring_offset R4 = 20
-ring_offset R5 = 25
-ring_offset R6 = 34
-ring_offset R7 = 37
-ring_offset R8 = 48
-ring_offset R9 = 56
-ring_offset R10 = 58
-ring_offset R11 = 59
-ring_offset R12 = ring_len
+ring_offset Ring0 = 0
+ring_offset Ring1 = 8
+ring_offset Ring2 = 9
+ring_offset Ring3 = 12
+ring_offset Ring4 = 20
+ring_offset Ring5 = 25
+ring_offset Ring6 = 34
+ring_offset Ring7 = 37
+ring_offset Ring8 = 48
+ring_offset Ring9 = 56
+ring_offset Ring10 = 58
+ring_offset Ring11 = 59
+ring_offset Ring12 = ring_len
 
 -- the point after the instruction at a point
 abbrev pub ring_next : RingPoint → RingPoint
-ring_next R0 = R1
-ring_next R1 = R2
-ring_next R2 = R3
-ring_next R3 = R4
-ring_next R4 = R5
-ring_next R5 = R6
-ring_next R6 = R7
-ring_next R7 = R8
-ring_next R8 = R9
-ring_next R9 = R10
-ring_next R10 = R11
-ring_next R11 = R12
-ring_next R12 = R12
+ring_next Ring0 = Ring1
+ring_next Ring1 = Ring2
+ring_next Ring2 = Ring3
+ring_next Ring3 = Ring4
+ring_next Ring4 = Ring5
+ring_next Ring5 = Ring6
+ring_next Ring6 = Ring7
+ring_next Ring7 = Ring8
+ring_next Ring8 = Ring9
+ring_next Ring9 = Ring10
+ring_next Ring10 = Ring11
+ring_next Ring11 = Ring12
+ring_next Ring12 = Ring12
 
 -- a point at which an instruction of the event is left
 abbrev pub is_ringing : RingPoint → Bool
-is_ringing R12 = false
+is_ringing Ring12 = false
 is_ringing k = true
 
 -- a claim in eax: a number of 32 bits, and the flags of a sum, but for the bits that no operation changes
@@ -93,19 +93,19 @@ pub record IsAdding (c d : Core) : Type 0 where
 
 -- registers and flags d of a thread that came into the event with c
 abbrev pub RingHolds : ℕ → RingPoint → Core → Core → Type 0
-RingHolds n R0 c d = d ≡ c
-RingHolds n R1 c d = d ≡ c
-RingHolds n R2 c d = d ≡ core_after Lahf 0 c
-RingHolds n R3 c d = d ≡ kept_in_ax c
-RingHolds n R4 c d = d ≡ kept_in_ax c
-RingHolds n R5 c d = d ≡ with_reg c rax 1
-RingHolds n R6 c d = IsClaiming c d
-RingHolds n R7 c d = IsFilling n c d
-RingHolds n R8 c d = IsFilling n c d
-RingHolds n R9 c d = IsAdding c d
-RingHolds n R10 c d = IsGivingBack c d
-RingHolds n R11 c d = IsReloading c d
-RingHolds n R12 c d = d ≡ c
+RingHolds n Ring0 c d = d ≡ c
+RingHolds n Ring1 c d = d ≡ c
+RingHolds n Ring2 c d = d ≡ core_after Lahf 0 c
+RingHolds n Ring3 c d = d ≡ kept_in_ax c
+RingHolds n Ring4 c d = d ≡ kept_in_ax c
+RingHolds n Ring5 c d = d ≡ with_reg c rax 1
+RingHolds n Ring6 c d = IsClaiming c d
+RingHolds n Ring7 c d = IsFilling n c d
+RingHolds n Ring8 c d = IsFilling n c d
+RingHolds n Ring9 c d = IsAdding c d
+RingHolds n Ring10 c d = IsGivingBack c d
+RingHolds n Ring11 c d = IsReloading c d
+RingHolds n Ring12 c d = d ≡ c
 
 -- the eight saved bytes hold rax
 abbrev pub HoldsRax : Core → Bytes → Type 0
@@ -117,13 +117,13 @@ HoldsFlags c m = number_at m (flag_slot c) 8 ≡ reg (kept_in_ax c) rax
 
 -- between their saves and their restores the saved bytes hold rax and the flags
 abbrev pub RingSaved : RingPoint → Core → Bytes → Type 0
-RingSaved R0 c m = Unit {0}
-RingSaved R12 c m = Unit {0}
-RingSaved R4 c m = HoldsRax c m × HoldsFlags c m
-RingSaved R5 c m = HoldsRax c m × HoldsFlags c m
-RingSaved R6 c m = HoldsRax c m × HoldsFlags c m
-RingSaved R7 c m = HoldsRax c m × HoldsFlags c m
-RingSaved R8 c m = HoldsRax c m × HoldsFlags c m
+RingSaved Ring0 c m = Unit {0}
+RingSaved Ring12 c m = Unit {0}
+RingSaved Ring4 c m = HoldsRax c m × HoldsFlags c m
+RingSaved Ring5 c m = HoldsRax c m × HoldsFlags c m
+RingSaved Ring6 c m = HoldsRax c m × HoldsFlags c m
+RingSaved Ring7 c m = HoldsRax c m × HoldsFlags c m
+RingSaved Ring8 c m = HoldsRax c m × HoldsFlags c m
 RingSaved k c m = HoldsRax c m
 
 -- a thread that came with c into the event of site i, which keeps a ring of n slots and whose code stands at an address
@@ -141,16 +141,16 @@ pub record InRing (n p i at : ℕ) (k : RingPoint) (c : Core) (v : Machine) : Ty
 -- memory after the instruction at a point, of a thread with d: rax and the flags are saved, the position rises by one, and the
 -- slot whose number is in eax holds one more than the number of the site
 abbrev pub ring_memory : RingPoint → ℕ → ℕ → Core → Core → Bytes → Bytes
-ring_memory R0 p i c d m = put_list m (slot c) (bytes_of 8 (reg c rax))
-ring_memory R3 p i c d m = put_list m (flag_slot c) (bytes_of 8 (reg (kept_in_ax c) rax))
-ring_memory R5 p i c d m = put_list m (position_at p) (bytes_of 4 ((number_at m (position_at p) 4 + 1) % 2 ^ 32))
-ring_memory R7 p i c d m = put_list m (slot_at p (reg d rax)) (bytes_of 4 (i + 1))
+ring_memory Ring0 p i c d m = put_list m (slot c) (bytes_of 8 (reg c rax))
+ring_memory Ring3 p i c d m = put_list m (flag_slot c) (bytes_of 8 (reg (kept_in_ax c) rax))
+ring_memory Ring5 p i c d m = put_list m (position_at p) (bytes_of 4 ((number_at m (position_at p) 4 + 1) % 2 ^ 32))
+ring_memory Ring7 p i c d m = put_list m (slot_at p (reg d rax)) (bytes_of 4 (i + 1))
 ring_memory k p i c d m = m
 
 -- what is in eax after the instruction at a point: the position as it was before LOCK XADD, and after MOVZX the number of a slot
 abbrev pub LeadsToSlot : ℕ → ℕ → RingPoint → Machine → Machine → Type 0
-LeadsToSlot n p R5 v w = reg w.core rax ≡ number_at v.mem (position_at p) 4 % 2 ^ 32
-LeadsToSlot n p R6 v w = reg w.core rax ≡ reg v.core rax % n
+LeadsToSlot n p Ring5 v w = reg w.core rax ≡ number_at v.mem (position_at p) 4 % 2 ^ 32
+LeadsToSlot n p Ring6 v w = reg w.core rax ≡ reg v.core rax % n
 LeadsToSlot n p k v w = Unit {0}
 
 -- v after the instruction at a point

@@ -22,7 +22,7 @@ use Rattle.trampoline.specs.Atomic.{thread_len}
 use Rattle.thread_runs.specs.Event.{Point, Holds, InEvent, IsEventStep, EventGoes, IsSavedBack, IsCoverStep, CoverGoes}
 use Rattle.thread_runs.specs.Event.Point.{At0}
 use Rattle.thread_runs.specs.RingEvent.{RingPoint, RingHolds, InRing, IsRingStep, RingGoes, AreSavedBack}
-use Rattle.thread_runs.specs.RingEvent.RingPoint.{R0, R3}
+use Rattle.thread_runs.specs.RingEvent.RingPoint.{Ring0, Ring3}
 use Rattle.thread_runs.specs.Work.{Tail, left, is_syscall, InTail, IsWork, AtWork, Worked, IsEffectStep, IsTailStep}
 use Rattle.thread_runs.specs.Watching.{leads_to}
 use Rattle.thread_runs.specs.Premises.{reads_nothing_of}
@@ -76,7 +76,7 @@ SavesHeld = (b : Base) (cs : List Comparison) (p i place : ℕ) (c : Core) (v w 
 -- where a thread could save rax for a ring, or the flags, their bytes can be written
 abbrev pub RingSavesHeld : Type 0
 RingSavesHeld = (n p i at : ℕ) (c : Core) (v w : Machine)
-    → (InRing n p i at R0 c v → ThreadStep v w → lacking 2 v.mem (slot c) 8 ≡ None) × (InRing n p i at R3 c v → ThreadStep v w → lacking 2 v.mem (flag_slot c) 8 ≡ None)
+    → (InRing n p i at Ring0 c v → ThreadStep v w → lacking 2 v.mem (slot c) 8 ≡ None) × (InRing n p i at Ring3 c v → ThreadStep v w → lacking 2 v.mem (flag_slot c) 8 ≡ None)
 
 -- after the effect step the instructions of a trampoline write no byte
 abbrev pub TailTouches : Type 0

@@ -2,7 +2,7 @@
 use Rattle.std.specs.Prelude.{◌≡◌, ◌+◌, List, [], ◌∷◌, length, Some}
 use Rattle.thread_runs.specs.ThreadCode.{Keeps, ring_event, event_len}
 use Rattle.thread_runs.specs.RingEvent.{ring_offset}
-use Rattle.thread_runs.specs.RingEvent.RingPoint.{R3, R5, R6, R7, R8, R12}
+use Rattle.thread_runs.specs.RingEvent.RingPoint.{Ring3, Ring5, Ring6, Ring7, Ring8, Ring12}
 use Rattle.thread_runs.specs.Threading.Part.{Save, Marked, Unfilled}
 use Rattle.thread_runs.specs.Threading.{part_from, part_to}
 use Rattle.thread_runs.specs.Watching.{Claim, Fill, last_claim}
@@ -40,17 +40,17 @@ pub record RingIsWorked : Type 0 where
       ∷ 0x48 ∷ 0x8b ∷ 0x84 ∷ 0x24 ∷ 0x70 ∷ 0xff ∷ 0xff ∷ 0xff
       ∷ 0x04 ∷ 0x7f ∷ 0x9e ∷ 0x48 ∷ 0x8b ∷ 0x84 ∷ 0x24 ∷ 0x78 ∷ 0xff ∷ 0xff ∷ 0xff ∷ []
   -- LOCK XADD stands 25 bytes after the event's first one, MOVZX, the MOV into the slot and what is behind it at these
-  pub claims : ring_offset R5 ≡ 25
-  pub reduces : ring_offset R6 ≡ 34
-  pub fills : ring_offset R7 ≡ 37
-  pub filled : ring_offset R8 ≡ 48
-  pub behind : ring_offset R12 ≡ 67
+  pub claims : ring_offset Ring5 ≡ 25
+  pub reduces : ring_offset Ring6 ≡ 34
+  pub fills : ring_offset Ring7 ≡ 37
+  pub filled : ring_offset Ring8 ≡ 48
+  pub behind : ring_offset Ring12 ≡ 67
   -- the first save ends with the first byte of the MOV that saves the flags; a claim is unfilled from MOVZX on, up to the end of the MOV that fills
-  pub saving : part_to Save (Some (Keeps 256)) [] ≡ ring_offset R3 + 1
-  pub claimed : part_from Marked (Some (Keeps 256)) [] ≡ ring_offset R6
-  pub until : part_to Marked (Some (Keeps 256)) [] ≡ ring_offset R12 + 1
-  pub unfilled : part_from Unfilled (Some (Keeps 256)) [] ≡ ring_offset R6
-  pub over : part_to Unfilled (Some (Keeps 256)) [] ≡ ring_offset R8
+  pub saving : part_to Save (Some (Keeps 256)) [] ≡ ring_offset Ring3 + 1
+  pub claimed : part_from Marked (Some (Keeps 256)) [] ≡ ring_offset Ring6
+  pub until : part_to Marked (Some (Keeps 256)) [] ≡ ring_offset Ring12 + 1
+  pub unfilled : part_from Unfilled (Some (Keeps 256)) [] ≡ ring_offset Ring6
+  pub over : part_to Unfilled (Some (Keeps 256)) [] ≡ ring_offset Ring8
   -- thread 0 claimed twice, and its last claim is the third
   pub own : claimed_by 0 three_claims ≡ 4 ∷ 5 ∷ []
   pub last : last_claim 0 three_claims ≡ 2

@@ -9,4 +9,4 @@ mod recording;
 mod tramp;
 
 pub use event::{Event, event_size};
-pub use tramp::{build, size};
+pub use tramp::{build, put_back, size};

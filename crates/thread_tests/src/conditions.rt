@@ -1,4 +1,7 @@
 //! Files whose events have a condition, judged.
+ghost use Rattle.pun_base.specs.Actions.{IsAction};
+ghost use Rattle.site_turns.specs.Modes.{IsShared};
+
 use crate::checked_files::{are_refused, verdict};
 use crate::rewritten_files::{JUMP, START, reported_jump};
 use image_check::verdict::Verdict;
@@ -7,14 +10,19 @@ use pun_base::memory_desk::MemDesk;
 use std::test::Fail;
 
 /// Counts where rax is 5.
-const WHERE_RAX_IS_5: Action = Action::When {
-    base: Base::Count,
-    list: Comparisons::One(Comparison {
-        reg: 0,
-        op: CompareOp::Eq,
-        value: 5,
-    }),
-};
+fn where_rax_is_5() -> Action
+    ensures action { IsAction result }
+    ensures shared { IsShared result }
+{
+    Action::When {
+        base: Base::Count,
+        list: Comparisons::One(Comparison {
+            reg: 0,
+            op: CompareOp::Eq,
+            value: 5,
+        }),
+    }
+}
 
 /// The trampoline of the jump with this action: after rax and the flags are saved, CMP of what is saved of rax, a jump over LOCK INC, and LOCK INC.
 const CODE: [u8; 51] = [
@@ -28,7 +36,7 @@ const CODE: [u8; 51] = [
 #[test]
 fn changed_bytes_of_a_comparison(rt: HostRuntime) -> Result<(), Fail> {
     let changes = [(20, 6, 0x240_1019), (24, 0x74, 0x240_101D)];
-    let in_code = are_refused(rt.alloc(), WHERE_RAX_IS_5, &CODE, &changes)?;
+    let in_code = are_refused(rt.alloc(), where_rax_is_5(), &CODE, &changes)?;
     assert!(rt; in_code);
     Ok(())
 }
@@ -40,7 +48,7 @@ fn codes_of_another_condition(rt: HostRuntime) -> Result<(), Fail> {
     let mut always = MemDesk::new(rt.alloc(), &[])?;
     let mut under = MemDesk::new(rt.alloc(), &[])?;
     let counts = reported_jump(rt.alloc(), Action::Count, &mut always).ok_or("reported")?;
-    let compares = reported_jump(rt.alloc(), WHERE_RAX_IS_5, &mut under).ok_or("reported")?;
+    let compares = reported_jump(rt.alloc(), where_rax_is_5(), &mut under).ok_or("reported")?;
     let counting = always.get("O").ok_or("held")?;
     let comparing = under.get("O").ok_or("held")?;
     let refused = Verdict::No {

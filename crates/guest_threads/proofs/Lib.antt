@@ -1,5 +1,6 @@
 pub mod ThreadConditions
 pub mod LineSize
+pub mod SitesOfLines
 pub mod ThreadSoundness
 pub mod LinesAfterTurns
 pub mod GuestsOfTurns

@@ -1,13 +1,10 @@
 -- What the turns have done, loaded with the code of threads, is sound for threads.
-use Rattle.std.proofs.Common.{◌≡◌, ◌⊎◌, inl, inr, ℕ, zero, suc, ◌+◌, ◌-◌, ◌^◌, ◌<◌, ◌≤◌, Bool, true, false, not, ◌&&◌, eqb, leb, ltb, List, [], ◌∷◌, length, Option, Some, None, refl, sym, ap, ap₂, ◌∙◌, subst, arith}
+use Rattle.std.proofs.Common.{◌≡◌, ◌⊎◌, inl, inr, ℕ, ◌+◌, ◌-◌, ◌^◌, ◌<◌, ◌≤◌, Bool, true, false, not, ◌&&◌, eqb, leb, ltb, List, [], ◌∷◌, length, Option, Some, None, refl, sym, ap, ap₂, ◌∙◌, subst, arith}
 use Rattle.std.specs.Prelude.{Contains, count_by, slice_get}
-use Rattle.std.specs.Option.{is_some, option_map, option_to_list}
+use Rattle.std.specs.Option.{is_some}
 use Rattle.std.specs.List.{list_any, AllByRecursion}
-use Rattle.std.proofs.lemmas.Bool.{and_from, cases_eq, cases_order, eqb-true, eq-eqb, le-leb, lt-ltb, false_from_ne_true, true≢false}
+use Rattle.std.proofs.lemmas.Bool.{cases_eq, cases_order, eqb-true, eq-eqb, false_from_ne_true, true≢false}
 use Rattle.pun_base.specs.Memory.{Cell, Bytes}
-use Rattle.pun_base.specs.declared.action.Action.{Action}
-use Rattle.pun_base.specs.declared.action.Base.{Base}
-use Rattle.pun_base.specs.declared.action.Base.TheVariants.{Cover, Count}
 use Rattle.pun_base.specs.Actions.{IsAction}
 use Rattle.length_decode.specs.Spelling.{spelling}
 use Rattle.cpu_state.specs.Bytes.{Stands}
@@ -18,7 +15,7 @@ use Rattle.start_entries.specs.Finding.{entry_at}
 use Rattle.start_entries.specs.Leading.{JumpsTo, Leads}
 use Rattle.start_entries.specs.Standing.{AreEntries}
 use Rattle.start_entries.proofs.ExecutedEntries.{spelling_some}
-use Rattle.patch_report.proofs.ListPlaces.{In, found, any_at, contains_at, place_of, counted_twice, finds, in_flat, from_flat, all_in, some_is}
+use Rattle.patch_report.proofs.ListPlaces.{In, found, counted_twice, all_in}
 use Rattle.image_check.specs.Reports.{Line}
 use Rattle.image_check.proofs.FixedJumps.{any_found}
 use Rattle.image_check.proofs.LoadedCode.{loaded_fixed}
@@ -28,37 +25,16 @@ use Rattle.site_turns.specs.Laws.{EventsAreNumbered}
 use Rattle.site_turns.specs.Loaded.{AreShown}
 use Rattle.site_turns.proofs.CellsAndRows.{held_by}
 use Rattle.site_turns.proofs.PlanForms.{entry_here}
-use Rattle.site_turns.specs.Modes.{IsShared, thread_event_of}
-use Rattle.thread_runs.specs.Building.{kind_of, event_of}
-use Rattle.thread_runs.specs.ThreadCode.{Kind, Marks, mark_at, mark_len, slot_at, code_if}
+use Rattle.site_turns.specs.Modes.{IsShared}
+use Rattle.thread_runs.specs.Building.{kind_of}
+use Rattle.thread_runs.specs.ThreadCode.{Kind, slot_at, code_if}
 use Rattle.thread_runs.specs.Threading.{ThreadSite, Threading, next_of, is_new, ring_of, ByTwoJumps, IsThreadSite, is_code_of, IsRingSound, IsThreadSound}
-use Rattle.guest_threads.specs.FromTurns.{IsForThreads, site_with, site_of, threading_of, IsThreadLine, HaveRoom, IsThreadLoaded, FoldedIsThreadSound}
+use Rattle.guest_threads.specs.FromTurns.{IsForThreads, site_with, threading_of, IsThreadLine, HaveRoom, IsThreadLoaded, FoldedIsThreadSound}
 use Rattle.site_turns.proofs.CodeEnds.{line_fits}
 use Rattle.site_turns.proofs.CodeSizes.{one_standing}
+use Rattle.guest_threads.proofs.SitesOfLines.{mark_in, Of, of_site, one_line, once, numbers, kinds, kind_is, room_of, owned_in}
 use Rattle.guest_threads.proofs.ThreadConditions.{action_few, keeps_of, ring_shared, ring_always}
 use Rattle.guest_threads.proofs.LineSize.{Known as KnownLine, instruction as line_instruction, code_with as line_code, size_is as line_size, in_line as line_in, one as line_one}
-
--- the only element of a list made of an option
-pub one_of : {X Y : Type 0} (f : X → Y) (o : Option X) (y : Y) → In (option_to_list (option_map f o)) y → (x : X) × (o ≡ Some x) × (f x ≡ y)
-one_of f None y c = absurd (none c.0 c.1)
-  where
-    none : (i : ℕ) → slice_get [] i ≡ Some y → ⊥
-    none i e = cc
-one_of f (Some x) y c = (x, refl, by_place c.0 c.1)
-  where
-    by_place : (i : ℕ) → slice_get (f x ∷ []) i ≡ Some y → f x ≡ y
-    by_place zero e = some_is (f x) y e
-    by_place (suc i) e = absurd cc
-
--- where a trampoline's event is there, the trampoline has one
-pub event_some : (a : Action) (e : Bool) → is_some (event_of (thread_event_of a e)) ≡ true → e ≡ true
-event_some a true h = refl
-event_some a false h = absurd (true≢false (sym h))
-
--- what an event marks begins no lower than the private range
-pub mark_in : (b : Base) (p i : ℕ) → p ≤ mark_at b p i
-mark_in Cover p i = omega arith
-mark_in Count p i = omega arith
 
 module _ (g : Scene) (t : State) (patched : Bytes) (start : ℕ) (A : AreEntries g.image g.entries) (asked : IsAction g.action) (S : IsShared g.action) (F : IsFolded g t) (T : IsForThreads g)
     (J : AllByRecursion (IsThreadLine g t) (done_by t).lines) (N : EventsAreNumbered (done_by t).lines) (W : IsThreadLoaded g t patched) where
@@ -70,24 +46,6 @@ module _ (g : Scene) (t : State) (patched : Bytes) (start : ℕ) (A : AreEntries
 
   abbrev K : IsKept g d
   K = F.kept
-
-  -- a site comes of a line
-  record Of (s : ThreadSite) : Type 0 where
-    line : Line
-    in_lines : In d.lines line
-    entry : StartEntry
-    at : entry_at g.entries line.tramp.start ≡ Some entry
-    is : site_with g.action line entry ≡ s
-    listed : Contains g.entries entry
-    addr : entry.addr ≡ line.tramp.start
-
-  -- each site is that of a line
-  of_site : (s : ThreadSite) → Contains R.sites s → Of s
-  of_site s c =
-      let q = from_flat (site_of g.action g.entries) d.lines s (place_of R.sites s c) in
-      let o = one_of (site_with g.action q.0) (entry_at g.entries q.0.tramp.start) s q.2 in
-      let f = finds (λ (e : StartEntry). eqb e.addr q.0.tramp.start) g.entries o.0 o.1 in
-      record { line = q.0; in_lines = q.1; entry = o.0; at = o.1; is = o.2; listed = contains_at g.entries f.place o.0 f.at; addr = eqb-true o.0.addr q.0.tramp.start f.passes }
 
   -- bytes of code are loaded as they stand
   same_code : SameCode (memory_at g t) patched
@@ -178,14 +136,7 @@ module _ (g : Scene) (t : State) (patched : Bytes) (start : ℕ) (A : AreEntries
 
   -- each site is a patched one
   sites : (s : ThreadSite) → Contains R.sites s → IsThreadSite R s
-  sites s c = let o = of_site s c in subst (λ (z : ThreadSite). IsThreadSite R z) o.is (site_sound o.line o.in_lines o.entry o.at o.listed o.addr)
-
-  -- two sites of one line are one
-  one_line : (s t : ThreadSite) (o : Of s) (p : Of t) → o.in_lines.0 ≡ p.in_lines.0 → s ≡ t
-  one_line s t o p e =
-      let l : o.line ≡ p.line = some_is o.line p.line (sym o.in_lines.1 ∙ ap (slice_get d.lines) e ∙ p.in_lines.1) in
-      let n : o.entry ≡ p.entry = some_is o.entry p.entry (sym o.at ∙ ap (λ (z : Line). entry_at g.entries z.tramp.start) l ∙ p.at) in
-      sym o.is ∙ (λ i. site_with g.action (l i) (n i)) ∙ p.is
+  sites s c = let o = of_site g.action g.entries d.lines s c in subst (λ (z : ThreadSite). IsThreadSite R z) o.is (site_sound o.line o.in_lines o.entry o.at o.listed o.addr)
 
   -- where one line at most passes a test, two that pass have one index
   twice : (f : Line → Bool) (o p : ℕ) (l m : Line) → count_by f d.lines ≤ 1 → slice_get d.lines o ≡ Some l → slice_get d.lines p ≡ Some m → f l ≡ true → f m ≡ true → o ≡ p
@@ -195,41 +146,22 @@ module _ (g : Scene) (t : State) (patched : Bytes) (start : ℕ) (A : AreEntries
     | inr (inr k) ↦ absurd (omega (arith, few, counted_twice f d.lines p o m l k b y a x))
   ]
 
-  -- each start has one site
-  once : (s t : ThreadSite) → Contains R.sites s → Contains R.sites t → s.entry.addr ≡ t.entry.addr → s ≡ t
-  once s t c k e =
-      let o = of_site s c in
-      let p = of_site t k in
-      let a = s.entry.addr in
-      let at_s : o.line.tramp.start ≡ a = sym o.addr ∙ ap (λ (z : ThreadSite). z.entry.addr) o.is in
-      let at_t : p.line.tramp.start ≡ a = sym p.addr ∙ ap (λ (z : ThreadSite). z.entry.addr) p.is ∙ sym e in
-      one_line s t o p (twice (starts_at a) o.in_lines.0 p.in_lines.0 o.line p.line (K.once a) o.in_lines.1 p.in_lines.1 (eq-eqb o.line.tramp.start a at_s) (eq-eqb p.line.tramp.start a at_t))
+  -- lines with one start have one index
+  started_once : (i j : ℕ) (l m : Line) → slice_get d.lines i ≡ Some l → slice_get d.lines j ≡ Some m → l.tramp.start ≡ m.tramp.start → i ≡ j
+  started_once i j l m a b e =
+      let x = m.tramp.start in
+      twice (starts_at x) i j l m (K.once x) a b (eq-eqb l.tramp.start x e) (eq-eqb m.tramp.start x refl)
 
-  -- a site with an event comes of a line with one
-  with_event : (s : ThreadSite) (o : Of s) → is_some s.event ≡ true → o.line.tramp.event ≡ true
-  with_event s o u = event_some g.action o.line.tramp.event (ap (λ (z : ThreadSite). is_some z.event) o.is ∙ u)
-
-  -- that event is the scene's
-  event_is : (s : ThreadSite) → Contains R.sites s → is_some s.event ≡ true → s.event ≡ Some (kind_of g.action)
-  event_is s c u = let o = of_site s c in sym (ap (λ (z : ThreadSite). z.event) o.is) ∙ ap (λ (b : Bool). event_of (thread_event_of g.action b)) (with_event s o u)
-
-  -- each number has one site
-  numbers : (s t : ThreadSite) → Contains R.sites s → Contains R.sites t → is_some s.event ≡ true → is_some t.event ≡ true → s.number ≡ t.number → s ≡ t
-  numbers s t c k u v e =
-      let o = of_site s c in
-      let p = of_site t k in
-      elim (cases_eq o.in_lines.0 p.in_lines.0) [
-        | inl z ↦ one_line s t o p z
-        | inr n ↦ absurd (N o.in_lines.0 p.in_lines.0 o.line p.line n o.in_lines.1 p.in_lines.1 (with_event s o u) (with_event t p v)
-            (ap (λ (z : ThreadSite). z.number) o.is ∙ e ∙ sym (ap (λ (z : ThreadSite). z.number) p.is)))
-      ]
-
-  -- all events are of one kind
-  kinds : (s t : ThreadSite) → Contains R.sites s → Contains R.sites t → is_some s.event ≡ true → is_some t.event ≡ true → s.event ≡ t.event
-  kinds s t c k u v = event_is s c u ∙ sym (event_is t k v)
+  -- so do lines with an event and one number
+  numbered_once : (i j : ℕ) (l m : Line) → slice_get d.lines i ≡ Some l → slice_get d.lines j ≡ Some m → l.tramp.event ≡ true → m.tramp.event ≡ true
+      → l.number ≡ m.number → i ≡ j
+  numbered_once i j l m a b u v e = elim (cases_eq i j) [
+    | inl z ↦ z
+    | inr n ↦ absurd (N i j l m n a b u v e)
+  ]
 
   -- an address of a site's code is one of its line's
-  of_line : (s : ThreadSite) (o : Of s) (h : IsThreadSite R s) (x : ℕ) → is_code_of R s h x → in_code g x o.line ≡ true
+  of_line : (s : ThreadSite) (o : Of g.action g.entries d.lines s) (h : IsThreadSite R s) (x : ℕ) → is_code_of R s h x → in_code g x o.line ≡ true
   of_line s o h x q =
       let k = instruction o.line o.in_lines o.entry o.at o.listed o.addr in
       let same : h.fields ≡ k.fields = one_standing g.image o.entry.addr h.fields k.fields h.spelled k.spelled
@@ -241,15 +173,15 @@ module _ (g : Scene) (t : State) (patched : Bytes) (start : ℕ) (A : AreEntries
       in_line o.line o.in_lines o.entry o.at o.listed o.addr k x (omega (arith, q.0, p)) (omega (arith, q.1, p, n))
 
   -- an address of a site's code is one of its line's
-  of_code : (s : ThreadSite) (c : Contains R.sites s) (x : ℕ) → is_code_of R s (sites s c) x → in_code g x (of_site s c).line ≡ true
-  of_code s c x h = of_line s (of_site s c) (sites s c) x h
+  of_code : (s : ThreadSite) (c : Contains R.sites s) (x : ℕ) → is_code_of R s (sites s c) x → in_code g x (of_site g.action g.entries d.lines s c).line ≡ true
+  of_code s c x h = of_line s (of_site g.action g.entries d.lines s c) (sites s c) x h
 
   -- codes of sites don't meet
   apart : (s t : ThreadSite) (h : Contains R.sites s) (k : Contains R.sites t) (x : ℕ) → is_code_of R s (sites s h) x → is_code_of R t (sites t k) x → s ≡ t
   apart s t h k x a b =
-      let o = of_site s h in
-      let p = of_site t k in
-      one_line s t o p (twice (in_code g x) o.in_lines.0 p.in_lines.0 o.line p.line (K.alone x) o.in_lines.1 p.in_lines.1 (of_code s h x a) (of_code t k x b))
+      let o = of_site g.action g.entries d.lines s h in
+      let p = of_site g.action g.entries d.lines t k in
+      one_line g.action g.entries d.lines s t o p (twice (in_code g x) o.in_lines.0 p.in_lines.0 o.line p.line (K.alone x) o.in_lines.1 p.in_lines.1 (of_code s h x a) (of_code t k x b))
 
   -- what is in no site's instruction stays
   stays : (x : ℕ) → is_some (g.image x) ≡ true → list_any (λ (s : ThreadSite). leb s.entry.addr x && ltb x (s.entry.addr + s.entry.len)) R.sites ≡ false → patched x ≡ g.image x
@@ -261,23 +193,7 @@ module _ (g : Scene) (t : State) (patched : Bytes) (start : ℕ) (A : AreEntries
           let f = found (starts_at o.entry.addr) d.lines o.starts in
           let e : f.is.tramp.start ≡ o.entry.addr = eqb-true f.is.tramp.start o.entry.addr f.passes in
           let at : entry_at g.entries f.is.tramp.start ≡ Some o.entry = ap (entry_at g.entries) e ∙ entry_here g.image g.entries o.entry A o.listed in
-          let s : ThreadSite = site_with g.action f.is o.entry in
-          let c : In (site_of g.action g.entries f.is) s = (0, ap (λ (q : Option StartEntry). slice_get (option_to_list (option_map (site_with g.action f.is) q)) 0) at) in
-          let i = in_flat (site_of g.action g.entries) d.lines f.is s (f.place, f.at) c in
-          any_at (λ (s : ThreadSite). leb s.entry.addr x && ltb x (s.entry.addr + s.entry.len)) R.sites i.0 s i.1
-          (and_from (leb o.entry.addr x) (ltb x (o.entry.addr + o.entry.len)) (le-leb o.entry.addr x o.low) (lt-ltb x (o.entry.addr + o.entry.len) o.high))
-
-  -- the kind of a site's event is the action's
-  kind_is : (s : ThreadSite) → Contains R.sites s → (k : Kind) → s.event ≡ Some k → kind_of g.action ≡ k
-  kind_is s c k v = some_is (kind_of g.action) k (sym (event_is s c (ap is_some v)) ∙ v)
-
-  -- what an event marks lies in the private range
-  room_of : (s : ThreadSite) → Contains R.sites s → (b : Base) → s.event ≡ Some (Marks b) → mark_at b g.private.lo s.number + mark_len b ≤ g.private.hi
-  room_of s c b v =
-      let o = of_site s c in
-      let room : AllByRecursion (λ (l : Line). mark_at b g.private.lo l.number + mark_len b ≤ g.private.hi) d.lines =
-      subst (λ (k : Kind). HaveRoom k g.private.lo g.private.hi d.lines) (kind_is s c (Marks b) v) W.room in
-      subst (λ (z : ThreadSite). mark_at b g.private.lo z.number + mark_len b ≤ g.private.hi) o.is (all_in _ d.lines o.line room o.in_lines)
+          owned_in g.action g.entries d.lines f.is o.entry x (f.place, f.at) at o.low o.high
 
   -- a ring lies in the private range, and one more than each number fits a slot
   ring_sound : (n : ℕ) → R.ring ≡ Some n → IsRingSound R n
@@ -288,9 +204,9 @@ module _ (g : Scene) (t : State) (patched : Bytes) (start : ℕ) (A : AreEntries
         size = ring_shared g.action n S keeps;
         zeros = λ x a b. W.zeros x (omega (arith, a)) (omega (arith, b, room));
         low = omega (arith, room, high);
-        numbers = λ s c u. let o = of_site s c in
+        numbers = λ s c u. let o = of_site g.action g.entries d.lines s c in
             subst (λ (z : ThreadSite). z.number + 1 < 2 ^ 31) o.is (all_in (IsThreadLine g t) d.lines o.line J o.in_lines).number;
-        always = λ s c u. let o = of_site s c in sym (ap (λ (z : ThreadSite). z.when) o.is) ∙ ring_always g.action o.line.tramp.event n keeps;
+        always = λ s c u. let o = of_site g.action g.entries d.lines s c in sym (ap (λ (z : ThreadSite). z.when) o.is) ∙ ring_always g.action o.line.tramp.event n keeps;
       }
 
   -- the patched memory is sound for threads
@@ -298,13 +214,13 @@ module _ (g : Scene) (t : State) (patched : Bytes) (start : ℕ) (A : AreEntries
   sound = record {
     stays = stays;
     sites = sites;
-    once = once;
-    numbers = numbers;
+    once = once g.action g.entries d.lines started_once;
+    numbers = numbers g.action g.entries d.lines numbered_once;
     apart = apart;
-    kinds = kinds;
-    rings = λ s c k v. ap ring_of (kind_is s c k v);
-    marks = λ s c z v x a b. let k = room_of s c z v in let h = mark_in z g.private.lo s.number in W.zeros x (omega (arith, a, h)) (omega (arith, b, k));
-    low = λ s c z v. let k = room_of s c z v in let h = W.high in omega (arith, k, h);
+    kinds = kinds g.action g.entries d.lines;
+    rings = λ s c k v. ap ring_of (kind_is g.action g.entries d.lines s c k v);
+    marks = λ s c z v x a b. let k = room_of g.action g.entries d.lines g.private.lo g.private.hi W.room s c z v in let h = mark_in z g.private.lo s.number in W.zeros x (omega (arith, a, h)) (omega (arith, b, k));
+    low = λ s c z v. let k = room_of g.action g.entries d.lines g.private.lo g.private.hi W.room s c z v in let h = W.high in omega (arith, k, h);
     ring = ring_sound;
   }
 

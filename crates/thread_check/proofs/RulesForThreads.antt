@@ -1,12 +1,11 @@
 -- Where no rule for threads fails, the patched image is sound for threads.
 use Rattle.std.proofs.Common.{◌≡◌, ◌⊎◌, inl, inr, ℕ, ◌+◌, ◌-◌, ◌^◌, ◌<◌, ◌≤◌, Bool, true, false, not, ◌&&◌, eqb, leb, ltb, List, length, slice_index, Option, Some, None, refl, sym, ap, ap₂, ◌∙◌, subst, arith}
 use Rattle.std.specs.Prelude.{Contains, slice_get}
-use Rattle.std.specs.Option.{is_some, option_map, option_to_list}
+use Rattle.std.specs.Option.{is_some, option_map}
 use Rattle.std.specs.List.{list_any, count_by, AllByRecursion}
-use Rattle.std.proofs.lemmas.Bool.{cases_eq, cases_lt, cases_order, and_from, or_right, eqb-true, eq-eqb, le-leb, lt-ltb, true_from_ne_false, false_from_ne_true, false≢true, true≢false}
+use Rattle.std.proofs.lemmas.Bool.{cases_eq, cases_lt, cases_order, and_from, or_right, eqb-true, eq-eqb, true_from_ne_false, false_from_ne_true, false≢true, true≢false}
 use Rattle.pun_base.specs.Memory.{Cell}
 use Rattle.pun_base.specs.Actions.{private_len}
-use Rattle.pun_base.specs.declared.action.Base.{Base}
 use Rattle.cpu_state.specs.Bytes.{Stands}
 use Rattle.length_decode.specs.Spelling.{Fields, IsInstruction, spelling}
 use Rattle.insn_form.specs.declared.form.Insn.{Insn}
@@ -22,26 +21,25 @@ use Rattle.patch_report.specs.Values.{RowValue}
 use Rattle.patch_report.specs.Bounds.{IsBounded}
 use Rattle.patch_report.specs.Grammar.{IsTold}
 use Rattle.patch_report.proofs.ReportBounds.{bounded}
-use Rattle.patch_report.proofs.ListPlaces.{In, some_is, all_in, all_from, any_at, contains_at, place_of, counted_twice, finds, in_flat, from_flat}
+use Rattle.patch_report.proofs.ListPlaces.{In, some_is, all_in, all_from, contains_at, counted_twice, finds}
 use Rattle.image_check.specs.Reports.{Line, lines, is_written, in_private, on_page, tramps_of}
 use Rattle.image_check.specs.Rules.{Case, differs, displaced_by, displaced_from, displaced_at, LiesInWith, HoldsCode, is_own, ByteFails, WriteFails, RangeFails}
 use Rattle.image_check.proofs.HeldRules.{some_unless, held_or_not, same_unless, owned_at, code_low as code_ends, new_none, zero_at}
 use Rattle.image_check.proofs.LoadedCode.{loaded_fixed}
 use Rattle.image_check.proofs.FixedJumps.{any_found}
-use Rattle.image_check.proofs.CodeAtStarts.{found_address}
 use Rattle.image_check.proofs.ReportLines.{number_low}
-use Rattle.site_turns.specs.Modes.{can_in_threads, is_shared, IsShared, thread_event_of}
+use Rattle.site_turns.specs.Modes.{can_in_threads, is_shared, IsShared}
 use Rattle.site_turns.proofs.PlanForms.{entry_here}
 use Rattle.site_turns.proofs.CodeSizes.{one_standing}
-use Rattle.thread_runs.specs.Building.{kind_of, event_of}
-use Rattle.thread_runs.specs.ThreadCode.{Kind, Marks, mark_at, mark_len, slot_at, code_if}
+use Rattle.thread_runs.specs.Building.{kind_of}
+use Rattle.thread_runs.specs.ThreadCode.{Kind, slot_at, code_if}
 use Rattle.thread_runs.specs.Threading.{ThreadSite, Threading, next_of, ring_of, ByTwoJumps, IsThreadSite, is_code_of, IsRingSound, IsThreadSound}
 use Rattle.thread_runs.proofs.ThreadsTheorem.{threads_followed, threads_followed_with}
 use Rattle.thread_runs.proofs.WorkSize.{told}
-use Rattle.guest_threads.specs.FromTurns.{code_of_line, site_with, site_of, HaveRoom}
+use Rattle.guest_threads.specs.FromTurns.{code_of_line, site_with, HaveRoom}
 use Rattle.guest_threads.proofs.LinesAfterTurns.{room_for}
 use Rattle.guest_threads.proofs.ThreadConditions.{action_few, keeps_of, ring_shared, ring_always}
-use Rattle.guest_threads.proofs.ThreadSoundness.{one_of, event_some, mark_in}
+use Rattle.guest_threads.proofs.SitesOfLines.{mark_in, Of, of_site, one_line, once, numbers, kinds, kind_is, room_of, owned_in}
 use Rattle.thread_check.specs.ThreadRules.{moved_from, moved_at, is_marked, shares_at, ThreadLeads, ThreadLineFails, ThreadEntryFails, thread_coding, ThreadCodeFails, ThreadSiteFails, IsThreadCaseSound}
 use Rattle.thread_check.specs.ThreadSoundness.{threading_of, ThreadCaseIsFollowed}
 use Rattle.thread_check.proofs.LinesOfRows.{IsOwn, is_numbered, number_once}
@@ -246,21 +244,6 @@ module _ (c : Case) (A : AreEntries c.original c.listed) (T : IsTold c.report) (
     | inr k ↦ room_for c.report.action c.report.private.0 c.report.private.1 (length c.report.rows) (lines c.report) k below
   ]
 
-  -- a site and the trampoline of which it comes
-  record Of (s : ThreadSite) : Type 0 where
-    line : Line
-    in_lines : In (lines c.report) line
-    entry : StartEntry
-    at : entry_at c.listed line.tramp.start ≡ Some entry
-    is : site_with c.report.action line entry ≡ s
-
-  -- each site is that of a trampoline
-  of_site : (s : ThreadSite) → Contains R.sites s → Of s
-  of_site s k =
-      let q = from_flat (site_of c.report.action c.listed) (lines c.report) s (place_of R.sites s k) in
-      let o = one_of (site_with c.report.action q.0) (entry_at c.listed q.0.tramp.start) s q.2 in
-      record { line = q.0; in_lines = q.1; entry = o.0; at = o.1; is = o.2 }
-
   -- the code of a trampoline, by its entry
   code_is : (l : Line) (e : Enters c l)
       → code_to c l e.fields (e.entry.addr + e.entry.len) ≡ code_with c l e.fields
@@ -323,53 +306,17 @@ module _ (c : Case) (A : AreEntries c.original c.listed) (T : IsTold c.report) (
       new_if o q e f = ap₂ (λ x (y : Option Cell). x && not (is_some y)) e f
 
   -- the site of a trampoline has the entry that is found at the start
-  same_site : (s : ThreadSite) (o : Of s) → site_with c.report.action o.line (enters o.line o.in_lines).entry ≡ s
+  same_site : (s : ThreadSite) (o : Of c.report.action c.listed (lines c.report) s) → site_with c.report.action o.line (enters o.line o.in_lines).entry ≡ s
   same_site s o =
       let e : (enters o.line o.in_lines).entry ≡ o.entry = some_is (enters o.line o.in_lines).entry o.entry (sym (enters o.line o.in_lines).at ∙ o.at) in
       ap (site_with c.report.action o.line) e ∙ o.is
 
   -- each site is a patched one
   sites : (s : ThreadSite) → Contains R.sites s → IsThreadSite R s
-  sites s k = let o = of_site s k in subst (λ (z : ThreadSite). IsThreadSite R z) (same_site s o) (site_sound o.line o.in_lines)
-
-  -- two sites of one trampoline are one
-  one_line : (s t : ThreadSite) (o : Of s) (p : Of t) → o.in_lines.0 ≡ p.in_lines.0 → s ≡ t
-  one_line s t o p e =
-      let l : o.line ≡ p.line = some_is o.line p.line (sym o.in_lines.1 ∙ ap (slice_get (lines c.report)) e ∙ p.in_lines.1) in
-      let n : o.entry ≡ p.entry = some_is o.entry p.entry (sym o.at ∙ ap (λ (z : Line). entry_at c.listed z.tramp.start) l ∙ p.at) in
-      sym o.is ∙ (λ i. site_with c.report.action (l i) (n i)) ∙ p.is
-
-  -- each start has one site
-  once : (s t : ThreadSite) → Contains R.sites s → Contains R.sites t → s.entry.addr ≡ t.entry.addr → s ≡ t
-  once s t h k e =
-      let o = of_site s h in
-      let p = of_site t k in
-      let a : s.entry.addr ≡ o.line.tramp.start = ap (λ (z : ThreadSite). z.entry.addr) (sym o.is) ∙ found_address c.listed o.line.tramp.start o.entry o.at in
-      let b : t.entry.addr ≡ p.line.tramp.start = ap (λ (z : ThreadSite). z.entry.addr) (sym p.is) ∙ found_address c.listed p.line.tramp.start p.entry p.at in
-      one_line s t o p (started_once o.in_lines.0 p.in_lines.0 o.line p.line o.in_lines.1 p.in_lines.1 (sym a ∙ e ∙ b))
-
-  -- a site with an event comes of a trampoline with one
-  with_event : (s : ThreadSite) (o : Of s) → is_some s.event ≡ true → o.line.tramp.event ≡ true
-  with_event s o u = event_some c.report.action o.line.tramp.event (ap (λ (z : ThreadSite). is_some z.event) o.is ∙ u)
-
-  -- that event is by the report's action
-  event_is : (s : ThreadSite) → Contains R.sites s → is_some s.event ≡ true → s.event ≡ Some kind
-  event_is s h u = let o = of_site s h in sym (ap (λ (z : ThreadSite). z.event) o.is) ∙ ap (λ (b : Bool). event_of (thread_event_of c.report.action b)) (with_event s o u)
-
-  -- each number has one site
-  numbers : (s t : ThreadSite) → Contains R.sites s → Contains R.sites t → is_some s.event ≡ true → is_some t.event ≡ true → s.number ≡ t.number → s ≡ t
-  numbers s t h k u v e =
-      let o = of_site s h in
-      let p = of_site t k in
-      one_line s t o p (numbered_once o.in_lines.0 p.in_lines.0 o.line p.line o.in_lines.1 p.in_lines.1
-      (with_event s o u) (with_event t p v) (ap (λ (z : ThreadSite). z.number) o.is ∙ e ∙ sym (ap (λ (z : ThreadSite). z.number) p.is)))
-
-  -- all events are of one kind
-  kinds : (s t : ThreadSite) → Contains R.sites s → Contains R.sites t → is_some s.event ≡ true → is_some t.event ≡ true → s.event ≡ t.event
-  kinds s t h k u v = event_is s h u ∙ sym (event_is t k v)
+  sites s k = let o = of_site c.report.action c.listed (lines c.report) s k in subst (λ (z : ThreadSite). IsThreadSite R z) (same_site s o) (site_sound o.line o.in_lines)
 
   -- an address of a site's code lies in the code of its trampoline
-  of_code : (s : ThreadSite) (o : Of s) (h : IsThreadSite R s) (x : ℕ) → is_code_of R s h x → LiesInWith (thread_coding c.report) c o.in_lines.0 x
+  of_code : (s : ThreadSite) (o : Of c.report.action c.listed (lines c.report) s) (h : IsThreadSite R s) (x : ℕ) → is_code_of R s h x → LiesInWith (thread_coding c.report) c o.in_lines.0 x
   of_code s o h x q =
       let l = o.line in
       let e = enters l o.in_lines in
@@ -387,10 +334,10 @@ module _ (c : Case) (A : AreEntries c.original c.listed) (T : IsTold c.report) (
   -- codes of sites don't meet
   apart : (s t : ThreadSite) (h : Contains R.sites s) (k : Contains R.sites t) (x : ℕ) → is_code_of R s (sites s h) x → is_code_of R t (sites t k) x → s ≡ t
   apart s t h k x a b =
-      let o = of_site s h in
-      let p = of_site t k in
+      let o = of_site c.report.action c.listed (lines c.report) s h in
+      let p = of_site c.report.action c.listed (lines c.report) t k in
       elim (cases_eq o.in_lines.0 p.in_lines.0) [
-        | inl e ↦ one_line s t o p e
+        | inl e ↦ one_line c.report.action c.listed (lines c.report) s t o p e
         | inr n ↦ absurd (rule_4 x (o.in_lines.0, of_code s o (sites s h) x a, inr (inl (p.in_lines.0, n, of_code t p (sites t k) x b))))
       ]
 
@@ -405,24 +352,7 @@ module _ (c : Case) (A : AreEntries c.original c.listed) (T : IsTold c.report) (
       owned w =
           let o = owned_at c rule_2 x w in
           let at : entry_at c.listed o.line.tramp.start ≡ Some o.entry = ap (entry_at c.listed) o.start ∙ entry_here c.original c.listed o.entry A o.in_list in
-          let s : ThreadSite = site_with c.report.action o.line o.entry in
-          let k : In (site_of c.report.action c.listed o.line) s =
-          (0, ap (λ (q : Option StartEntry). slice_get (option_to_list (option_map (site_with c.report.action o.line) q)) 0) at) in
-          let i = in_flat (site_of c.report.action c.listed) (lines c.report) o.line s o.in_lines k in
-          any_at (λ (s : ThreadSite). leb s.entry.addr x && ltb x (s.entry.addr + s.entry.len)) R.sites i.0 s i.1
-          (and_from (leb o.entry.addr x) (ltb x (o.entry.addr + o.entry.len)) (le-leb o.entry.addr x o.above) (lt-ltb x (o.entry.addr + o.entry.len) o.below))
-
-  -- the kind of a site's event is by the report's action
-  kind_is : (s : ThreadSite) → Contains R.sites s → (k : Kind) → s.event ≡ Some k → kind ≡ k
-  kind_is s h k v = some_is kind k (sym (event_is s h (ap is_some v)) ∙ v)
-
-  -- what each event marks is in the private range
-  room_of : (s : ThreadSite) → Contains R.sites s → (b : Base) → s.event ≡ Some (Marks b) → mark_at b c.report.private.0 s.number + mark_len b ≤ c.report.private.1
-  room_of s k b v =
-      let o = of_site s k in
-      let each : AllByRecursion (λ (l : Line). mark_at b c.report.private.0 l.number + mark_len b ≤ c.report.private.1) (lines c.report) =
-      subst (λ (z : Kind). HaveRoom z c.report.private.0 c.report.private.1 (lines c.report)) (kind_is s k (Marks b) v) room in
-      subst (λ (z : ThreadSite). mark_at b c.report.private.0 z.number + mark_len b ≤ c.report.private.1) o.is (all_in _ (lines c.report) o.line each o.in_lines)
+          owned_in c.report.action c.listed (lines c.report) o.line o.entry x o.in_lines at o.above o.below
 
   -- a ring is in the private range, and one more than each number fits a slot
   ring_sound : (n : ℕ) → R.ring ≡ Some n → IsRingSound R n
@@ -434,10 +364,10 @@ module _ (c : Case) (A : AreEntries c.original c.listed) (T : IsTold c.report) (
         size = ring_shared c.report.action n shared keeps;
         zeros = λ x a b. zero_at c rule_5 x (omega (arith, a)) (omega (arith, b, high));
         low = omega (arith, high, e);
-        numbers = λ s h u. let o = of_site s h in
+        numbers = λ s h u. let o = of_site c.report.action c.listed (lines c.report) s h in
             let k : o.line.number < length c.report.rows = all_in _ (lines c.report) o.line below o.in_lines in
             subst (λ (z : ThreadSite). z.number + 1 < 2 ^ 31) o.is (omega (arith, k, few));
-        always = λ s h u. let o = of_site s h in sym (ap (λ (z : ThreadSite). z.when) o.is) ∙ ring_always c.report.action o.line.tramp.event n keeps;
+        always = λ s h u. let o = of_site c.report.action c.listed (lines c.report) s h in sym (ap (λ (z : ThreadSite). z.when) o.is) ∙ ring_always c.report.action o.line.tramp.event n keeps;
       }
 
   -- the patched image is sound for threads
@@ -445,13 +375,13 @@ module _ (c : Case) (A : AreEntries c.original c.listed) (T : IsTold c.report) (
   case_sound = record {
     stays = stays;
     sites = sites;
-    once = once;
-    numbers = numbers;
+    once = once c.report.action c.listed (lines c.report) started_once;
+    numbers = numbers c.report.action c.listed (lines c.report) numbered_once;
     apart = apart;
-    kinds = kinds;
-    rings = λ s h k v. ap ring_of (kind_is s h k v);
-    marks = λ s k z v x a b. let h = room_of s k z v in let m = mark_in z c.report.private.0 s.number in zero_at c rule_5 x (omega (arith, a, m)) (omega (arith, b, h));
-    low = λ s k z v. let h = room_of s k z v in let e = B.end in omega (arith, h, e);
+    kinds = kinds c.report.action c.listed (lines c.report);
+    rings = λ s h k v. ap ring_of (kind_is c.report.action c.listed (lines c.report) s h k v);
+    marks = λ s k z v x a b. let h = room_of c.report.action c.listed (lines c.report) c.report.private.0 c.report.private.1 room s k z v in let m = mark_in z c.report.private.0 s.number in zero_at c rule_5 x (omega (arith, a, m)) (omega (arith, b, h));
+    low = λ s k z v. let h = room_of c.report.action c.listed (lines c.report) c.report.private.0 c.report.private.1 room s k z v in let e = B.end in omega (arith, h, e);
     ring = ring_sound;
   }
 

@@ -1,6 +1,6 @@
 -- What the trampolines and the rules of any patched image show, as a verdict of the rules for threads.
-use Rattle.std.proofs.Common.{◌≡◌, ◌≢◌, ◌⊎◌, inl, inr, ℕ, ◌+◌, ◌-◌, ◌≤◌, Bool, true, false, cond, not, ◌&&◌, ◌||◌, eqb, leb, ltb, List, length, slice_index, Option, Some, None, Result, Ok, Err, refl, sym, ap, ◌∙◌, subst, arith}
-use Rattle.std.specs.Prelude.{count_by, slice_get, IfOk}
+use Rattle.std.proofs.Common.{◌≡◌, ◌≢◌, ◌⊎◌, inl, inr, ℕ, ◌+◌, ◌-◌, ◌≤◌, Bool, true, false, cond, not, ◌&&◌, ◌||◌, eqb, leb, ltb, List, length, slice_index, Option, Some, None, refl, sym, ap, ◌∙◌, subst, arith}
+use Rattle.std.specs.Prelude.{count_by, slice_get}
 use Rattle.std.specs.Option.{is_some, option_map}
 use Rattle.std.specs.List.{list_any}
 use Rattle.std.proofs.lemmas.Bool.{cases_order, and_parts, and_from, or_cases, or_right, eqb-true, leb-true, ltb-true, le-leb, lt-ltb, false_from_ne_true, false≢true, true≢false}
@@ -290,11 +290,6 @@ image_verdict c None None (Some x) site entry h i j k l = inr (inr (inl (refl, j
 image_verdict c None None None (Some x) entry h i j k l = inr (inr (inr (inl (refl, k.0))))
 image_verdict c None None None None (Some x) h i j k l = inr (inr (inr (inr (refl, l.0))))
 image_verdict c None None None None None h i j k l = record { bytes = h; writes = i; entries = l; ranges = j; sites = k }
-
--- where threads can get the events of the action, it settles nothing beside the trampolines
-pub of_lines : {E : Type 0} (c : Case) (r : Result Verdict E) → IsShared c.report.action → IfOk r (λ v. IsLinesVerdict c v) → IfOk r (λ v. IsEventsVerdict c v)
-of_lines c (Ok v) s h = inl (s, h)
-of_lines c (Err e) s h = tt
 
 -- the verdict of the action with the trampolines is the verdict, where the rules of any patched image hold
 events_verdict : (c : Case) (v : Verdict) → IsImageVerdict c Yes → IsEventsVerdict c v → IsThreadVerdict c v

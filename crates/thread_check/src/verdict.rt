@@ -6,8 +6,7 @@ ghost use Rattle.image_check.specs.Parts.{line_of};
 ghost use Rattle.image_check.specs.Reports as reports;
 ghost use Rattle.image_check.specs.Verdict.{case_of, case_in};
 ghost use Rattle.thread_check.specs.LineParts as parts;
-ghost use Rattle.site_turns.specs.Modes.{IsShared};
-ghost use Rattle.thread_check.specs.LineParts.{IsLinesVerdict, IsEventsVerdict, IsImageVerdict};
+ghost use Rattle.thread_check.specs.LineParts.{IsEventsVerdict, IsImageVerdict};
 ghost use Rattle.thread_check.specs.ThreadSoundness.{IsThreadCaseFollowed};
 ghost use Rattle.thread_check.specs.ThreadVerdict.{IsThreadVerdict};
 
@@ -65,9 +64,9 @@ fn judge_image(alloc: Global, checked: &Checked<'_>) -> Result<Verdict, AllocErr
     Ok(first_failure(byte, write, range, site, entry))
 }
 
-/// Judges the trampolines of a report, which are these lines, by rules 3 and 4, but for what follows where the other rules hold. Threads
-/// can get the events of its action.
-fn judge_lines(
+/// Judges the trampolines of a report, which are these lines, by rules 3 and 4, but for what follows where the other rules hold, where
+/// threads can get the events of its action; where they can't, rule 6 fails at the private range's first address.
+fn judge_events(
     alloc: Global,
     orig: &Elf<'_>,
     patched: &Elf<'_>,
@@ -77,12 +76,16 @@ fn judge_lines(
 ) -> Result<Verdict, AllocError>
     requires built { IsBuilt orig.now.bytes starts.now }
     requires lines { map line_of lines.now ≡ reports.lines report.now.body }
-    requires shared { IsShared report.now.body.action }
-    ensures { IfOk result (λ v. IsLinesVerdict
+    ensures { IfOk result (λ v. IsEventsVerdict
         (case_of orig.now.bytes patched.now.bytes starts.now report.now.body) v) }
 {
     report.keeps();
     let _accepted = orig.file();
+    let action = report.action();
+    if !is_shared(action) {
+        let low = u64::from(report.private().lo);
+        return Ok(Verdict::No { addr: low, rule: 6 });
+    }
     let mut codes = Vec::new(alloc);
     for line in lines {
         match judge(orig, patched, starts, report, line) {
@@ -97,30 +100,6 @@ fn judge_lines(
     match first_overlap(&sorted) {
         None => Ok(Verdict::Yes),
         Some(addr) => Ok(Verdict::No { addr, rule: 4 }),
-    }
-}
-
-/// Judges the trampolines of a report, where threads can get the events of its action; where they can't, rule 6 fails at the private
-/// range's first address.
-fn judge_events(
-    alloc: Global,
-    orig: &Elf<'_>,
-    patched: &Elf<'_>,
-    starts: &Starts,
-    report: &Report,
-    lines: &[ReportLine],
-) -> Result<Verdict, AllocError>
-    requires built { IsBuilt orig.now.bytes starts.now }
-    requires lines { map line_of lines.now ≡ reports.lines report.now.body }
-    ensures { IfOk result (λ v. IsEventsVerdict
-        (case_of orig.now.bytes patched.now.bytes starts.now report.now.body) v) }
-{
-    let action = report.action();
-    if is_shared(action) {
-        judge_lines(alloc, orig, patched, starts, report, lines)
-    } else {
-        let low = u64::from(report.private().lo);
-        Ok(Verdict::No { addr: low, rule: 6 })
     }
 }
 

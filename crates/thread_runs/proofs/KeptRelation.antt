@@ -1,5 +1,5 @@
 -- A step of one thread keeps the relation between the watched guest and the original's.
-use Rattle.std.proofs.Common.{◌≡◌, ◌≢◌, inl, inr, ℕ, zero, suc, ◌+◌, ◌%◌, ◌^◌, ◌<◌, Bool, true, false, cond, List, [], ◌∷◌, ◌++◌, Option, Some, None, refl, sym, ap, ap₂, ◌∙◌, subst, arith}
+use Rattle.std.proofs.Common.{◌≡◌, ◌≢◌, inl, inr, ℕ, zero, suc, ◌+◌, ◌%◌, ◌^◌, ◌<◌, Bool, true, false, cond, List, [], ◌∷◌, ◌++◌, map, Option, Some, None, refl, sym, ap, ap₂, ◌∙◌, subst, arith}
 use Rattle.std.specs.Prelude.{Contains, count_by, slice_get, slice_set}
 use Rattle.std.proofs.lemmas.Bool.{cond-true, cond-false, cases_eq, and_parts}
 use Rattle.pun_base.specs.Memory.{Bytes}
@@ -29,7 +29,7 @@ use Rattle.thread_runs.specs.Work.{Tail, InTail}
 use Rattle.thread_runs.specs.Work.Tail.{Out, Back, Jump, Ecx}
 use Rattle.thread_runs.specs.Threading.Part.{Saved}
 use Rattle.thread_runs.specs.Threading.{ThreadSite, Threading, part_to, is_part, has_saved, is_one_of, is_saved_by, IsThreadSound}
-use Rattle.thread_runs.specs.Watching.{Watched, Watch, EffectStep, is_effect, projection, stale_after, watched_after}
+use Rattle.thread_runs.specs.Watching.{Watched, Watch, EffectStep, is_effect, projection, watched_after}
 use Rattle.thread_runs.specs.Premises.{touches_none, LeavesSaved}
 use Rattle.thread_runs.specs.StepLaws.{HoldsSlot, HoldsSlots}
 use Rattle.thread_runs.specs.Theorem.{is_recorded, has_marked}
@@ -42,7 +42,7 @@ use Rattle.thread_runs.proofs.ByteRanges.{number_on, range_first, range_rest}
 use Rattle.thread_runs.proofs.RingEventInstructions.{flags_then_rax}
 use Rattle.thread_runs.proofs.ListUpdates.{set_here, set_away, map_set, map_same, get_map, count_set, count_more}
 use Rattle.thread_runs.proofs.ThreadPlaces.{part_true, point_inside, point_saved}
-use Rattle.thread_runs.proofs.WatchedRelation.{ThreadKept, HasRoom, shown_after, marked, HasRing, RingKept, Related, Changes, Made}
+use Rattle.thread_runs.proofs.WatchedRelation.{ThreadKept, HasRoom, shown_after, marked, HasRing, RingKept, Related, Changes, Made, stale_next}
 
 -- runs that grow at the end
 pub run_more : (listed : List StartEntry) (is : List GuestItem) (g : Guest) (gs : List Guest) (i : GuestItem) (h : Guest) → IsInterleavedWith listed is g gs
@@ -72,12 +72,13 @@ pub lacking_on : (p : ℕ) (m w : Bytes) (a n : ℕ) → ((x : ℕ) → perms_at
 lacking_on p m w a zero h = refl
 lacking_on p m w a (suc n) h = ap₂ (λ b o. cond b o (Some a)) (same_allows p (w a) (m a) (h a)) (lacking_on p m w (advanced a 1) n h)
 
+-- so it is after a step
+pub lacking_after : (p a n : ℕ) (f : Fields) (s t : Machine) → ThreadStepsBy f s t → lacking p t.mem a n ≡ lacking p s.mem a n
+lacking_after p a n f s t st = lacking_on p s.mem t.mem a n (keeps_perms f s t st)
+
 -- bytes that can be read and written still can after a step
 pub keeps_room : (a n : ℕ) (f : Fields) (s t : Machine) → ThreadStepsBy f s t → HasRoom s.mem a n → HasRoom t.mem a n
-keeps_room a n f s t st h = record {
-  read = lacking_on 4 s.mem t.mem a n (keeps_perms f s t st) ∙ h.read;
-  written = lacking_on 2 s.mem t.mem a n (keeps_perms f s t st) ∙ h.written;
-}
+keeps_room a n f s t st h = record { read = lacking_after 4 a n f s t st ∙ h.read; written = lacking_after 2 a n f s t st ∙ h.written }
 
 -- so can a ring's position and slots
 pub keeps_ring : (r : Threading) (n : ℕ) (f : Fields) (s t : Machine) → ThreadStepsBy f s t → HasRing r n s.mem → HasRing r n t.mem
@@ -273,23 +274,12 @@ module _ (r : Threading) (S : IsThreadSound r) (H : HoldsSlot) (H' : HoldsSlots)
 
     -- a step that leaves what is due and touches none of the bytes that others saved keeps the relation, if its projection is at a start
     pub kept_by : (m' : Bytes) → LeavesSaved r w k f (machine_of w.mem one.now) → ((n : ℕ) → r.ring ≡ Some n → RingKept r n v) → is_start r.listed one'.projected.rip ≡ true
-        → Made r S (stale_after r w.stale one f (machine_of w.mem one.now)) R.end.mem m' one w.mem to → Related r S a (made_after r k one made) v
+        → Made r S (stale_next r w one f) R.end.mem m' one w.mem to → Related r S a (made_after r k one made) v
     kept_by m' free rings start M = elim M.went [
-      | inl q ↦ record {
-        states = R.states;
-        run = subst (λ (z : List GuestItem). IsInterleavedWith r.listed z a R.states) (sym (cond-false (is_effect r one.now.rip) _ _ q.0)) R.run;
-        end = R.end;
-        last = R.last;
-        threads = R.threads ∙ sym (map_same (λ (t : Watched). t.projected) w.threads k one one' there q.2);
-        alike = subst (λ (z : Bytes). AreAlike (is_hidden r) v.stale z to.mem) q.1 M.alike;
-        own = subst (λ (z : Bytes). SameCode r.original z) q.1 M.own;
-        other = code;
-        room = room;
-        ring_room = ring_room;
-        marks = marks;
-        rings = rings;
-        each = each;
-      }
+      | inl q ↦ related R.states R.end
+          (subst (λ (z : List GuestItem). IsInterleavedWith r.listed z a R.states) (sym (cond-false (is_effect r one.now.rip) _ _ q.0)) R.run)
+          R.last (R.threads ∙ sym (map_same (λ (t : Watched). t.projected) w.threads k one one' there q.2))
+          (subst (λ (z : Bytes). AreAlike (is_hidden r) v.stale z to.mem) q.1 M.alike) (subst (λ (z : Bytes). SameCode r.original z) q.1 M.own)
       | inr q ↦ (let h : Guest = record { threads = slice_set R.end.threads k (thread_of q.to); mem = q.to.mem } in
           let move : Moves k R.end h = record {
             thread = one.projected;
@@ -297,22 +287,11 @@ module _ (r : Threading) (S : IsThreadSound r) (H : HoldsSlot) (H' : HoldsSlots)
             to = q.to;
             steps = q.steps;
             after = refl;
-          } in record {
-            states = R.states ++ h ∷ [];
-            run = subst (λ (z : List GuestItem). IsInterleavedWith r.listed z a (R.states ++ h ∷ [])) (sym (cond-true (is_effect r one.now.rip) _ _ q.is))
-                (run_more r.listed made a R.states (Goes k) h R.run (subst (λ (z : Guest). Moves k z h) (sym R.last) move));
-            end = h;
-            last = last_more a R.states h;
-            threads = ap₂ (λ (l : List Thread) t. slice_set l k t) R.threads (sym q.thread) ∙ sym (map_set (λ (t : Watched). t.projected) w.threads k one');
-            alike = subst (λ (z : Bytes). AreAlike (is_hidden r) v.stale z to.mem) q.mem M.alike;
-            own = subst (λ (z : Bytes). SameCode r.original z) q.mem M.own;
-            other = code;
-            room = room;
-            ring_room = ring_room;
-            marks = marks;
-            rings = rings;
-            each = each;
-          })
+          } in related (R.states ++ h ∷ []) h
+          (subst (λ (z : List GuestItem). IsInterleavedWith r.listed z a (R.states ++ h ∷ [])) (sym (cond-true (is_effect r one.now.rip) _ _ q.is))
+          (run_more r.listed made a R.states (Goes k) h R.run (subst (λ (z : Guest). Moves k z h) (sym R.last) move)))
+          (last_more a R.states h) (ap₂ (λ (l : List Thread) t. slice_set l k t) R.threads (sym q.thread) ∙ sym (map_set (λ (t : Watched). t.projected) w.threads k one'))
+          (subst (λ (z : Bytes). AreAlike (is_hidden r) v.stale z to.mem) q.mem M.alike) (subst (λ (z : Bytes). SameCode r.original z) q.mem M.own))
     ]
       where
         code : SameCode r.patched to.mem
@@ -330,3 +309,22 @@ module _ (r : Threading) (S : IsThreadSound r) (H : HoldsSlot) (H' : HoldsSlots)
 
         each : (j : ℕ) (other : Watched) → slice_get v.threads j ≡ Some other → ThreadKept r S to.mem other
         each = each_after m' free (record { processor = M.processor; words = M.words; start = start; phase = M.phase })
+
+        -- the relation, with a run of the original that ends so
+        related : (states : List Guest) (end : Guest) → IsInterleavedWith r.listed (made_after r k one made) a states → last_guest a states ≡ end → end.threads ≡ map (λ (t : Watched). t.projected) v.threads
+            → AreAlike (is_hidden r) v.stale end.mem to.mem → SameCode r.original end.mem → Related r S a (made_after r k one made) v
+        related states end run last threads alike own = record {
+          states = states;
+          run = run;
+          end = end;
+          last = last;
+          threads = threads;
+          alike = alike;
+          own = own;
+          other = code;
+          room = room;
+          ring_room = ring_room;
+          marks = marks;
+          rings = rings;
+          each = each;
+        }

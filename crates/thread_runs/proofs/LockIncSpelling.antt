@@ -1,7 +1,11 @@
 -- LOCK INC and LOCK XADD by their fields and by their bytes: one test.
-use Rattle.std.proofs.Common.{◌≡◌, ℕ, List, [], ◌∷◌, ◌++◌, length, refl, sym, ap, ◌∙◌, subst, arith}
+use Rattle.std.proofs.Common.{◌≡◌, ℕ, true, ◌&&◌, List, [], ◌∷◌, ◌++◌, length, take, refl, sym, ap, ◌∙◌, subst, arith}
+use Rattle.std.specs.Prelude.{nat_le}
+use Rattle.std.proofs.lemmas.Bool.{and_parts}
 use Rattle.length_decode.specs.Spelling.{IsInstruction}
 use Rattle.length_decode.proofs.ShapeAnswers.{one_fields}
+use Rattle.insn_form.specs.Plan.{same_bytes}
+use Rattle.insn_form.proofs.UniqueSteps.{bytes_are}
 use Rattle.thread_runs.specs.ThreadSteps.{is_locked_inc, is_locked_xadd, unlocked, thread_task}
 use Rattle.thread_runs.specs.LockedSpelling.{IsLockedInc, LockedIsSpelled, LockIsUntested, IsLockedXadd, XaddIsSpelled}
 use Rattle.thread_runs.proofs.LockInc.{locked, locked_is, exchanging, xadd_is}
@@ -57,3 +61,30 @@ xadd_spelled f i = (
   λ s. (let g = exchanging (s.a ∷ s.b ∷ s.c ∷ s.d ∷ []) [] in
       ap is_locked_xadd (one_fields f g [] [] i.formed (exchanging_formed s.a s.b s.c s.d).formed (ap (λ bs. bs ++ []) s.spelled))),
 )
+
+-- these five bytes, four more, and others
+pub record Begun (x0 x1 x2 x3 x4 : ℕ) (bs : List ℕ) : Type 0 where
+  pub a : ℕ
+  pub b : ℕ
+  pub c : ℕ
+  pub d : ℕ
+  pub rest : List ℕ
+  pub joined : bs ≡ x0 ∷ x1 ∷ x2 ∷ x3 ∷ x4 ∷ a ∷ b ∷ c ∷ d ∷ rest
+
+-- nine bytes or more, the first five of which pass the test for being these, are these with four more, and others
+pub begun : (x0 x1 x2 x3 x4 : ℕ) (bs : List ℕ) → (nat_le 9 (length bs) && same_bytes (take 5 bs) (x0 ∷ x1 ∷ x2 ∷ x3 ∷ x4 ∷ [])) ≡ true → Begun x0 x1 x2 x3 x4 bs
+begun x0 x1 x2 x3 x4 [] h = absurd cc
+begun x0 x1 x2 x3 x4 (y0 ∷ []) h = absurd cc
+begun x0 x1 x2 x3 x4 (y0 ∷ y1 ∷ []) h = absurd cc
+begun x0 x1 x2 x3 x4 (y0 ∷ y1 ∷ y2 ∷ []) h = absurd cc
+begun x0 x1 x2 x3 x4 (y0 ∷ y1 ∷ y2 ∷ y3 ∷ []) h = absurd cc
+begun x0 x1 x2 x3 x4 (y0 ∷ y1 ∷ y2 ∷ y3 ∷ y4 ∷ []) h = absurd cc
+begun x0 x1 x2 x3 x4 (y0 ∷ y1 ∷ y2 ∷ y3 ∷ y4 ∷ a ∷ []) h = absurd cc
+begun x0 x1 x2 x3 x4 (y0 ∷ y1 ∷ y2 ∷ y3 ∷ y4 ∷ a ∷ b ∷ []) h = absurd cc
+begun x0 x1 x2 x3 x4 (y0 ∷ y1 ∷ y2 ∷ y3 ∷ y4 ∷ a ∷ b ∷ c ∷ []) h = absurd cc
+begun x0 x1 x2 x3 x4 (y0 ∷ y1 ∷ y2 ∷ y3 ∷ y4 ∷ a ∷ b ∷ c ∷ d ∷ rest) h =
+    let xs = x0 ∷ x1 ∷ x2 ∷ x3 ∷ x4 ∷ [] in
+    let ys = y0 ∷ y1 ∷ y2 ∷ y3 ∷ y4 ∷ [] in
+    let more = a ∷ b ∷ c ∷ d ∷ rest in
+    let p = and_parts (nat_le 9 (length (ys ++ more))) (same_bytes ys xs) h in
+    record { a = a; b = b; c = c; d = d; rest = rest; joined = ap (λ (l : List ℕ). l ++ more) (bytes_are ys xs p.1) }

@@ -1,7 +1,6 @@
 -- One step of a thread: that of LOCK INC is the step of INC one address further, and each other one but that of LOCK XADD is a single processor's.
-use Rattle.std.proofs.Common.{◌≡◌, ℕ, eqb, Bool, true, false, List, [], ◌∷◌, ◌++◌, length, drop, Option, Some, None, Result, Ok, Err, refl, sym, ap, ◌∙◌, subst, arith}
+use Rattle.std.proofs.Common.{◌≡◌, ℕ, Bool, true, false, List, [], ◌∷◌, ◌++◌, length, drop, Option, Some, None, Result, Ok, Err, refl, sym, ap, ◌∙◌, subst, arith}
 use Rattle.std.specs.Prelude.{nat_le}
-use Rattle.std.proofs.lemmas.Bool.{and_parts, eqb-true}
 use Rattle.std.proofs.lemmas.Bool.Decides.{nat_tests}
 use Rattle.pun_base.specs.Memory.{Bytes}
 use Rattle.length_decode.specs.declared.field_bytes.Stop as reading
@@ -17,7 +16,7 @@ use Rattle.insn_form.specs.declared.form.Insn.{Insn}
 use Rattle.insn_form.specs.Classes.{template}
 use Rattle.insn_form.specs.Filling.{filled}
 use Rattle.insn_form.specs.Meaning.{effect}
-use Rattle.insn_form.specs.Plan.{Plan, Halt, Lacks, Ends, Empty, Differs, plan, unless, same_bytes}
+use Rattle.insn_form.specs.Plan.{Plan, Halt, Lacks, Ends, Empty, Differs, plan, unless}
 use Rattle.insn_form.specs.Machine.{Machine, Task, act, first, standing_at}
 use Rattle.insn_form.specs.Step.{IsAt, Step, next_after, task_of}
 use Rattle.insn_form.specs.Runs.{nowhere}
@@ -33,45 +32,11 @@ use Rattle.image_step.proofs.RunnerSteps.{told_err}
 use Rattle.thread_runs.specs.ThreadSteps.{is_locked_inc, is_locked_xadd, unlocked, thread_task, thread_act, ThreadStep}
 use Rattle.thread_runs.specs.ThreadJudging.{loading, thread_reading, thread_code, thread_judgement, UsesOne, StepsThread, begins_locked, begins_xadd}
 use Rattle.thread_runs.proofs.LockInc.{locked}
-use Rattle.thread_runs.proofs.LockIncSpelling.{locked_formed, locked_spelled, xadd_spelled}
+use Rattle.thread_runs.proofs.LockIncSpelling.{locked_formed, locked_spelled, xadd_spelled, begun}
 use Rattle.thread_runs.proofs.ThreadJudgements.{thread_there}
 use Rattle.thread_runs.proofs.ThreadSteps.{IsPlain as IsPlainFields, made, thread_step, unlocked_task, plain_acts}
 
 -- ---- LOCK INC
-
--- nine bytes of it and others
-record Begun (bs : List ℕ) : Type 0 where
-  pub a : ℕ
-  pub b : ℕ
-  pub c : ℕ
-  pub d : ℕ
-  pub rest : List ℕ
-  pub joined : bs ≡ spelling (locked (a ∷ b ∷ c ∷ d ∷ []) []) ++ rest
-
--- bytes that pass the test for LOCK INC begin with its nine bytes
-begun : (bs : List ℕ) → begins_locked bs ≡ true → Begun bs
-begun [] h = absurd cc
-begun (x0 ∷ []) h = absurd cc
-begun (x0 ∷ x1 ∷ []) h = absurd cc
-begun (x0 ∷ x1 ∷ x2 ∷ []) h = absurd cc
-begun (x0 ∷ x1 ∷ x2 ∷ x3 ∷ []) h = absurd cc
-begun (x0 ∷ x1 ∷ x2 ∷ x3 ∷ x4 ∷ []) h = absurd cc
-begun (x0 ∷ x1 ∷ x2 ∷ x3 ∷ x4 ∷ a ∷ []) h = absurd cc
-begun (x0 ∷ x1 ∷ x2 ∷ x3 ∷ x4 ∷ a ∷ b ∷ []) h = absurd cc
-begun (x0 ∷ x1 ∷ x2 ∷ x3 ∷ x4 ∷ a ∷ b ∷ c ∷ []) h = absurd cc
-begun (x0 ∷ x1 ∷ x2 ∷ x3 ∷ x4 ∷ a ∷ b ∷ c ∷ d ∷ rest) h =
-    let p = and_parts (nat_le 9 (length (x0 ∷ x1 ∷ x2 ∷ x3 ∷ x4 ∷ a ∷ b ∷ c ∷ d ∷ rest))) (same_bytes (x0 ∷ x1 ∷ x2 ∷ x3 ∷ x4 ∷ []) (0xf0 ∷ 0x48 ∷ 0xff ∷ 0x04 ∷ 0x25 ∷ [])) h in
-    let p0 = and_parts (eqb x0 0xf0) (same_bytes (x1 ∷ x2 ∷ x3 ∷ x4 ∷ []) (0x48 ∷ 0xff ∷ 0x04 ∷ 0x25 ∷ [])) p.1 in
-    let p1 = and_parts (eqb x1 0x48) (same_bytes (x2 ∷ x3 ∷ x4 ∷ []) (0xff ∷ 0x04 ∷ 0x25 ∷ [])) p0.1 in
-    let p2 = and_parts (eqb x2 0xff) (same_bytes (x3 ∷ x4 ∷ []) (0x04 ∷ 0x25 ∷ [])) p1.1 in
-    let p3 = and_parts (eqb x3 0x04) (same_bytes (x4 ∷ []) (0x25 ∷ [])) p2.1 in
-    let p4 = and_parts (eqb x4 0x25) (same_bytes [] []) p3.1 in
-    let e0 = eqb-true x0 0xf0 p0.0 in
-    let e1 = eqb-true x1 0x48 p1.0 in
-    let e2 = eqb-true x2 0xff p2.0 in
-    let e3 = eqb-true x3 0x04 p3.0 in
-    let e4 = eqb-true x4 0x25 p4.0 in
-    record { a = a; b = b; c = c; d = d; rest = rest; joined = λ i. e0 i ∷ e1 i ∷ e2 i ∷ e3 i ∷ e4 i ∷ a ∷ b ∷ c ∷ d ∷ rest }
 
 -- the machine one address further
 abbrev behind : Machine → Machine
@@ -95,7 +60,7 @@ one_on a = omega arith
 -- where the bytes at rip pass the test, LOCK INC stands there, and without F0 one address further
 locked_here : (s : Machine) → begins_locked (code_at s.mem s.rip 15) ≡ true → HasLocked s
 locked_here s h =
-    let g = begun (code_at s.mem s.rip 15) h in
+    let g = begun 0xf0 0x48 0xff 0x04 0x25 (code_at s.mem s.rip 15) h in
     let f = locked (g.a ∷ g.b ∷ g.c ∷ g.d ∷ []) [] in
     let st = stands s.mem s.rip 15 (spelling f) g.rest g.joined in
     record {

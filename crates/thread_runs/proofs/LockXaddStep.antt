@@ -1,7 +1,5 @@
 -- One step of a thread at LOCK XADD: the four bytes rise by eax, which gets what they were.
-use Rattle.std.proofs.Common.{◌≡◌, ℕ, eqb, ◌+◌, ◌*◌, ◌%◌, ◌^◌, ◌<◌, Bool, true, List, [], ◌∷◌, ◌++◌, length, Option, Some, None, Result, Ok, Err, refl, sym, ap, ap₂, ◌∙◌, subst, arith}
-use Rattle.std.specs.Prelude.{nat_le}
-use Rattle.std.proofs.lemmas.Bool.{and_parts, eqb-true}
+use Rattle.std.proofs.Common.{◌≡◌, ℕ, ◌+◌, ◌*◌, ◌%◌, ◌^◌, ◌<◌, Bool, true, List, [], ◌∷◌, length, Option, Some, None, Result, Ok, Err, refl, sym, ap, ap₂, ◌∙◌, subst, arith}
 use Rattle.pun_base.specs.Memory.{Bytes}
 use Rattle.cpu_alu.specs.declared.operation.Width.TheVariants.{W32}
 use Rattle.cpu_alu.specs.declared.operation.AluOp.TheVariants.{Add}
@@ -21,7 +19,7 @@ use Rattle.insn_form.specs.declared.form.Insn.TheVariants.{Exact}
 use Rattle.insn_form.specs.Filling.{integer_of}
 use Rattle.insn_form.specs.Operands.{word_of, reg, with_reg, with_flags, rax, place}
 use Rattle.insn_form.specs.Meaning.{effect}
-use Rattle.insn_form.specs.Plan.{Plan, plan, unless, or_first, same_bytes}
+use Rattle.insn_form.specs.Plan.{Plan, plan, unless, or_first}
 use Rattle.insn_form.specs.Machine.{Machine, Task, first}
 use Rattle.insn_form.specs.Step.{IsAt, next_after}
 use Rattle.insn_form.specs.Exactly.{after_op, HasOperands}
@@ -33,7 +31,7 @@ use Rattle.relocate_insn.proofs.PieceSteps.{at_fixed}
 use Rattle.thread_runs.specs.ThreadSteps.{thread_task, number_read, ThreadStepsBy}
 use Rattle.thread_runs.specs.ThreadJudging.{loading, thread_judgement, UsesOne, StepsThread, begins_xadd, xadd_address, sum_at, Exchanges}
 use Rattle.thread_runs.proofs.LockInc.{exchanging}
-use Rattle.thread_runs.proofs.LockIncSpelling.{exchanging_formed}
+use Rattle.thread_runs.proofs.LockIncSpelling.{exchanging_formed, begun}
 use Rattle.thread_runs.proofs.ThreadJudgements.{thread_there}
 use Rattle.thread_runs.proofs.RingCode.{sum_by, sum_insn, claimed, claim_told, claim_step}
 
@@ -44,40 +42,6 @@ load_told m a n x e = by_lack (lacking 4 m a n) refl e
     by_lack : (o : Option ℕ) → lacking 4 m a n ≡ o → unless_lacking o (number_at m a n) ≡ Ok x → (lacking 4 m a n ≡ None) × (x ≡ number_at m a n)
     by_lack None h k = (h, (let z : number_at m a n ≡ x = cc in sym z))
     by_lack (Some l) h k = absurd cc
-
--- nine bytes of LOCK XADD and others
-record Begun (bs : List ℕ) : Type 0 where
-  pub a : ℕ
-  pub b : ℕ
-  pub c : ℕ
-  pub d : ℕ
-  pub rest : List ℕ
-  pub joined : bs ≡ spelling (exchanging (a ∷ b ∷ c ∷ d ∷ []) []) ++ rest
-
--- bytes that pass the test for LOCK XADD begin with its nine bytes
-begun : (bs : List ℕ) → begins_xadd bs ≡ true → Begun bs
-begun [] h = absurd cc
-begun (x0 ∷ []) h = absurd cc
-begun (x0 ∷ x1 ∷ []) h = absurd cc
-begun (x0 ∷ x1 ∷ x2 ∷ []) h = absurd cc
-begun (x0 ∷ x1 ∷ x2 ∷ x3 ∷ []) h = absurd cc
-begun (x0 ∷ x1 ∷ x2 ∷ x3 ∷ x4 ∷ []) h = absurd cc
-begun (x0 ∷ x1 ∷ x2 ∷ x3 ∷ x4 ∷ a ∷ []) h = absurd cc
-begun (x0 ∷ x1 ∷ x2 ∷ x3 ∷ x4 ∷ a ∷ b ∷ []) h = absurd cc
-begun (x0 ∷ x1 ∷ x2 ∷ x3 ∷ x4 ∷ a ∷ b ∷ c ∷ []) h = absurd cc
-begun (x0 ∷ x1 ∷ x2 ∷ x3 ∷ x4 ∷ a ∷ b ∷ c ∷ d ∷ rest) h =
-    let p = and_parts (nat_le 9 (length (x0 ∷ x1 ∷ x2 ∷ x3 ∷ x4 ∷ a ∷ b ∷ c ∷ d ∷ rest))) (same_bytes (x0 ∷ x1 ∷ x2 ∷ x3 ∷ x4 ∷ []) (0xf0 ∷ 0x0f ∷ 0xc1 ∷ 0x04 ∷ 0x25 ∷ [])) h in
-    let p0 = and_parts (eqb x0 0xf0) (same_bytes (x1 ∷ x2 ∷ x3 ∷ x4 ∷ []) (0x0f ∷ 0xc1 ∷ 0x04 ∷ 0x25 ∷ [])) p.1 in
-    let p1 = and_parts (eqb x1 0x0f) (same_bytes (x2 ∷ x3 ∷ x4 ∷ []) (0xc1 ∷ 0x04 ∷ 0x25 ∷ [])) p0.1 in
-    let p2 = and_parts (eqb x2 0xc1) (same_bytes (x3 ∷ x4 ∷ []) (0x04 ∷ 0x25 ∷ [])) p1.1 in
-    let p3 = and_parts (eqb x3 0x04) (same_bytes (x4 ∷ []) (0x25 ∷ [])) p2.1 in
-    let p4 = and_parts (eqb x4 0x25) (same_bytes [] []) p3.1 in
-    let e0 = eqb-true x0 0xf0 p0.0 in
-    let e1 = eqb-true x1 0x0f p1.0 in
-    let e2 = eqb-true x2 0xc1 p2.0 in
-    let e3 = eqb-true x3 0x04 p3.0 in
-    let e4 = eqb-true x4 0x25 p4.0 in
-    record { a = a; b = b; c = c; d = d; rest = rest; joined = λ i. e0 i ∷ e1 i ∷ e2 i ∷ e3 i ∷ e4 i ∷ a ∷ b ∷ c ∷ d ∷ rest }
 
 -- LOCK XADD stands at rip, and names the address that its bytes do
 record HasXadd (s : Machine) : Type 0 where
@@ -91,7 +55,7 @@ record HasXadd (s : Machine) : Type 0 where
 -- where the bytes at rip pass the test, LOCK XADD stands there
 xadd_here : (s : Machine) → begins_xadd (code_at s.mem s.rip 15) ≡ true → xadd_address (code_at s.mem s.rip 15) < 2 ^ 64 → HasXadd s
 xadd_here s h l =
-    let g = begun (code_at s.mem s.rip 15) h in
+    let g = begun 0xf0 0x0f 0xc1 0x04 0x25 (code_at s.mem s.rip 15) h in
     let f = exchanging (g.a ∷ g.b ∷ g.c ∷ g.d ∷ []) [] in
     record {
       disp = g.a ∷ g.b ∷ g.c ∷ g.d ∷ [];

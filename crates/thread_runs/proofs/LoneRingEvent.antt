@@ -19,7 +19,7 @@ use Rattle.thread_runs.specs.AloneWithRing.{CanKeepAlone, HasKeptAlone, EventKee
 use Rattle.thread_runs.proofs.ThreadEventInstructions.{saved_back}
 use Rattle.thread_runs.proofs.RingEventInstructions.{length_is, length_few, saved_two, ring_goes, in_range, saved_both}
 use Rattle.thread_runs.proofs.ByteRanges.{number_on, put_elsewhere}
-use Rattle.thread_runs.proofs.KeptRelation.{keeps_code, keeps_perms, lacking_on, rax_saved, flags_saved}
+use Rattle.thread_runs.proofs.KeptRelation.{keeps_code, lacking_after, rax_saved, flags_saved}
 
 module _ (n p i place : ℕ) (s : Machine) (h : CanKeepAlone n p i place s) where
   abbrev c : Core
@@ -51,9 +51,7 @@ module _ (n p i place : ℕ) (s : Machine) (h : CanKeepAlone n p i place s) wher
   onward : (k : RingPoint) → is_ringing k ≡ true → (v : Machine) → At k v → ((m : Bytes) → m ≡ ring_memory k p i c v.core v.mem → RingSaved (ring_next k) c m) → Next k v
   onward k r v t saved =
       let g = ring_goes n p i place k c v r t.event t.can in
-      let f = g.1.0 in
-      let st = g.1.1 in
-      let perms = keeps_perms f v g.0 st in
+      let after = λ (perm x len : ℕ). lacking_after perm x len g.1.0 v g.0 g.1.1 in
       record {
         to = g.0;
         steps = g.1;
@@ -65,18 +63,18 @@ module _ (n p i place : ℕ) (s : Machine) (h : CanKeepAlone n p i place s) wher
             core = g.2.core;
             saved = saved g.0.mem g.2.mem;
             rip = g.2.rip;
-            stands = fixed_on v.mem g.0.mem place (ring_event n p i) (keeps_code v.mem f v g.0 st (λ x y z. refl)) t.event.stands;
+            stands = fixed_on v.mem g.0.mem place (ring_event n p i) (keeps_code v.mem g.1.0 v g.0 g.1.1 (λ x y z. refl)) t.event.stands;
             size = h.size;
             low = h.low;
             room = h.room;
             number = h.number;
           };
           can = record {
-            saved_read = lacking_on 4 v.mem g.0.mem (flag_slot c) 16 perms ∙ t.can.saved_read;
-            saved_written = lacking_on 2 v.mem g.0.mem (flag_slot c) 16 perms ∙ t.can.saved_written;
-            position_read = lacking_on 4 v.mem g.0.mem a 4 perms ∙ t.can.position_read;
-            position_written = lacking_on 2 v.mem g.0.mem a 4 perms ∙ t.can.position_written;
-            slots_written = λ y l. lacking_on 2 v.mem g.0.mem (slot_at p y) 4 perms ∙ t.can.slots_written y l;
+            saved_read = after 4 (flag_slot c) 16 ∙ t.can.saved_read;
+            saved_written = after 2 (flag_slot c) 16 ∙ t.can.saved_written;
+            position_read = after 4 a 4 ∙ t.can.position_read;
+            position_written = after 2 a 4 ∙ t.can.position_written;
+            slots_written = λ y l. after 2 (slot_at p y) 4 ∙ t.can.slots_written y l;
           };
           world = g.2.world ∙ t.world;
         };

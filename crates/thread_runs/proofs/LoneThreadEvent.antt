@@ -17,7 +17,7 @@ use Rattle.thread_runs.specs.Threading.{is_one_of}
 use Rattle.thread_runs.specs.Alone.{CanCountAlone, HasCountedAlone, EventCountsAlone}
 use Rattle.thread_runs.proofs.ThreadEventInstructions.{event_goes, saved_back}
 use Rattle.thread_runs.proofs.ByteRanges.{number_on, put_elsewhere}
-use Rattle.thread_runs.proofs.KeptRelation.{keeps_code, keeps_perms, lacking_on}
+use Rattle.thread_runs.proofs.KeptRelation.{keeps_code, lacking_after}
 
 module _ (p i place : ℕ) (s : Machine) (h : CanCountAlone p i place s) where
   abbrev a : ℕ
@@ -43,9 +43,7 @@ module _ (p i place : ℕ) (s : Machine) (h : CanCountAlone p i place s) where
   onward : (k : Point) → is_inside k ≡ true → (v : Machine) → At k v → ((m : Bytes) → m ≡ memory_after Count k a c v.mem → HasSaved (following [] c k) c m) → Next k v
   onward k n v t saved =
       let g = event_goes Count [] p i place k c v n t.event t.can in
-      let f = g.1.0 in
-      let st = g.1.1 in
-      let perms = keeps_perms f v g.0 st in
+      let after = λ (perm x len : ℕ). lacking_after perm x len g.1.0 v g.0 g.1.1 in
       record {
         to = g.0;
         steps = g.1;
@@ -57,16 +55,16 @@ module _ (p i place : ℕ) (s : Machine) (h : CanCountAlone p i place s) where
             decided = g.2.decided;
             saved = saved g.0.mem g.2.mem;
             rip = g.2.rip;
-            stands = fixed_on v.mem g.0.mem place (thread_event Count [] p i) (keeps_code v.mem f v g.0 st (λ x y z. refl)) t.event.stands;
+            stands = fixed_on v.mem g.0.mem place (thread_event Count [] p i) (keeps_code v.mem g.1.0 v g.0 g.1.1 (λ x y z. refl)) t.event.stands;
             few = record { asked = tt; few = omega arith };
             low = h.low;
             room = h.room;
           };
           can = record {
-            slot_read = lacking_on 4 v.mem g.0.mem (slot c) 8 perms ∙ t.can.slot_read;
-            slot_written = lacking_on 2 v.mem g.0.mem (slot c) 8 perms ∙ t.can.slot_written;
-            mark_read = lacking_on 4 v.mem g.0.mem a 8 perms ∙ t.can.mark_read;
-            mark_written = lacking_on 2 v.mem g.0.mem a 8 perms ∙ t.can.mark_written;
+            slot_read = after 4 (slot c) 8 ∙ t.can.slot_read;
+            slot_written = after 2 (slot c) 8 ∙ t.can.slot_written;
+            mark_read = after 4 a 8 ∙ t.can.mark_read;
+            mark_written = after 2 a 8 ∙ t.can.mark_written;
           };
           world = g.2.world ∙ t.world;
         };

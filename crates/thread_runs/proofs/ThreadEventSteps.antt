@@ -26,18 +26,18 @@ use Rattle.thread_runs.specs.Guest.{Thread, machine_of, thread_of}
 use Rattle.thread_runs.specs.ThreadCode.{Kind, Marks, saved_from, saved_len, mark_at, mark_len, marking_len, compare_len, checking_len, is_saving, saving_len, thread_event, event_len, slot}
 use Rattle.thread_runs.specs.Event.{Point, offset, checked, following, is_inside, has_point, Holds, IsDecided, HasSaved, InEvent, marks_with, EventNext, AtStore, covered}
 use Rattle.thread_runs.specs.Event.Point.{At0, At1, At2, AtCompare, AtJump, At3, At4, At5, At6, At7}
-use Rattle.thread_runs.specs.Threading.Part.{Whole, Save, Marked}
-use Rattle.thread_runs.specs.Threading.{ThreadSite, Threading, work_at, is_new, is_hidden, part_from, part_to, is_part, in_event, saves, is_met_by, is_counted, is_one_of, is_saved_by, is_code_of, IsThreadSound}
-use Rattle.thread_runs.specs.Watching.{Watched, Watch, is_effect, stale_after}
+use Rattle.thread_runs.specs.Threading.Part.{Save, Marked}
+use Rattle.thread_runs.specs.Threading.{ThreadSite, Threading, work_at, is_new, is_hidden, part_from, part_to, is_part, in_event, saves, is_met_by, is_counted, is_one_of, is_saved_by, IsThreadSound}
+use Rattle.thread_runs.specs.Watching.{Watched, Watch, is_effect}
 use Rattle.thread_runs.specs.StepLaws.{StepLaws}
-use Rattle.thread_runs.proofs.ThreadPlaces.{saving_code_is, saving_mark, saving_points, inside_low, counted_len, point_counted, part_only, kept_not, no_site, effect_never, in_code, part_in, longer, mark_from, mark_end, mark_some, part_is, part_true, part_low, part_high}
+use Rattle.thread_runs.proofs.ThreadPlaces.{saving_code_is, saving_mark, saving_points, inside_low, counted_len, point_counted, kept_not, no_site, effect_never, in_code, part_in, event_code, event_inside, event_saves, longer, mark_from, mark_end, mark_some, part_is, part_true, part_low, part_high}
 use Rattle.thread_runs.proofs.ByteRanges.{number_on, put_elsewhere}
 use Rattle.thread_runs.proofs.KeptRelation.{keeps_perms}
 use Rattle.thread_runs.proofs.StandingCode.{event_stands, mark_new, mark_kept, one_in}
 use Rattle.thread_runs.proofs.OutsideSteps.{none_more, uncounted, calm_projection}
 use Rattle.thread_runs.proofs.ComparisonCode.{checking_more, all_fail}
 use Rattle.thread_runs.specs.Relation.{point_at, has_rax}
-use Rattle.thread_runs.proofs.WatchedRelation.{Phase, ThreadKept, shown_after, marked, Ground, Changes, Made}
+use Rattle.thread_runs.proofs.WatchedRelation.{Phase, shown_after, marked, Ground, stale_next, Changes, Made}
 
 -- tests that imply each other are equal
 pub same_test : (b c : Bool) → (b ≡ true → c ≡ true) → (c ≡ true → b ≡ true) → b ≡ c
@@ -92,41 +92,22 @@ module _ (r : Threading) (A : AreEntries r.original r.listed) (S : IsThreadSound
     abbrev c : Core
     c = one.projected.core
 
-    abbrev stale' : ℕ → Bool
-    stale' = stale_after r w.stale one f u
-
-    -- the thread's own relation to its projection holds before the step
-    kept : ThreadKept r S w.mem one
-    kept = R.kept
-
     -- what of a step to a point makes it good
     pub record Good (p : Point) : Type 0 where
-      pub calm : (x : ℕ) → is_hidden r x ≡ false → stale' x ≡ false → (w.stale x ≡ false) × (to.mem x ≡ w.mem x)
+      pub calm : (x : ℕ) → is_hidden r x ≡ false → stale_next r w one f x ≡ false → (w.stale x ≡ false) × (to.mem x ≡ w.mem x)
       pub numbers : (t : ThreadSite) → Contains r.sites t → (b : Base) → t.event ≡ Some (Marks b) → Changes r false b t w.mem to.mem one.projected one.projected x0 to.rip
       pub saved : HasSaved p c to.mem
       pub old : has_rax p ≡ true → avoids (is_new r) (slot c) 8 ≡ true
 
-    -- an address of the event is one of the site's code
-    pub at_event : site.place ≤ x0 → x0 < work_at site → is_code_of r site (S.sites site listed) x0
-    at_event a b = in_code r A S L.long site listed x0 a (omega (arith, b))
-
-    -- a thread there is in the event
-    pub inside : site.place ≤ x0 → x0 < work_at site → in_event r x0 ≡ true
-    inside a b = part_only r A S L.long site listed x0 Whole (at_event a b) ∙ part_true Whole x0 site (omega (arith, a)) (omega (arith, b))
-
-    -- an event saves rax exactly at the first byte of the instruction that saves it
-    save_is : site.place ≤ x0 → x0 < work_at site → saves r x0 ≡ is_part Save x0 site
-    save_is a b = part_only r A S L.long site listed x0 Save (at_event a b)
-
     -- past the save staleness stays
-    pub stale_stays : site.place ≤ x0 → x0 < work_at site → site.place + part_to Save site.event site.when ≤ x0 → (x : ℕ) → stale' x ≡ w.stale x
-    stale_stays a b n x = cond-false (saves r x0) _ _ (save_is a b ∙ part_high Save x0 site n) ∙ cond-true (in_event r x0) _ _ (inside a b)
+    pub stale_stays : site.place ≤ x0 → x0 < work_at site → site.place + part_to Save site.event site.when ≤ x0 → (x : ℕ) → stale_next r w one f x ≡ w.stale x
+    stale_stays a b n x = cond-false (saves r x0) _ _ (event_saves r A S L.long site listed x0 a b ∙ part_high Save x0 site n) ∙ cond-true (in_event r x0) _ _ (event_inside r A S L.long site listed x0 a b)
 
     -- a step to a good point of an event that marks keeps the relation
     good : r.ring ≡ None → (p : Point) → site.place ≤ x0 → x0 < work_at site → (is_inside p ≡ true → has_point site.event site.when p ≡ true) → to.rip ≡ point_at site p → Holds site.when p c to.core → IsDecided site.when p c → to.world ≡ one.projected.world
-        → one.projected.rip ≡ site.entry.addr → Good p → Made r S stale' M M one w.mem to
+        → one.projected.rip ≡ site.entry.addr → Good p → Made r S (stale_next r w one f) M M one w.mem to
     good unringed p a b has rip core decided world at G =
-        let code = at_event a b in
+        let code = event_code r A S L.long site listed x0 a b in
         let calm = kept_not r A S L.long site listed x0 code in
         let none = no_site r A S L.long site listed x0 code (λ e. omega (arith, e, b)) in
         let eff = effect_never r A S L.long x0 calm none in
@@ -141,8 +122,8 @@ module _ (r : Threading) (A : AreEntries r.original r.listed) (S : IsThreadSound
           counted = λ t h b v. subst (λ (z : Thread). Changes r (is_effect r x0) b t w.mem to.mem one.projected z x0 to.rip) (sym q)
               (subst (λ e. Changes r e b t w.mem to.mem one.projected one.projected x0 to.rip) (sym eff) (G.numbers t h b v));
           ring = λ n e. absurd (some_none n (sym e ∙ unringed));
-          processor = subst (λ (t : Thread). IsProcessorCore t.core) (sym q) kept.processor;
-          words = subst (λ (t : Thread). GiveWords t.world) (sym q) kept.words;
+          processor = subst (λ (t : Thread). IsProcessorCore t.core) (sym q) R.kept.processor;
+          words = subst (λ (t : Thread). GiveWords t.world) (sym q) R.kept.words;
           phase = subst (λ (t : Thread). Phase r S to.mem (thread_of to) t) (sym q) (inr (inr (inl (inl (record {
             site = site;
             listed = listed;
@@ -360,7 +341,7 @@ module _ (r : Threading) (A : AreEntries r.original r.listed) (S : IsThreadSound
           → EventNext b cs r.private site.number site.place p c u to → Good (following cs c p)
       good_at At0 i E old N =
           let e0 : x0 ≡ site.place = E.rip ∙ (let z : site.place + 0 ≡ site.place = omega arith in z) in
-          let yes' : saves r x0 ≡ true = save_is (omega (arith, e0)) (omega (arith, e0, len)) ∙ part_true Save x0 site (omega (arith, e0)) (omega (arith, e0, save_end)) in
+          let yes' : saves r x0 ≡ true = event_saves r A S L.long site listed x0 (omega (arith, e0)) (omega (arith, e0, len)) ∙ part_true Save x0 site (omega (arith, e0)) (omega (arith, e0, save_end)) in
           let same : slot one.now.core ≡ slot c = ap slot E.core in
           let free : avoids (is_new r) (slot c) 8 ≡ true = subst (λ z. avoids (is_new r) z 8 ≡ true) same (avoided yes') in
           let away : (x : ℕ) → is_one_of (slot c) 8 x ≡ false → to.mem x ≡ w.mem x = λ x n. ap (λ (z : Bytes). z x) N.mem
@@ -371,7 +352,7 @@ module _ (r : Threading) (A : AreEntries r.original r.listed) (S : IsThreadSound
                 (q.0, away x (ap (λ z. is_one_of z 8 x) (sym same) ∙ ap (λ o. is_one_of (saved_from o one.now.core) (saved_len o) x) (sym unringed) ∙ q.1));
             numbers = unmarked (omega (arith, e0)) (omega (arith, e0, len)) (omega (arith, N.rip)) (omega (arith, N.rip, len))
                 (λ h. absurd (omega (arith, h, e0, from))) (λ h. absurd (omega (arith, h, N.rip, from))) (λ x n. away x (new_apart free x n));
-            saved = subst (λ (z : Bytes). number_at z (slot c) 8 ≡ reg c rax) (sym N.mem) (L.saved c w.mem kept.processor (L.held b cs r.private site.number site.place c u to E (f, steps)));
+            saved = subst (λ (z : Bytes). number_at z (slot c) 8 ≡ reg c rax) (sym N.mem) (L.saved c w.mem R.kept.processor (L.held b cs r.private site.number site.place c u to E (f, steps)));
             old = λ h. free;
           }
       good_at At1 i E old N =
@@ -439,7 +420,7 @@ module _ (r : Threading) (A : AreEntries r.original r.listed) (S : IsThreadSound
           let more = longer r A S L.long site listed in
           let low = S.low site listed b has in
           record {
-            processor = kept.processor;
+            processor = R.kept.processor;
             core = core;
             decided = decided;
             saved = saved;
@@ -452,7 +433,7 @@ module _ (r : Threading) (A : AreEntries r.original r.listed) (S : IsThreadSound
 
       -- a step at a point inside the event leaves what is due
       pub made_event : (p : Point) → is_inside p ≡ true → x0 ≡ site.place + offset b cs p → one.projected.rip ≡ site.entry.addr → Holds cs p c one.now.core → IsDecided cs p c → one.now.world ≡ one.projected.world
-          → HasSaved p c w.mem → (has_rax p ≡ true → avoids (is_new r) (slot c) 8 ≡ true) → Made r S stale' M M one w.mem to
+          → HasSaved p c w.mem → (has_rax p ≡ true → avoids (is_new r) (slot c) 8 ≡ true) → Made r S (stale_next r w one f) M M one w.mem to
       made_event p i e at core decided world saved old =
           let E = in_it p e core decided saved in
           let l = inside_low b cs p c i decided in
@@ -481,7 +462,7 @@ module _ (r : Threading) (A : AreEntries r.original r.listed) (S : IsThreadSound
           }
 
       -- the store leaves what is due
-      pub made_cover : x0 ≡ site.place → one.projected.rip ≡ site.entry.addr → one.now.core ≡ one.projected.core → one.now.world ≡ one.projected.world → Made r S stale' M M one w.mem to
+      pub made_cover : x0 ≡ site.place → one.projected.rip ≡ site.entry.addr → one.now.core ≡ one.projected.core → one.now.world ≡ one.projected.world → Made r S (stale_next r w one f) M M one w.mem to
       made_cover e at core world =
           let len = store_len in
           let from : part_from Marked site.event site.when ≡ 8 = ap₂ (part_from Marked) covers alone in

@@ -14,7 +14,7 @@ use Rattle.start_entries.specs.declared.entry.StartEntry.{StartEntry}
 use Rattle.start_entries.specs.Standing.{AreEntries}
 use Rattle.image_step.specs.Listed.{is_start}
 use Rattle.thread_runs.specs.ThreadCode.{Kind, Marks, Keeps, ring_len, is_saving, saving_event, saving_len, thread_event, event_len, event_if, thread_work, code_if}
-use Rattle.thread_runs.specs.Threading.{ThreadSite, Threading, next_of, work_at, is_new, is_site, is_kept, is_keeping, Part, part_from, part_to, is_part, site_if, relocated_at, claims_at, fills_at, claiming_at, is_filling, is_unfilled, is_code_of, IsThreadSound}
+use Rattle.thread_runs.specs.Threading.{ThreadSite, Threading, next_of, work_at, is_new, is_site, is_kept, is_keeping, Part, part_from, part_to, is_part, site_if, relocated_at, claims_at, fills_at, claiming_at, is_filling, is_unfilled, in_event, saves, is_code_of, IsThreadSound}
 use Rattle.thread_runs.specs.Threading.Part.{Whole, Save, Saved, Marked, Unfilled}
 use Rattle.thread_runs.specs.Watching.{is_effect, is_there}
 use Rattle.thread_runs.specs.StepLaws.{WorkLong}
@@ -368,6 +368,18 @@ module _ (r : Threading) (A : AreEntries r.original r.listed) (S : IsThreadSound
   -- in the code of a site tests by address speak of this site alone
   pub part_only : (s : ThreadSite) (h : Contains r.sites s) (x : ℕ) (p : Part) → is_code_of r s (S.sites s h) x → list_any (is_part p x) r.sites ≡ is_part p x s
   part_only s h x p c = any_only (is_part p x) r.sites s h (λ t k e. S.apart t s k h x (part_in p t k x e) c)
+
+  -- each address of a site's event is one of its code
+  pub event_code : (s : ThreadSite) (h : Contains r.sites s) (x : ℕ) → s.place ≤ x → x < work_at s → is_code_of r s (S.sites s h) x
+  event_code s h x a b = in_code s h x a (omega (arith, b))
+
+  -- a thread there is in an event
+  pub event_inside : (s : ThreadSite) (h : Contains r.sites s) (x : ℕ) → s.place ≤ x → x < work_at s → in_event r x ≡ true
+  event_inside s h x a b = part_only s h x Whole (event_code s h x a b) ∙ part_true Whole x s (omega (arith, a)) (omega (arith, b))
+
+  -- which saves there exactly where the site's does
+  pub event_saves : (s : ThreadSite) (h : Contains r.sites s) (x : ℕ) → s.place ≤ x → x < work_at s → saves r x ≡ is_part Save x s
+  event_saves s h x a b = part_only s h x Save (event_code s h x a b)
 
   -- an address that isn't new is in no part of an event
   pub part_never : (x : ℕ) (p : Part) → is_new r x ≡ false → list_any (is_part p x) r.sites ≡ false

@@ -24,40 +24,34 @@ use Rattle.thread_runs.specs.ThreadCode.{Marks, Keeps, position_at, slot_at, rin
 use Rattle.thread_runs.specs.Event.Point.{At7}
 use Rattle.thread_runs.specs.RingEvent.{RingPoint, ring_offset, ring_next, is_ringing, RingHolds, HoldsRax, HoldsFlags, RingSaved, InRing, ring_memory, LeadsToSlot, RingNext}
 use Rattle.thread_runs.specs.RingEvent.RingPoint.{Ring0, Ring1, Ring2, Ring3, Ring4, Ring5, Ring6, Ring7, Ring8, Ring9, Ring10, Ring11, Ring12}
-use Rattle.thread_runs.specs.Threading.Part.{Whole, Save}
-use Rattle.thread_runs.specs.Threading.{ThreadSite, Threading, is_new, is_hidden, is_keeping, part_to, in_event, saves, is_one_of, is_saved_by, is_code_of, IsRingSound, IsThreadSound}
-use Rattle.thread_runs.specs.Watching.{Watched, Watch, is_effect, stale_after}
+use Rattle.thread_runs.specs.Threading.Part.{Save}
+use Rattle.thread_runs.specs.Threading.{ThreadSite, Threading, is_new, is_hidden, is_keeping, part_to, in_event, saves, is_one_of, is_saved_by, is_code_of, IsRingSound, IsThreadSound, work_at}
+use Rattle.thread_runs.specs.Watching.{Watched, Watch, is_effect}
 use Rattle.thread_runs.specs.Ring.{ringing_at, claimed_at}
 use Rattle.thread_runs.specs.Relation.{AtEvent, AtRing}
 use Rattle.thread_runs.specs.StepLaws.{StepLaws}
 use Rattle.thread_runs.proofs.ByteRanges.{number_on, put_elsewhere}
-use Rattle.thread_runs.proofs.ThreadPlaces.{kept_not, no_site, effect_never, longer, part_true, part_only, ring_in, claiming_only, filling_only}
+use Rattle.thread_runs.proofs.ThreadPlaces.{kept_not, no_site, effect_never, longer, part_true, claiming_only, filling_only, event_code, event_inside, event_saves}
 use Rattle.thread_runs.proofs.KeptRelation.{keeps_perms, rax_saved, flags_saved, ring_inside}
 use Rattle.thread_runs.proofs.StandingCode.{ring_stands, ring_new, one_in, position_kept, slot_kept}
 use Rattle.thread_runs.proofs.OutsideSteps.{calm_projection}
 use Rattle.thread_runs.proofs.ThreadEventSteps.{not_of}
 use Rattle.thread_runs.proofs.RingLaw.{filled_at, ring_claimed}
-use Rattle.thread_runs.proofs.WatchedRelation.{Phase, ThreadKept, position_in, slot_in, Ground, InsideRing, RingMoves, Made}
+use Rattle.thread_runs.proofs.WatchedRelation.{Phase, position_in, slot_in, Ground, InsideRing, RingMoves, Made, stale_next}
 
 module _ (r : Threading) (A : AreEntries r.original r.listed) (S : IsThreadSound r) (L : StepLaws) where
   module _ (M : Bytes) (w : Watch) (one : Watched) (f : Fields) (to : Machine)
       (steps : ThreadStepsBy f (machine_of w.mem one.now) to) (R : Ground r S M w.stale w.mem one)
       (site : ThreadSite) (listed : Contains r.sites site) (n : ℕ) (keeps : site.event ≡ Some (Keeps n)) where
-    abbrev u : Machine
-    u = machine_of w.mem one.now
-
     abbrev x0 : ℕ
     x0 = one.now.rip
 
     abbrev c : Core
     c = one.projected.core
 
-    abbrev stale' : ℕ → Bool
-    stale' = stale_after r w.stale one f u
-
-    -- the thread's own relation to its projection holds before the step
-    kept : ThreadKept r S w.mem one
-    kept = R.kept
+    -- the thread at a point of the event
+    abbrev AtPoint : RingPoint → Type 0
+    AtPoint p = InRing n r.private site.number site.place p c (machine_of w.mem one.now)
 
     -- events keep a ring
     pub ringing : r.ring ≡ Some n
@@ -72,12 +66,12 @@ module _ (r : Threading) (A : AreEntries r.original r.listed) (S : IsThreadSound
     len = ap (λ o. event_len o site.when) keeps
 
     -- a thread at a point of the event is in it
-    pub in_ring : (p : RingPoint) → x0 ≡ site.place + ring_offset p → RingHolds n p c one.now.core → RingSaved p c w.mem → InRing n r.private site.number site.place p c u
+    pub in_ring : (p : RingPoint) → x0 ≡ site.place + ring_offset p → RingHolds n p c one.now.core → RingSaved p c w.mem → AtPoint p
     in_ring p e core saved =
         let K = S.sites site listed in
         let more = longer r A S L.long site listed in
         record {
-          processor = kept.processor;
+          processor = R.kept.processor;
           core = core;
           saved = saved;
           rip = e;
@@ -88,22 +82,24 @@ module _ (r : Threading) (A : AreEntries r.original r.listed) (S : IsThreadSound
           number = sound.numbers site listed (ap is_some keeps);
         }
 
-    module _ (p : RingPoint) (i : is_ringing p ≡ true) (here : x0 ≡ site.place + ring_offset p) (E : InRing n r.private site.number site.place p c u)
-        (N : RingNext n r.private site.number site.place p c u to)
+    module _ (p : RingPoint) (i : is_ringing p ≡ true) (here : x0 ≡ site.place + ring_offset p) (E : AtPoint p)
+        (N : RingNext n r.private site.number site.place p c (machine_of w.mem one.now) to)
         (avoided : saves r x0 ≡ true → avoids (is_new r) (saved_from r.ring one.now.core) (saved_len r.ring) ≡ true) (old : (p ≡ Ring0) ⊎ (avoids (is_new r) (flag_slot c) 16 ≡ true)) where
-      -- the address is one of the site's code
-      code : is_code_of r site (S.sites site listed) x0
-      code = let l = ring_inside p i in ring_in r A S L.long site listed n x0 keeps (omega (arith, here)) (omega (arith, here, l))
+      -- the address isn't before the site's event
+      not_before : site.place ≤ x0
+      not_before = omega (arith, here)
 
-      -- it is in the event
-      inside : in_event r x0 ≡ true
-      inside = let l = ring_inside p i in part_only r A S L.long site listed x0 Whole code ∙ part_true Whole x0 site (omega (arith, here)) (omega (arith, here, l, len))
+      -- nor behind it
+      not_behind : x0 < work_at site
+      not_behind = let l = ring_inside p i in omega (arith, here, l, len)
+
+      -- so it is one of the site's code
+      code : is_code_of r site (S.sites site listed) x0
+      code = event_code r A S L.long site listed x0 not_before not_behind
 
       -- the step is no effect step
       calm : is_effect r x0 ≡ false
-      calm =
-          let l = ring_inside p i in
-          effect_never r A S L.long x0 (kept_not r A S L.long site listed x0 code) (no_site r A S L.long site listed x0 code (λ e. omega (arith, e, here, l, len)))
+      calm = effect_never r A S L.long x0 (kept_not r A S L.long site listed x0 code) (no_site r A S L.long site listed x0 code (λ e. omega (arith, e, not_behind)))
 
       -- the saves of the event end behind thirteen bytes
       save_end : part_to Save site.event site.when ≡ 13
@@ -111,13 +107,13 @@ module _ (r : Threading) (A : AreEntries r.original r.listed) (S : IsThreadSound
 
       -- rsp is what it was where the thread came into the event
       same_flags : flag_slot one.now.core ≡ flag_slot c
-      same_flags = L.ring_slots n p c one.now.core kept.processor E.core
+      same_flags = L.ring_slots n p c one.now.core R.kept.processor E.core
 
       -- of the saved bytes none is new
       free : avoids (is_new r) (flag_slot c) 16 ≡ true
       free = elim old [
         | inl first ↦ (let e : x0 ≡ site.place = here ∙ ap (λ q. site.place + ring_offset q) first ∙ (let z : site.place + 0 ≡ site.place = omega arith in z) in
-            let s : saves r x0 ≡ true = part_only r A S L.long site listed x0 Save code ∙ part_true Save x0 site (omega (arith, e)) (omega (arith, e, save_end)) in
+            let s : saves r x0 ≡ true = event_saves r A S L.long site listed x0 not_before not_behind ∙ part_true Save x0 site (omega (arith, e)) (omega (arith, e, save_end)) in
             ap (λ z. avoids (is_new r) z 16) (sym same_flags) ∙ ap (λ o. avoids (is_new r) (saved_from o one.now.core) (saved_len o)) (sym ringing) ∙ avoided s)
         | inr q ↦ q
       ]
@@ -135,16 +131,16 @@ module _ (r : Threading) (A : AreEntries r.original r.listed) (S : IsThreadSound
       flags_in x e = flags_saved (Some n) n c x refl e
 
       -- a byte that isn't stale after the step wasn't before it
-      stale_before : (x : ℕ) → stale' x ≡ false → w.stale x ≡ false
+      stale_before : (x : ℕ) → stale_next r w one f x ≡ false → w.stale x ≡ false
       stale_before x h = by_save (saves r x0) refl
         where
           by_save : (b : Bool) → saves r x0 ≡ b → w.stale x ≡ false
           by_save true e = (or_parts (w.stale x) (is_saved_by r one.now.core x) (sym (cond-true (saves r x0) _ _ e) ∙ h)).0
-          by_save false e = sym (cond-false (saves r x0) _ _ e ∙ cond-true (in_event r x0) _ _ inside) ∙ h
+          by_save false e = sym (cond-false (saves r x0) _ _ e ∙ cond-true (in_event r x0) _ _ (event_inside r A S L.long site listed x0 not_before not_behind)) ∙ h
 
       -- what a step of the event leaves
       pub record Good : Type 0 where
-        pub calm : (x : ℕ) → is_hidden r x ≡ false → stale' x ≡ false → to.mem x ≡ w.mem x
+        pub calm : (x : ℕ) → is_hidden r x ≡ false → stale_next r w one f x ≡ false → to.mem x ≡ w.mem x
         pub moves : RingMoves r n (is_effect r x0) one w.mem to
         pub saved : RingSaved (ring_next p) c to.mem
 
@@ -182,21 +178,20 @@ module _ (r : Threading) (A : AreEntries r.original r.listed) (S : IsThreadSound
       quiet same moves saved = record { calm = λ x h k. ap (λ (z : Bytes). z x) same; moves = moves; saved = subst (λ (z : Bytes). RingSaved (ring_next p) c z) (sym same) saved }
 
       -- a good step leaves what is due
-      made_good : one.projected.rip ≡ site.entry.addr → to.world ≡ one.projected.world → Good → Made r S stale' M M one w.mem to
+      made_good : one.projected.rip ≡ site.entry.addr → to.world ≡ one.projected.world → Good → Made r S (stale_next r w one f) M M one w.mem to
       made_good at world G =
-          let l = ring_inside p i in
-          let q = calm_projection r one w.mem to (kept_not r A S L.long site listed x0 code) (no_site r A S L.long site listed x0 code (λ e. omega (arith, e, here, l, len))) in
+          let q = calm_projection r one w.mem to (kept_not r A S L.long site listed x0 code) (no_site r A S L.long site listed x0 code (λ e. omega (arith, e, not_behind))) in
           record {
             went = inl (calm, refl, q);
             alike = record {
               bytes = λ x h k. R.alike.bytes x h (stale_before x k) ∙ sym (G.calm x h k);
-              perms = λ x h. R.alike.perms x h ∙ sym (keeps_perms f u to steps x);
+              perms = λ x h. R.alike.perms x h ∙ sym (keeps_perms f (machine_of w.mem one.now) to steps x);
             };
             own = R.own;
             counted = λ t h b v. absurd (no_count b (sym (S.rings t h (Marks b) v) ∙ ringing));
             ring = λ m e. subst (λ z. RingMoves r z (is_effect r x0) one w.mem to) (some_is n m (sym ringing ∙ e)) G.moves;
-            processor = subst (λ (t : Thread). IsProcessorCore t.core) (sym q) kept.processor;
-            words = subst (λ (t : Thread). GiveWords t.world) (sym q) kept.words;
+            processor = subst (λ (t : Thread). IsProcessorCore t.core) (sym q) R.kept.processor;
+            words = subst (λ (t : Thread). GiveWords t.world) (sym q) R.kept.words;
             phase = subst (λ (t : Thread). Phase r S to.mem (thread_of to) t) (sym q) (inr (inr (inl (stands (is_ringing (ring_next p)) refl))));
           }
         where
@@ -256,14 +251,14 @@ module _ (r : Threading) (A : AreEntries r.original r.listed) (S : IsThreadSound
           ap (λ (z : Bytes). z x) mem ∙ put_elsewhere w.mem a 8 (bytes_of 8 v) x (bytes_of_length 8 v) (false_from_ne_true (is_one_of a 8 x) (λ k. true≢false (sym (within x k) ∙ e)))
 
       -- at an instruction that saves, what isn't stale after the step is no saved byte
-      unsaved : saves r x0 ≡ true → (x : ℕ) → stale' x ≡ false → is_one_of (flag_slot c) 16 x ≡ false
+      unsaved : saves r x0 ≡ true → (x : ℕ) → stale_next r w one f x ≡ false → is_one_of (flag_slot c) 16 x ≡ false
       unsaved s x h =
           let q = or_parts (w.stale x) (is_saved_by r one.now.core x) (sym (cond-true (saves r x0) _ _ s) ∙ h) in
           ap (λ z. is_one_of z 16 x) (sym same_flags) ∙ ap (λ o. is_one_of (saved_from o one.now.core) (saved_len o) x) (sym ringing) ∙ q.1
 
       -- the address is one at which the event saves
       saving : ring_offset p < 13 → saves r x0 ≡ true
-      saving l = part_only r A S L.long site listed x0 Save code ∙ part_true Save x0 site (omega (arith, here)) (omega (arith, here, save_end, l))
+      saving l = event_saves r A S L.long site listed x0 not_before not_behind ∙ part_true Save x0 site (omega (arith, here)) (omega (arith, here, save_end, l))
 
       -- a step that writes four new bytes leaves what isn't new
       new_four : (a v : ℕ) → to.mem ≡ put_list w.mem a (bytes_of 4 v) → position_at r.private ≤ a → a + 4 ≤ slot_at r.private n → (x : ℕ) → is_new r x ≡ false → to.mem x ≡ w.mem x
@@ -327,7 +322,7 @@ module _ (r : Threading) (A : AreEntries r.original r.listed) (S : IsThreadSound
                 calm = λ x h k. away x (unsaved s x k);
                 moves = rests 0 8 (ap_offset e) (next_offset e) (omega arith) (omega arith) (inl (omega arith)) (inl (omega arith)) refl refl refl (λ x h. away x (new_apart x h));
                 saved = subst (λ y. RingSaved (ring_next y) c to.mem) (sym e) (subst (λ (z : Bytes). HoldsRax c z) (sym mem)
-                    (L.saved c w.mem kept.processor ((L.ring_held n r.private site.number site.place c u to).0 (subst (λ y. InRing n r.private site.number site.place y c u) e E) (f, steps))));
+                    (L.saved c w.mem R.kept.processor ((L.ring_held n r.private site.number site.place c (machine_of w.mem one.now) to).0 (subst AtPoint e E) (f, steps))));
               }
           by_point Ring1 e = same Ring1 e (still Ring1 e) (inl (omega arith)) (inl (omega arith)) refl refl refl (omega arith) (omega arith) (had Ring1 e)
           by_point Ring2 e = same Ring2 e (still Ring2 e) (inl (omega arith)) (inl (omega arith)) refl refl refl (omega arith) (omega arith) (had Ring2 e)
@@ -335,7 +330,7 @@ module _ (r : Threading) (A : AreEntries r.original r.listed) (S : IsThreadSound
               let mem = still Ring3 e in
               let s = saving (omega (arith, ap_offset e)) in
               let away = saves_eight (flag_slot c) (reg (kept_in_ax c) rax) mem flags_in in
-              let both = L.ring_saved c w.mem kept.processor ((L.ring_held n r.private site.number site.place c u to).1 (subst (λ y. InRing n r.private site.number site.place y c u) e E) (f, steps)) (had Ring3 e) in
+              let both = L.ring_saved c w.mem R.kept.processor ((L.ring_held n r.private site.number site.place c (machine_of w.mem one.now) to).1 (subst AtPoint e E) (f, steps)) (had Ring3 e) in
               record {
                 calm = λ x h k. away x (unsaved s x k);
                 moves = rests 12 20 (ap_offset e) (next_offset e) (omega arith) (omega arith) (inl (omega arith)) (inl (omega arith)) refl refl refl (λ x h. away x (new_apart x h));
@@ -355,7 +350,7 @@ module _ (r : Threading) (A : AreEntries r.original r.listed) (S : IsThreadSound
                   inside = way 25 34 (ap_offset e) (next_offset e);
                   position = ap (λ (z : Bytes). number_at z a 4) mem ∙ read_back w.mem 2 a 4 v (omega (arith, low)) (omega arith) room ∙ (let z : v % 2 ^ (8 * 4) ≡ v = omega arith in z);
                   slots = λ j l. four_away a v (slot_at r.private j) mem (omega (arith, low)) (omega (arith, low, l)) (inr (omega arith));
-                  value = subst (λ y. LeadsToSlot n r.private y u to) e N.claim;
+                  value = subst (λ y. LeadsToSlot n r.private y (machine_of w.mem one.now) to) e N.claim;
                 }));
                 saved = subst (λ y. RingSaved (ring_next y) c to.mem) (sym e) (saved_stays stays (had Ring5 e));
               }
@@ -365,14 +360,14 @@ module _ (r : Threading) (A : AreEntries r.original r.listed) (S : IsThreadSound
                 inside = way 34 37 (ap_offset e) (next_offset e);
                 position = ap (λ (z : Bytes). position_in r z) mem;
                 slots = λ j l. ap (λ (z : Bytes). slot_in r z j) mem;
-                value = subst (λ y. LeadsToSlot n r.private y u to) e N.claim;
+                value = subst (λ y. LeadsToSlot n r.private y (machine_of w.mem one.now) to) e N.claim;
               })))) (subst (λ y. RingSaved (ring_next y) c w.mem) (sym e) (had Ring6 e))
           by_point Ring7 e =
               let mem = still Ring7 e in
               let d = one.now.core in
               let j = reg d rax in
               let h = subst (λ y. RingHolds n y c d) e E.core in
-              let is : j ≡ h.value = ap (λ z. reg z rax) h.core ∙ get_or-set_same c.regs 0 h.value 0 (let k = kept.processor.count in omega (arith, k)) in
+              let is : j ≡ h.value = ap (λ z. reg z rax) h.core ∙ get_or-set_same c.regs 0 h.value 0 (let k = R.kept.processor.count in omega (arith, k)) in
               let below = h.below in
               let a = slot_at r.private j in
               let low = sound.low in
@@ -401,8 +396,8 @@ module _ (r : Threading) (A : AreEntries r.original r.listed) (S : IsThreadSound
 
     -- a step at a point inside the event leaves what is due
     pub made_ring : (p : RingPoint) → is_ringing p ≡ true → x0 ≡ site.place + ring_offset p → one.projected.rip ≡ site.entry.addr → RingHolds n p c one.now.core → one.now.world ≡ one.projected.world → RingSaved p c w.mem
-        → (saves r x0 ≡ true → avoids (is_new r) (saved_from r.ring one.now.core) (saved_len r.ring) ≡ true) → (p ≡ Ring0) ⊎ (avoids (is_new r) (flag_slot c) 16 ≡ true) → Made r S stale' M M one w.mem to
+        → (saves r x0 ≡ true → avoids (is_new r) (saved_from r.ring one.now.core) (saved_len r.ring) ≡ true) → (p ≡ Ring0) ⊎ (avoids (is_new r) (flag_slot c) 16 ≡ true) → Made r S (stale_next r w one f) M M one w.mem to
     made_ring p i here at core world saved avoided old =
         let E = in_ring p here core saved in
-        let N = L.rings n r.private site.number site.place p c u to i E (f, steps) in
+        let N = L.rings n r.private site.number site.place p c (machine_of w.mem one.now) to i E (f, steps) in
         made_good p i here E N avoided old at (N.world ∙ world) (good_at p i here E N avoided old)

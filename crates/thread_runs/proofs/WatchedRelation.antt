@@ -5,6 +5,7 @@ use Rattle.std.specs.List.{AllByRecursion}
 use Rattle.pun_base.specs.Memory.{Bytes}
 use Rattle.pun_base.specs.declared.action.Base.{Base}
 use Rattle.pun_base.specs.declared.action.Base.TheVariants.{Cover, Count}
+use Rattle.length_decode.specs.Spelling.{Fields}
 use Rattle.cpu_state.specs.Bytes.{lacking, number_at}
 use Rattle.cpu_state.specs.declared.state.Core.{Core}
 use Rattle.cpu_state.specs.Processor.{IsProcessorCore, GiveWords}
@@ -19,7 +20,7 @@ use Rattle.thread_runs.specs.GuestDeliveries.{GuestItem, IsInterleavedWith}
 use Rattle.thread_runs.specs.ThreadCode.{Marks, Keeps, mark_at, mark_len, position_at, slot_at}
 use Rattle.thread_runs.specs.Work.{Tail, left, InTail}
 use Rattle.thread_runs.specs.Threading.{ThreadSite, Threading, next_of, work_at, is_hidden, is_met_by, is_counted, claiming_at, is_filling, is_unfilled, IsThreadSound}
-use Rattle.thread_runs.specs.Watching.{Watched, Claim, Fill, Watch, last_claim, is_effect, projection}
+use Rattle.thread_runs.specs.Watching.{Watched, Claim, Fill, Watch, last_claim, is_effect, projection, stale_after}
 use Rattle.thread_runs.specs.Ring.{claimed_by, ringing_at, kept_by, claimed_at, last_fill, shown_by, is_filled, IsBetween}
 use Rattle.thread_runs.specs.Theorem.{is_recorded, has_marked}
 use Rattle.thread_runs.specs.Relation.{Outside, AtSecond, AtEvent, AtRing}
@@ -117,6 +118,10 @@ pub record Related (r : Threading) (S : IsThreadSound r) (a : Guest) (made : Lis
   pub marks : AreMarked r w
   pub rings : (n : ℕ) → r.ring ≡ Some n → RingKept r n w
   pub each : (k : ℕ) (one : Watched) → slice_get w.threads k ≡ Some one → ThreadKept r S w.mem one
+
+-- the stale bytes after a step of one of its threads
+abbrev pub stale_next : Threading → Watch → Watched → Fields → ℕ → Bool
+stale_next r w one f = stale_after r w.stale one f (machine_of w.mem one.now)
 
 -- what one step makes: a trampoline step leaves the original as it is, an effect step is one of the original's
 abbrev pub Calm : Bool → Bytes → Bytes → Thread → Thread → Type 0

@@ -42,7 +42,7 @@ use Rattle.thread_runs.specs.Event.{Point, offset, checked, following, is_inside
 use Rattle.thread_runs.specs.Event.Point.{At0, At1, At2, AtCompare, AtJump, At3, At4, At5, At6, At7}
 use Rattle.thread_runs.specs.Work.{Tail, left, InTail}
 use Rattle.thread_runs.specs.Work.Tail.{Out, Back, Jump, Ecx}
-use Rattle.thread_runs.specs.Threading.Part.{Whole, Save}
+use Rattle.thread_runs.specs.Threading.Part.{Save}
 use Rattle.thread_runs.specs.Threading.{ThreadSite, Threading, next_of, work_at, is_new, is_hidden, is_site, is_kept, part_to, is_keeping, in_event, saves, saves_at, is_one_of, is_saved_by, is_code_of, ByTwoJumps, IsThreadSound}
 use Rattle.thread_runs.specs.Watching.{Watched, Watch, EffectStep, projection, stale_after, watched_after, is_effect, Watches}
 use Rattle.thread_runs.specs.Premises.{IsQuietAt, reads_nothing_of}
@@ -51,16 +51,16 @@ use Rattle.thread_runs.specs.StepLaws.{StepLaws}
 use Rattle.patch_report.proofs.ListPlaces.{some_is, any_at, contains_at, place_of}
 use Rattle.image_check.proofs.LoadedCode.{jump_acts}
 use Rattle.thread_runs.proofs.ListUpdates.{set_here}
-use Rattle.thread_runs.proofs.ThreadPlaces.{when_here, further_here, part_only, part_true, ring_in, saving_code_is, store_alone, offset_first, inside_low, counted_len, plain_len, point_counted, longer, start_old, start_no_site, site_of, effect_kept, effect_never, kept_not, no_site}
+use Rattle.thread_runs.proofs.ThreadPlaces.{when_here, further_here, saving_code_is, store_alone, offset_first, inside_low, counted_len, plain_len, point_counted, longer, start_old, start_no_site, site_of, effect_kept, effect_never, kept_not, no_site, event_code, event_inside}
 use Rattle.thread_runs.proofs.KeptRelation.{keeps_code, keeps_perms, keeps_room, keeps_ring, lacking_on, ring_inside}
 use Rattle.thread_runs.proofs.StandingCode.{fields_of, site_stands, own_at, work_stands, event_stands, ring_stands, code_length}
 use Rattle.thread_runs.proofs.OutsideSteps.{calm_projection, stale_is, made_displaced, made_second}
-use Rattle.thread_runs.proofs.ThreadEventSteps.{at_event, inside, stale_stays, good_at, made_event, made_cover}
+use Rattle.thread_runs.proofs.ThreadEventSteps.{stale_stays, good_at, made_event, made_cover}
 use Rattle.thread_runs.proofs.ThreadRingSteps.{good_at as ring_good, made_ring}
 use Rattle.thread_runs.proofs.DisplacedSteps.{at_work, effect_told, made_effect, made_tail}
 use Rattle.thread_runs.proofs.WatchedSteps.{phase_outside}
-use Rattle.thread_runs.specs.Relation.{offset_if, point_at, Outside}
-use Rattle.thread_runs.proofs.WatchedRelation.{Ground, Related, base_of, Calm, Acts, Made}
+use Rattle.thread_runs.specs.Relation.{offset_if, point_at, has_rax, Outside}
+use Rattle.thread_runs.proofs.WatchedRelation.{Ground, Related, base_of, Calm, Acts, Made, stale_next}
 
 -- what a range avoids, it avoids in a set that is no larger
 avoids_less : (p q : ℕ → Bool) (a n : ℕ) → ((x : ℕ) → p x ≡ false → q x ≡ false) → avoids p a n ≡ true → avoids q a n ≡ true
@@ -134,7 +134,7 @@ module _ (r : Threading) (A : AreEntries r.original r.listed) (S : IsThreadSound
 
   -- what a step that is made leaves to rest on
   base_after : (m m' : Bytes) (w : Watch) (one : Watched) (f : Fields) (to : Machine) → ThreadStepsBy f (machine_of w.mem one.now) to → Ground r S m w.stale w.mem one
-      → Made r S (stale_after r w.stale one f (machine_of w.mem one.now)) m m' one w.mem to → is_start r.listed (projection r one w.mem to).rip ≡ true
+      → Made r S (stale_next r w one f) m m' one w.mem to → is_start r.listed (projection r one w.mem to).rip ≡ true
       → Ground r S m' (after_watch w one f to).stale to.mem (after_thread w one f to)
   base_after m m' w one f to st B M start = record {
     alike = M.alike;
@@ -234,21 +234,39 @@ module _ (r : Threading) (A : AreEntries r.original r.listed) (S : IsThreadSound
           by_test false e = subst (λ (b : Bool). reads_nothing_of (λ x. b && is_saved_by r one0.now.core x) (fields_of r A S site listed) (machine_of M one0.now) ≡ true) (sym e)
               (insn_both w0.stale w0.stale (λ x. false) (thread_task (fields_of r A S site listed) (next_after s0.rip (fields_of r A S site listed))).insn (next_after s0.rip (fields_of r A S site listed)) s0.core (λ x a b. refl) fresh fresh)
 
-      -- the thread at a point of the event, and the watch there
-      record At (p : Point) (w : Watch) (one : Watched) : Type 0 where
+      -- the thread before its effect step, and the watch there
+      record Before (w : Watch) (one : Watched) : Type 0 where
         there : slice_get w.threads k ≡ Some one
         base : Ground r S M w.stale w.mem one
         log : w.log ≡ w0.log
         perms : (x : ℕ) → perms_at w.mem x ≡ perms_at w0.mem x
         staler : (x : ℕ) → w0.stale x ≡ false → held x ≡ false → w.stale x ≡ false
         projected : one.projected ≡ one0.now
-        here : one.now.rip ≡ point_at site p
         at : one.projected.rip ≡ site.entry.addr
+        world : one.now.world ≡ one.projected.world
+
+      -- after a step that leaves the projection, and by which saved bytes alone become stale, it is still before it
+      still_before : (w : Watch) (one : Watched) → Before w one → (f : Fields) (to : Machine) → ThreadStepsBy f (machine_of w.mem one.now) to → Made r S (stale_next r w one f) M M one w.mem to
+          → (is_effect r one.now.rip ≡ false) × (projection r one w.mem to ≡ one.projected) → ((x : ℕ) → w.stale x ≡ false → held x ≡ false → stale_next r w one f x ≡ false)
+          → to.world ≡ one.now.world → Before (after_watch w one f to) (after_thread w one f to)
+      still_before w one B f to st made q stale world = record {
+        there = set_here w.threads k one (after_thread w one f to) B.there;
+        base = base_after M M w one f to st B.base made (ap (λ (t : Thread). is_start r.listed t.rip) q.1 ∙ B.base.kept.start);
+        log = cond-false (is_effect r one.now.rip) _ _ q.0 ∙ B.log;
+        perms = λ x. keeps_perms f (machine_of w.mem one.now) to st x ∙ B.perms x;
+        staler = λ x a b. stale x (B.staler x a b) b;
+        projected = q.1 ∙ B.projected;
+        at = ap (λ (t : Thread). t.rip) q.1 ∙ B.at;
+        world = world ∙ B.world ∙ ap (λ (t : Thread). t.world) (sym q.1);
+      }
+
+      -- the thread at a point of the event
+      record At (p : Point) (w : Watch) (one : Watched) : Type 0 where
+        before : Before w one
+        here : one.now.rip ≡ point_at site p
         core : Holds site.when p one.projected.core one.now.core
         decided : IsDecided site.when p one.projected.core
-        world : one.now.world ≡ one.projected.world
         saved : HasSaved p one.projected.core w.mem
-        old : is_saving site.event site.when ≡ true → avoids (is_new r) (saved_from r.ring one.projected.core) (saved_len r.ring) ≡ true
 
       abbrev log1 : List EffectStep
       log1 = w0.log ++ record { thread = k; at = one0.now.rip; core = one0.now.core } ∷ []
@@ -265,19 +283,20 @@ module _ (r : Threading) (A : AreEntries r.original r.listed) (S : IsThreadSound
       -- the effect step, and what is after it
       effect_out : (w : Watch) (one : Watched) → At At7 w one → GoesOut r k w log1 (thread_of to0) to0.mem 3
       effect_out w one P =
+          let B = P.before in
           let F = fields_of r A S site listed in
           let s : Machine = machine_of M one.projected in
           let s0 : Machine = machine_of M one0.now in
           let u : Machine = machine_of w.mem one.now in
-          let e : s ≡ s0 = ap (machine_of M) P.projected in
+          let e : s ≡ s0 = ap (machine_of M) B.projected in
           let q : IsQuietAt r (machine_of w.mem one.projected) = record {
-            known = ap (λ (t : Thread). is_known_start r.listed t.rip) P.projected ∙ quiet.known;
+            known = ap (λ (t : Thread). is_known_start r.listed t.rip) B.projected ∙ quiet.known;
             leaves = subst (λ (t : Thread). (f : Fields) → IsInstruction f → Stands r.original t.rip (spelling f) → leaves (is_hidden r) (thread_task f (next_after t.rip f)) (next_after t.rip f) (machine_of w.mem t) ≡ true)
-                (sym P.projected) quiet.leaves;
+                (sym B.projected) quiet.leaves;
           } in
           let reads : reads_nothing_of w.stale F s ≡ true = subst (λ (z : Machine). reads_nothing_of w.stale F z ≡ true) (sym e)
-          (insn_both w0.stale held w.stale (thread_task F (next_after s0.rip F)).insn (next_after s0.rip F) s0.core P.staler fresh unheld) in
-          let work = at_work r A S L site listed M w one P.base P.here P.at P.core P.world reads q in
+          (insn_both w0.stale held w.stale (thread_task F (next_after s0.rip F)).insn (next_after s0.rip F) s0.core B.staler fresh unheld) in
+          let work = at_work r A S L site listed M w one B.base P.here B.at P.core B.world reads q in
           let st1 : ThreadStep s to0 = subst (λ (z : Machine). ThreadStep z to0) (sym e) st0 in
           let at_s : IsAt s F = work.here in
           let g : st1.0 ≡ F = one_instruction s st1.0 F st1.1.at at_s in
@@ -285,23 +304,23 @@ module _ (r : Threading) (A : AreEntries r.original r.listed) (S : IsThreadSound
           let to = X.0 in
           let f = X.1.fields in
           let st : ThreadStepsBy f u to = X.1.other in
-          let T = effect_told r A S L site listed M w one f to st P.base P.here P.at work in
+          let T = effect_told r A S L site listed M w one f to st B.base P.here B.at work in
           let same : T.to' ≡ to0 = one_thread_next s T.to' to0 (F, T.worked.own) st1 in
           let gone : projection r one w.mem to ≡ thread_of to0 = T.thread ∙ ap thread_of same in
           let stand : is_start r.listed (projection r one w.mem to).rip ≡ true = ap (λ (t : Thread). is_start r.listed t.rip) gone ∙ ends in
-          let q1 = made_effect r A S L site listed M w one f to st P.base P.here P.at T stand in
-          let B' = base_after M q1.0 w one f to st P.base q1.1 stand in
-          let log : (after_watch w one f to).log ≡ log1 = cond-true (is_effect r one.now.rip) _ _ T.effect ∙ ap₂ (λ (l : List EffectStep) (t : Thread). l ++ record { thread = k; at = t.rip; core = t.core } ∷ []) P.log P.projected in
+          let q1 = made_effect r A S L site listed M w one f to st B.base P.here B.at T stand in
+          let B' = base_after M q1.0 w one f to st B.base q1.1 stand in
+          let log : (after_watch w one f to).log ≡ log1 = cond-true (is_effect r one.now.rip) _ _ T.effect ∙ ap₂ (λ (l : List EffectStep) (t : Thread). l ++ record { thread = k; at = t.rip; core = t.core } ∷ []) B.log B.projected in
           let z = T.thread in
           let there : InTail F (next_of site) (work_at site) T.worked.tail (projection r one w.mem to).core (projection r one w.mem to).rip to =
           subst (λ (p : Thread). InTail F (next_of site) (work_at site) T.worked.tail p.core p.rip to) (sym z) T.worked.there in
           let world : to.world ≡ (projection r one w.mem to).world = sym T.worked.world ∙ ap (λ (t : Thread). t.world) (sym z) in
           let mem : q1.0 ≡ to0.mem = made_memory (stale_after r w.stale one f u) q1.0 w one to q1.1 T.effect st1 in
-          one_more r k w (after_watch w one f to) log1 (thread_of to0) to0.mem 2 (watches w one f to P.there st)
+          one_more r k w (after_watch w one f to) log1 (thread_of to0) to0.mem 2 (watches w one f to B.there st)
           (subst (λ (l : List EffectStep). GoesOut r k (after_watch w one f to) l (thread_of to0) to0.mem 2) log
           (subst (λ (p : Thread). GoesOut r k (after_watch w one f to) (after_watch w one f to).log p to0.mem 2) gone
           (subst (λ (z : Bytes). GoesOut r k (after_watch w one f to) (after_watch w one f to).log (projection r one w.mem to) z 2) mem
-          (tail_out 2 q1.0 (after_watch w one f to) (after_thread w one f to) T.worked.tail (two T.worked.tail) (set_here w.threads k one (after_thread w one f to) P.there) B' there world))))
+          (tail_out 2 q1.0 (after_watch w one f to) (after_thread w one f to) T.worked.tail (two T.worked.tail) (set_here w.threads k one (after_thread w one f to) B.there) B' there world))))
         where
           two : (t : Tail) → left t ≤ 2
           two Out = omega arith
@@ -311,7 +330,7 @@ module _ (r : Threading) (A : AreEntries r.original r.listed) (S : IsThreadSound
 
       -- at each point of the way rsp gives the same saved bytes
       same_slot : (w : Watch) (one : Watched) (p : Point) → At p w one → slot one.now.core ≡ slot one0.now.core
-      same_slot w one p P = L.slots site.when p one.projected.core one.now.core P.base.kept.processor P.core ∙ ap (λ (t : Thread). slot t.core) P.projected
+      same_slot w one p P = L.slots site.when p one.projected.core one.now.core P.before.base.kept.processor P.core ∙ ap (λ (t : Thread). slot t.core) P.before.projected
 
       -- what isn't stale before a step isn't after it, but for saved bytes
       stale_in : (w : Watch) (one : Watched) (f : Fields) (u : Machine) (x : ℕ) (b : Bool) → saves r one.now.rip ≡ b → in_event r one.now.rip ≡ true → w.stale x ≡ false → is_saved_by r one.now.core x ≡ false
@@ -330,12 +349,12 @@ module _ (r : Threading) (A : AreEntries r.original r.listed) (S : IsThreadSound
         unringed = S.rings site listed (Marks b) has
 
         -- no saved byte is new
-        old8 : (w : Watch) (one : Watched) (p : Point) → At p w one → avoids (is_new r) (slot one.projected.core) 8 ≡ true
-        old8 w one p P = ap (λ o. avoids (is_new r) (saved_from o one.projected.core) (saved_len o)) (sym unringed) ∙ P.old saving
+        old8 : (one : Watched) → one.projected ≡ one0.now → avoids (is_new r) (slot one.projected.core) 8 ≡ true
+        old8 one e = ap (λ (t : Thread). avoids (is_new r) (slot t.core) 8) e ∙ ap (λ o. avoids (is_new r) (saved_from o one0.now.core) (saved_len o)) (sym unringed) ∙ old0 saving
 
         -- where the thread is, too
         free : (w : Watch) (one : Watched) (p : Point) → At p w one → avoids (is_new r) (slot one.now.core) 8 ≡ true
-        free w one p P = subst (λ z. avoids (is_new r) z 8 ≡ true) (sym (L.slots cs p one.projected.core one.now.core P.base.kept.processor P.core)) (old8 w one p P)
+        free w one p P = subst (λ z. avoids (is_new r) z 8 ≡ true) (sym (L.slots cs p one.projected.core one.now.core P.before.base.kept.processor P.core)) (old8 one P.before.projected)
 
         -- one step, and then the rest
         event_out : (n : ℕ) (p : Point) → is_inside p ≡ true → ((v : Watch) (one' : Watched) → At (following cs one0.now.core p) v one' → GoesOut r k v log1 (thread_of to0) to0.mem n)
@@ -343,6 +362,7 @@ module _ (r : Threading) (A : AreEntries r.original r.listed) (S : IsThreadSound
         event_out n p i rest w one P =
             let u : Machine = machine_of w.mem one.now in
             let K = S.sites site listed in
+            let B = P.before in
             let more = longer r A S L.long site listed in
             let low = S.low site listed b has in
             let c = one.projected.core in
@@ -350,21 +370,21 @@ module _ (r : Threading) (A : AreEntries r.original r.listed) (S : IsThreadSound
             let saving' : is_saving (Some (Marks b)) cs ≡ true = sym (ap (λ o. is_saving o cs) has) ∙ saving in
             let rip : one.now.rip ≡ site.place + offset b cs p = P.here ∙ point_counted site b p has saving in
             let E : InEvent b cs r.private site.number site.place p c u = record {
-              processor = P.base.kept.processor;
+              processor = B.base.kept.processor;
               core = P.core;
               decided = P.decided;
               saved = P.saved;
               rip = rip;
-              stands = subst (λ (z : List ℕ). IsFixed w.mem site.place z) (saving_code_is b cs r.private site.number saving') (event_stands r A S site listed b has w.mem P.base.other);
+              stands = subst (λ (z : List ℕ). IsFixed w.mem site.place z) (saving_code_is b cs r.private site.number saving') (event_stands r A S site listed b has w.mem B.base.other);
               few = K.few;
               low = omega (arith, K.low, more, len);
               room = low;
             } in
-            let room = P.base.room site listed b has in
-            let where' : slot c ≡ slot one0.now.core = ap (λ (t : Thread). slot t.core) P.projected in
+            let room = B.base.room site listed b has in
+            let where' : slot c ≡ slot one0.now.core = ap (λ (t : Thread). slot t.core) B.projected in
             let C : CanMark b r.private site.number c w.mem = record {
-              slot_read = lacking_on 4 w0.mem w.mem (slot c) 8 P.perms ∙ ap (λ z. lacking 4 w0.mem z 8) where' ∙ ap (λ o. lacking 4 w0.mem (saved_from o one0.now.core) (saved_len o)) (sym unringed) ∙ read saving;
-              slot_written = lacking_on 2 w0.mem w.mem (slot c) 8 P.perms ∙ ap (λ z. lacking 2 w0.mem z 8) where' ∙ ap (λ o. lacking 2 w0.mem (saved_from o one0.now.core) (saved_len o)) (sym unringed) ∙ written saving;
+              slot_read = lacking_on 4 w0.mem w.mem (slot c) 8 B.perms ∙ ap (λ z. lacking 4 w0.mem z 8) where' ∙ ap (λ o. lacking 4 w0.mem (saved_from o one0.now.core) (saved_len o)) (sym unringed) ∙ read saving;
+              slot_written = lacking_on 2 w0.mem w.mem (slot c) 8 B.perms ∙ ap (λ z. lacking 2 w0.mem z 8) where' ∙ ap (λ o. lacking 2 w0.mem (saved_from o one0.now.core) (saved_len o)) (sym unringed) ∙ written saving;
               mark_read = room.read;
               mark_written = room.written;
             } in
@@ -377,31 +397,21 @@ module _ (r : Threading) (A : AreEntries r.original r.listed) (S : IsThreadSound
             let l = inside_low b cs p c i P.decided in
             let from : site.place ≤ one.now.rip = omega (arith, rip) in
             let below : one.now.rip < work_at site = omega (arith, rip, l, len) in
-            let good = good_at r A S L M w one f to st P.base site listed (λ e. free w one p P) b has saving p i E (λ e. old8 w one p P) N in
-            let made = made_event r A S L M w one f to st P.base site listed (λ e. free w one p P) b has saving p i rip P.at P.core P.decided P.world P.saved (λ e. old8 w one p P) in
-            let q = calm_in one w.mem to (at_event r A S L M w one f to st P.base site listed from below) (λ e. omega (arith, e, below)) in
-            let start = ap (λ (t : Thread). is_start r.listed t.rip) q.1 ∙ P.base.kept.start in
-            let B' = base_after M M w one f to st P.base made start in
-            let log : (after_watch w one f to).log ≡ w0.log = cond-false (is_effect r one.now.rip) _ _ q.0 ∙ P.log in
-            let inside' : in_event r one.now.rip ≡ true = inside r A S L M w one f to st P.base site listed from below in
+            let avoided : saves r one.now.rip ≡ true → avoids (is_new r) (slot one.now.core) 8 ≡ true = λ e. free w one p P in
+            let old : has_rax p ≡ true → avoids (is_new r) (slot c) 8 ≡ true = λ e. old8 one B.projected in
+            let good = good_at r A S L M w one f to st B.base site listed avoided b has saving p i E old N in
+            let made = made_event r A S L M w one f to st B.base site listed avoided b has saving p i rip B.at P.core P.decided B.world P.saved old in
+            let q = calm_in one w.mem to (event_code r A S L.long site listed one.now.rip from below) (λ e. omega (arith, e, below)) in
             let s = sym q.1 in
-            one_more r k w (after_watch w one f to) log1 (thread_of to0) to0.mem n (watches w one f to P.there st)
-            (rest (after_watch w one f to) (after_thread w one f to) (subst (λ (t : Thread). At (following cs t.core p) (after_watch w one f to) (after_thread w one f to)) P.projected (record {
-              there = set_here w.threads k one (after_thread w one f to) P.there;
-              base = B';
-              log = log;
-              perms = λ x. keeps_perms f u to st x ∙ P.perms x;
-              staler = λ x a b. stale_in w one f u x (saves r one.now.rip) refl inside' (P.staler x a b)
+            one_more r k w (after_watch w one f to) log1 (thread_of to0) to0.mem n (watches w one f to B.there st)
+            (rest (after_watch w one f to) (after_thread w one f to) (subst (λ (t : Thread). At (following cs t.core p) (after_watch w one f to) (after_thread w one f to)) B.projected (record {
+              before = still_before w one B f to st made q (λ x a b. stale_in w one f u x (saves r one.now.rip) refl (event_inside r A S L.long site listed one.now.rip from below) a
                   (ap (λ o. is_one_of (saved_from o one.now.core) (saved_len o) x) unringed ∙ ap (λ z. is_one_of z 8 x) (same_slot w one p P)
-                  ∙ ap (λ o. is_one_of (saved_from o one0.now.core) (saved_len o) x) (sym unringed) ∙ (sym (ap (λ z. z && is_saved_by r one0.now.core x) saving) ∙ b));
-              projected = q.1 ∙ P.projected;
+                  ∙ ap (λ o. is_one_of (saved_from o one0.now.core) (saved_len o) x) (sym unringed) ∙ (sym (ap (λ z. z && is_saved_by r one0.now.core x) saving) ∙ b))) N.world;
               here = N.rip ∙ sym (point_counted site b next has saving);
-              at = ap (λ (t : Thread). t.rip) q.1 ∙ P.at;
               core = subst (λ (t : Thread). Holds cs next t.core to.core) s N.core;
               decided = subst (λ (t : Thread). IsDecided cs next t.core) s N.decided;
-              world = N.world ∙ P.world ∙ ap (λ (t : Thread). t.world) s;
               saved = subst (λ (t : Thread). HasSaved next t.core to.mem) s good.saved;
-              old = λ e. subst (λ (t : Thread). avoids (is_new r) (saved_from r.ring t.core) (saved_len r.ring) ≡ true) s (P.old e);
             })))
 
         -- from the point behind the mark, three instructions that restore
@@ -428,6 +438,7 @@ module _ (r : Threading) (A : AreEntries r.original r.listed) (S : IsThreadSound
       cover_out covers alone w one P =
           let u : Machine = machine_of w.mem one.now in
           let K = S.sites site listed in
+          let B = P.before in
           let more = longer r A S L.long site listed in
           let low = S.low site listed Cover covers in
           let len : event_len site.event site.when ≡ 8 = ap₂ event_len covers alone in
@@ -435,36 +446,25 @@ module _ (r : Threading) (A : AreEntries r.original r.listed) (S : IsThreadSound
           let here : one.now.rip ≡ site.place = omega (arith, P.here, offset_first site.event site.when) in
           let E : AtStore r.private site.number site.place u = record {
             rip = here;
-            stands = subst (λ (z : List Comparison). IsFixed w.mem site.place (thread_event Cover z r.private site.number)) alone (event_stands r A S site listed Cover covers w.mem P.base.other);
+            stands = subst (λ (z : List Comparison). IsFixed w.mem site.place (thread_event Cover z r.private site.number)) alone (event_stands r A S site listed Cover covers w.mem B.base.other);
             low = omega (arith, K.low, more, len);
             room = low;
           } in
-          let G = L.covers r.private site.number site.place u E (P.base.room site listed Cover covers).written in
+          let G = L.covers r.private site.number site.place u E (B.base.room site listed Cover covers).written in
           let to : Machine = covered r.private site.number site.place u in
           let f = G.0 in
           let st : ThreadStepsBy f u to = G.1 in
           let from : site.place ≤ one.now.rip = omega (arith, here) in
           let below : one.now.rip < work_at site = omega (arith, here, len) in
-          let made = made_cover r A S L M w one f to st P.base site listed covers alone here P.at P.core P.world in
-          let q = calm_in one w.mem to (at_event r A S L M w one f to st P.base site listed from below) (λ e. omega (arith, e, below)) in
-          let start = ap (λ (t : Thread). is_start r.listed t.rip) q.1 ∙ P.base.kept.start in
-          let B' = base_after M M w one f to st P.base made start in
-          let s = sym q.1 in
-          one_more r k w (after_watch w one f to) log1 (thread_of to0) to0.mem 3 (watches w one f to P.there st)
+          let made = made_cover r A S L M w one f to st B.base site listed covers alone here B.at P.core B.world in
+          let q = calm_in one w.mem to (event_code r A S L.long site listed one.now.rip from below) (λ e. omega (arith, e, below)) in
+          one_more r k w (after_watch w one f to) log1 (thread_of to0) to0.mem 3 (watches w one f to B.there st)
           (effect_out (after_watch w one f to) (after_thread w one f to) (record {
-            there = set_here w.threads k one (after_thread w one f to) P.there;
-            base = B';
-            log = cond-false (is_effect r one.now.rip) _ _ q.0 ∙ P.log;
-            perms = λ x. keeps_perms f u to st x ∙ P.perms x;
-            staler = λ x a b. stale_stays r A S L M w one f to st P.base site listed from below (omega (arith, here, none)) x ∙ P.staler x a b;
-            projected = q.1 ∙ P.projected;
+            before = still_before w one B f to st made q (λ x a b. stale_stays r A S L M w one f to st B.base site listed from below (omega (arith, here, none)) x ∙ a) refl;
             here = ap (λ z. site.place + z) (sym len);
-            at = ap (λ (t : Thread). t.rip) q.1 ∙ P.at;
-            core = P.core ∙ ap (λ (t : Thread). t.core) s;
+            core = P.core ∙ ap (λ (t : Thread). t.core) (sym q.1);
             decided = tt;
-            world = P.world ∙ ap (λ (t : Thread). t.world) s;
             saved = tt;
-            old = λ e. absurd (true≢false (sym e ∙ ap₂ is_saving covers alone));
           }))
 
       -- an event that keeps a ring
@@ -481,18 +481,11 @@ module _ (r : Threading) (A : AreEntries r.original r.listed) (S : IsThreadSound
         ring_long : event_len site.event site.when ≡ ring_len
         ring_long = ap (λ o. event_len o site.when) keeps
 
-        -- the thread at a point of it, and the watch there
+        -- the thread at a point of it
         record RingAt (p : RingPoint) (w : Watch) (one : Watched) : Type 0 where
-          there : slice_get w.threads k ≡ Some one
-          base : Ground r S M w.stale w.mem one
-          log : w.log ≡ w0.log
-          perms : (x : ℕ) → perms_at w.mem x ≡ perms_at w0.mem x
-          staler : (x : ℕ) → w0.stale x ≡ false → held x ≡ false → w.stale x ≡ false
-          projected : one.projected ≡ one0.now
+          before : Before w one
           here : one.now.rip ≡ site.place + ring_offset p
-          at : one.projected.rip ≡ site.entry.addr
           core : RingHolds n p one.projected.core one.now.core
-          world : one.now.world ≡ one.projected.world
           saved : RingSaved p one.projected.core w.mem
 
         -- no saved byte is new
@@ -505,25 +498,26 @@ module _ (r : Threading) (A : AreEntries r.original r.listed) (S : IsThreadSound
         ring_out m p i rest w one P =
             let u : Machine = machine_of w.mem one.now in
             let K = S.sites site listed in
+            let B = P.before in
             let more = longer r A S L.long site listed in
             let sound = S.ring n ringing in
             let c = one.projected.core in
             let E : InRing n r.private site.number site.place p c u = record {
-              processor = P.base.kept.processor;
+              processor = B.base.kept.processor;
               core = P.core;
               saved = P.saved;
               rip = P.here;
-              stands = ring_stands r A S site listed n keeps w.mem P.base.other;
+              stands = ring_stands r A S site listed n keeps w.mem B.base.other;
               size = sound.size;
               low = omega (arith, K.low, more, ring_long);
               room = sound.low;
               number = sound.numbers site listed (ap is_some keeps);
             } in
-            let room = P.base.ring_room n ringing in
-            let where' : flag_slot c ≡ flag_slot one0.now.core = ap (λ (t : Thread). flag_slot t.core) P.projected in
+            let room = B.base.ring_room n ringing in
+            let where' : flag_slot c ≡ flag_slot one0.now.core = ap (λ (t : Thread). flag_slot t.core) B.projected in
             let C : CanKeep n r.private c w.mem = record {
-              saved_read = lacking_on 4 w0.mem w.mem (flag_slot c) 16 P.perms ∙ ap (λ z. lacking 4 w0.mem z 16) where' ∙ ap (λ o. lacking 4 w0.mem (saved_from o one0.now.core) (saved_len o)) (sym ringing) ∙ read saves_rax;
-              saved_written = lacking_on 2 w0.mem w.mem (flag_slot c) 16 P.perms ∙ ap (λ z. lacking 2 w0.mem z 16) where' ∙ ap (λ o. lacking 2 w0.mem (saved_from o one0.now.core) (saved_len o)) (sym ringing) ∙ written saves_rax;
+              saved_read = lacking_on 4 w0.mem w.mem (flag_slot c) 16 B.perms ∙ ap (λ z. lacking 4 w0.mem z 16) where' ∙ ap (λ o. lacking 4 w0.mem (saved_from o one0.now.core) (saved_len o)) (sym ringing) ∙ read saves_rax;
+              saved_written = lacking_on 2 w0.mem w.mem (flag_slot c) 16 B.perms ∙ ap (λ z. lacking 2 w0.mem z 16) where' ∙ ap (λ o. lacking 2 w0.mem (saved_from o one0.now.core) (saved_len o)) (sym ringing) ∙ written saves_rax;
               position_read = room.position.read;
               position_written = room.position.written;
               slots_written = λ j l. (room.slots j l).written;
@@ -535,54 +529,29 @@ module _ (r : Threading) (A : AreEntries r.original r.listed) (S : IsThreadSound
             let N = G.2 in
             let l = ring_inside p i in
             let h = P.here in
+            let from : site.place ≤ one.now.rip = omega (arith, h) in
             let below : one.now.rip < work_at site = omega (arith, h, l, ring_long) in
-            let code = ring_in r A S L.long site listed n one.now.rip keeps (omega (arith, h)) (omega (arith, h, l)) in
-            let same : flag_slot one.now.core ≡ flag_slot c = L.ring_slots n p c one.now.core P.base.kept.processor P.core in
-            let old = old16 one P.projected in
+            let same : flag_slot one.now.core ≡ flag_slot c = L.ring_slots n p c one.now.core B.base.kept.processor P.core in
+            let old = old16 one B.projected in
             let avoided : saves r one.now.rip ≡ true → avoids (is_new r) (saved_from r.ring one.now.core) (saved_len r.ring) ≡ true = λ e.
             ap (λ o. avoids (is_new r) (saved_from o one.now.core) (saved_len o)) ringing ∙ ap (λ z. avoids (is_new r) z 16) same ∙ old in
-            let good = ring_good r A S L M w one f to st P.base site listed n keeps p i P.here E N avoided (inr old) in
-            let made = made_ring r A S L M w one f to st P.base site listed n keeps p i P.here P.at P.core P.world P.saved avoided (inr old) in
-            let q = calm_in one w.mem to code (λ e. omega (arith, e, below)) in
-            let start = ap (λ (t : Thread). is_start r.listed t.rip) q.1 ∙ P.base.kept.start in
-            let B' = base_after M M w one f to st P.base made start in
-            let log : (after_watch w one f to).log ≡ w0.log = cond-false (is_effect r one.now.rip) _ _ q.0 ∙ P.log in
-            let inside' : in_event r one.now.rip ≡ true = part_only r A S L.long site listed one.now.rip Whole code ∙ part_true Whole one.now.rip site (omega (arith, h)) (omega (arith, h, l, ring_long)) in
+            let good = ring_good r A S L M w one f to st B.base site listed n keeps p i P.here E N avoided (inr old) in
+            let made = made_ring r A S L M w one f to st B.base site listed n keeps p i P.here B.at P.core B.world P.saved avoided (inr old) in
+            let q = calm_in one w.mem to (event_code r A S L.long site listed one.now.rip from below) (λ e. omega (arith, e, below)) in
             let s = sym q.1 in
-            one_more r k w (after_watch w one f to) log1 (thread_of to0) to0.mem m (watches w one f to P.there st)
+            one_more r k w (after_watch w one f to) log1 (thread_of to0) to0.mem m (watches w one f to B.there st)
             (rest (after_watch w one f to) (after_thread w one f to) (record {
-              there = set_here w.threads k one (after_thread w one f to) P.there;
-              base = B';
-              log = log;
-              perms = λ x. keeps_perms f u to st x ∙ P.perms x;
-              staler = λ x a b. stale_in w one f u x (saves r one.now.rip) refl inside' (P.staler x a b)
+              before = still_before w one B f to st made q (λ x a b. stale_in w one f u x (saves r one.now.rip) refl (event_inside r A S L.long site listed one.now.rip from below) a
                   (ap (λ o. is_one_of (saved_from o one.now.core) (saved_len o) x) ringing ∙ ap (λ z. is_one_of z 16 x) (same ∙ where')
-                  ∙ ap (λ o. is_one_of (saved_from o one0.now.core) (saved_len o) x) (sym ringing) ∙ (sym (ap (λ z. z && is_saved_by r one0.now.core x) saves_rax) ∙ b));
-              projected = q.1 ∙ P.projected;
+                  ∙ ap (λ o. is_one_of (saved_from o one0.now.core) (saved_len o) x) (sym ringing) ∙ (sym (ap (λ z. z && is_saved_by r one0.now.core x) saves_rax) ∙ b))) N.world;
               here = N.rip;
-              at = ap (λ (t : Thread). t.rip) q.1 ∙ P.at;
               core = subst (λ (t : Thread). RingHolds n (ring_next p) t.core to.core) s N.core;
-              world = N.world ∙ P.world ∙ ap (λ (t : Thread). t.world) s;
               saved = subst (λ (t : Thread). RingSaved (ring_next p) t.core to.mem) s good.saved;
             }))
 
         -- behind the event stands the relocated code
         ring_behind : (w : Watch) (one : Watched) → RingAt Ring12 w one → GoesOut r k w log1 (thread_of to0) to0.mem 3
-        ring_behind w one P = effect_out w one (record {
-          there = P.there;
-          base = P.base;
-          log = P.log;
-          perms = P.perms;
-          staler = P.staler;
-          projected = P.projected;
-          here = P.here ∙ ap (λ z. site.place + z) (sym ring_long);
-          at = P.at;
-          core = P.core;
-          decided = tt;
-          world = P.world;
-          saved = tt;
-          old = λ e. ap (λ (t : Thread). avoids (is_new r) (saved_from r.ring t.core) (saved_len r.ring)) P.projected ∙ old0 e;
-        })
+        ring_behind w one P = effect_out w one (record { before = P.before; here = P.here ∙ ap (λ z. site.place + z) (sym ring_long); core = P.core; decided = tt; saved = tt })
 
         -- a whole event
         ring_whole : (w : Watch) (one : Watched) → RingAt Ring0 w one → GoesOut r k w log1 (thread_of to0) to0.mem 15
@@ -591,36 +560,14 @@ module _ (r : Threading) (A : AreEntries r.original r.listed) (S : IsThreadSound
 
       -- the thread before the trampoline, at an address, with the registers and flags of its projection
       record Near (x : ℕ) (w : Watch) (one : Watched) : Type 0 where
-        there : slice_get w.threads k ≡ Some one
-        base : Ground r S M w.stale w.mem one
-        log : w.log ≡ w0.log
-        perms : (x : ℕ) → perms_at w.mem x ≡ perms_at w0.mem x
-        staler : (x : ℕ) → w0.stale x ≡ false → held x ≡ false → w.stale x ≡ false
-        projected : one.projected ≡ one0.now
+        before : Before w one
         here : one.now.rip ≡ x
-        at : one.projected.rip ≡ site.entry.addr
         core : one.now.core ≡ one.projected.core
-        world : one.now.world ≡ one.projected.world
-        old : is_saving site.event site.when ≡ true → avoids (is_new r) (saved_from r.ring one.projected.core) (saved_len r.ring) ≡ true
 
       -- before the trampoline the thread is at a point of it, where the point's address is the thread's
       entered : (p : Point) (w : Watch) (one : Watched) (x : ℕ) → Near x w one → x ≡ point_at site p → Holds site.when p one.projected.core one.now.core → IsDecided site.when p one.projected.core
           → HasSaved p one.projected.core w.mem → At p w one
-      entered p w one x P e core decided saved = record {
-        there = P.there;
-        base = P.base;
-        log = P.log;
-        perms = P.perms;
-        staler = P.staler;
-        projected = P.projected;
-        here = P.here ∙ e;
-        at = P.at;
-        core = core;
-        decided = decided;
-        world = P.world;
-        saved = saved;
-        old = P.old;
-      }
+      entered p w one x P e core decided saved = record { before = P.before; here = P.here ∙ e; core = core; decided = decided; saved = saved }
 
       -- how many steps there are from the first address of the trampoline on at most
       abbrev come_most : ℕ
@@ -637,19 +584,7 @@ module _ (r : Threading) (A : AreEntries r.original r.listed) (S : IsThreadSound
           by_event (Some (Keeps n)) s e z =
               let five : ◌≡◌ {A = ℕ} (cond (is_keeping site.event) 5 0) 5 = ap (λ o. cond (is_keeping o) 5 0) e in
               let at = P.here in
-              wider w _ _ _ 15 come_most (omega (arith, five)) (ring_whole n e w one (record {
-                there = P.there;
-                base = P.base;
-                log = P.log;
-                perms = P.perms;
-                staler = P.staler;
-                projected = P.projected;
-                here = omega (arith, at);
-                at = P.at;
-                core = P.core;
-                world = P.world;
-                saved = tt;
-              }))
+              wider w _ _ _ 15 come_most (omega (arith, five)) (ring_whole n e w one (record { before = P.before; here = omega (arith, at); core = P.core; saved = tt }))
           by_event (Some (Marks b)) true e z =
               wider w _ _ _ (suc (suc (suc (7 + 2 * length site.when)))) come_most (omega arith) (event_whole b e z w one (entered At0 w one site.place P first P.core tt tt))
           by_event (Some (Marks b)) false e z =
@@ -659,17 +594,18 @@ module _ (r : Threading) (A : AreEntries r.original r.listed) (S : IsThreadSound
 
       -- one direct jump outside the trampolines, and then the rest
       jump_out : (n x target : ℕ) → JumpsTo r.patched x target → is_new r x ≡ false → is_kept r x ≡ false → (w : Watch) (one : Watched) → Near x w one
-          → ((f : Fields) (to : Machine) → ThreadStepsBy f (machine_of w.mem one.now) to → Made r S (stale_after r w.stale one f (machine_of w.mem one.now)) M M one w.mem to)
+          → ((f : Fields) (to : Machine) → ThreadStepsBy f (machine_of w.mem one.now) to → Made r S (stale_next r w one f) M M one w.mem to)
           → ((v : Watch) (one' : Watched) → Near target v one' → GoesOut r k v log1 (thread_of to0) to0.mem n) → GoesOut r k w log1 (thread_of to0) to0.mem (suc n)
       jump_out n x target j old kept w one P makes rest =
           let u : Machine = machine_of w.mem one.now in
+          let B = P.before in
           let x0 = one.now.rip in
           let f = j.fields in
           let next = next_after x0 f in
           let to : Machine = gone_to u target in
           let at_u : IsAt u f = record {
             spelled = j.spelled;
-            here = subst (λ (z : ℕ). Stands w.mem z (spelling f)) (sym P.here) (fixed_stands w.mem x (spelling f) (fixed_on r.patched w.mem x (spelling f) P.base.other j.stands));
+            here = subst (λ (z : ℕ). Stands w.mem z (spelling f)) (sym P.here) (fixed_stands w.mem x (spelling f) (fixed_on r.patched w.mem x (spelling f) B.base.other j.stands));
           } in
           let unlocked = L.not_locked f (Jmp (Rel j.rel)) j.jump in
           let leads : advanced next (word_of j.rel) ≡ target = ap (λ z. advanced (next_after z f) (word_of j.rel)) P.here ∙ j.leads in
@@ -680,22 +616,11 @@ module _ (r : Threading) (A : AreEntries r.original r.listed) (S : IsThreadSound
           let none = start_no_site r A S L.long x0 old' in
           let eff = effect_never r A S L.long x0 calm none in
           let q = calm_projection r one w.mem to calm none in
-          let start = ap (λ (t : Thread). is_start r.listed t.rip) q ∙ P.base.kept.start in
-          let B' = base_after M M w one f to st P.base (makes f to st) start in
-          let s = sym q in
-          one_more r k w (after_watch w one f to) log1 (thread_of to0) to0.mem n (watches w one f to P.there st)
+          one_more r k w (after_watch w one f to) log1 (thread_of to0) to0.mem n (watches w one f to B.there st)
           (rest (after_watch w one f to) (after_thread w one f to) (record {
-            there = set_here w.threads k one (after_thread w one f to) P.there;
-            base = B';
-            log = cond-false (is_effect r x0) _ _ eff ∙ P.log;
-            perms = P.perms;
-            staler = λ x a b. stale_is r A S L M w one f to st P.base old' x ∙ and_left (w.stale x) _ (P.staler x a b);
-            projected = q ∙ P.projected;
+            before = still_before w one B f to st (makes f to st) (eff, q) (λ x a b. stale_is r A S L M w one f to st B.base old' x ∙ and_left (w.stale x) _ a) refl;
             here = refl;
-            at = ap (λ (t : Thread). t.rip) q ∙ P.at;
-            core = P.core ∙ ap (λ (t : Thread). t.core) s;
-            world = P.world ∙ ap (λ (t : Thread). t.world) s;
-            old = λ e. subst (λ (t : Thread). avoids (is_new r) (saved_from r.ring t.core) (saved_len r.ring) ≡ true) s (P.old e);
+            core = P.core ∙ ap (λ (t : Thread). t.core) (sym q);
           }))
 
       -- from the displaced start, by one jump or by two
@@ -711,17 +636,18 @@ module _ (r : Threading) (A : AreEntries r.original r.listed) (S : IsThreadSound
 
           near : Near one0.now.rip w0 one0
           near = record {
-            there = e;
-            base = B;
-            log = refl;
-            perms = λ x. refl;
-            staler = λ x a b. a;
-            projected = sym same0;
+            before = record {
+              there = e;
+              base = B;
+              log = refl;
+              perms = λ x. refl;
+              staler = λ x a b. a;
+              projected = sym same0;
+              at = ap (λ (t : Thread). t.rip) (sym same0) ∙ sym here;
+              world = ap (λ (t : Thread). t.world) same0;
+            };
             here = refl;
-            at = ap (λ (t : Thread). t.rip) (sym same0) ∙ sym here;
             core = ap (λ (t : Thread). t.core) same0;
-            world = ap (λ (t : Thread). t.world) same0;
-            old = λ e. subst (λ (t : Thread). avoids (is_new r) (saved_from r.ring t.core) (saved_len r.ring) ≡ true) same0 (old0 e);
           }
 
           first : (f : Fields) (to : Machine) → ThreadStepsBy f (machine_of w0.mem one0.now) to → Made r S (stale_after r w0.stale one0 f (machine_of w0.mem one0.now)) M M one0 w0.mem to
@@ -733,7 +659,7 @@ module _ (r : Threading) (A : AreEntries r.original r.listed) (S : IsThreadSound
           by_jump (inr j) = wider w0 _ _ _ (suc (suc come_most)) (2 + come_most) (omega arith)
               (jump_out (suc come_most) one0.now.rip j.second (subst (λ (z : ℕ). JumpsTo r.patched z j.second) here j.there) old calm w0 one0 near first (λ v one' P.
               jump_out come_most j.second site.place j.on j.old (and_left (is_start r.listed j.second) (not (is_site r j.second)) j.unlisted) v one' P (λ f to st.
-              made_second r A S L M v one' f to st P.base (ap (is_new r) P.here ∙ j.old) (record { site = site; listed = listed; jumps = j; here = P.here; there = P.at; core = P.core; world = P.world })) come_out))
+              made_second r A S L M v one' f to st P.before.base (ap (is_new r) P.here ∙ j.old) (record { site = site; listed = listed; jumps = j; here = P.here; there = P.before.at; core = P.core; world = P.before.world })) come_out))
 
   -- at a kept start
   kept_out : (M : Bytes) (w : Watch) (one : Watched) (f : Fields) (to0 : Machine) → ThreadStepsBy f (machine_of M one.now) to0 → one.now ≡ one.projected → IsQuietAt r (machine_of M one.now)

@@ -6,7 +6,6 @@ ghost use Rattle.pun_base.specs.Limits.{most_sites};
 ghost use Rattle.length_decode.specs.Spelling.{Fields, IsInstruction, spelling};
 ghost use Rattle.relocate_insn.specs.Relocating.{Spells};
 ghost use Rattle.cond_action.specs.Codes.{compare_code, failing};
-ghost use Rattle.trampoline.specs.Trampolines.{back_if};
 ghost use Rattle.thread_runs.specs.ThreadCode.{thread_code, saving_code, restoring_code, marking_code, marking_len, compare_with, compare_len, checking_len, checking_code, saving_event, position_at, keep_ax, load_one, claiming_code, reducing, ring_event, event_len, event_if, code_if, call_reg_code};
 ghost use Rattle.trampoline.specs.Atomic.{thread_len};
 ghost use Rattle.thread_runs.specs.Building.{target_spot, op_spot, called_spot, spot_register, call_register, work_by, conditions_of, CanBeAsked, event_of, when_of, CanBeShared, thread_size, size_if};
@@ -17,6 +16,7 @@ use pun_base::action::{Action, Base, CompareOp, Comparison, Comparisons};
 use pun_base::limits::{COUNTER_LEN, DATA_AT, SLOT_LEN};
 use relocate_insn::writer::CodeWriter;
 use relocate_insn::{NotRelocatable, relocate};
+use trampoline::put_back;
 
 /// How many bytes the event of a ring has.
 const RING_EVENT_LEN: u32 = 67;
@@ -319,17 +319,6 @@ fn put_call_register(code: &mut CodeWriter, register: u8, next: u32)
     } else {
         code.put(&[0x41, 0xFF, 0xE0 + register % 8]);
         code.put(&[0x90; 31]);
-    }
-}
-
-/// Writes, at a place, the jump to the address after the instruction, where its code falls through.
-fn put_back(code: &mut CodeWriter, falls: bool, place: u32, next: u32)
-    requires room { length code.old + 5 ≤ 128 }
-    requires place { place < 2 ^ 31 }
-    ensures { code.new ≡ code.old ++ back_if falls place next }
-{
-    if falls {
-        code.put_jump(place, next);
     }
 }
 

@@ -3,7 +3,7 @@ use Rattle.std.specs.List.{AllByRecursion}
 use Rattle.image_check.specs.Parts.{line_of}
 use Rattle.image_check.specs.Verdict.{case_of}
 use Rattle.thread_check.specs.LineParts.{IsSoundCode}
-use Rattle.thread_check.proofs.verdict.judge_lines.Given as goal
+use Rattle.thread_check.proofs.verdict.judge_events.Given as goal
 
 abbrev pub invariant-loop-line : goal.invariant-loop-line
 invariant-loop-line l =

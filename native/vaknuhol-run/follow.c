@@ -134,7 +134,7 @@ static void stopped(pid_t tid, int number, int event) {
         else if (event == PTRACE_EVENT_EXIT)
             ended(tid, (int)told, 1);
         else if (!event)
-            before_delivery(it->space, tid, number);
+            before_delivery(it, number);
         ptrace(PTRACE_CONT, tid, 0, event ? 0 : number);
     }
 }

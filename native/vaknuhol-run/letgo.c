@@ -36,7 +36,7 @@ void let_go(pid_t group) {
         if (!it->stop)
             continue;
         if (number)
-            before_delivery(it->space, tid, number);
+            before_delivery(it, number);
         if (is_free)
             drop_task(it, "running", 1);
         ptrace(PTRACE_INTERRUPT, tid, 0, 0); /* so that a call which was interrupted is made again */

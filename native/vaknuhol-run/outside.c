@@ -162,20 +162,27 @@ static int is_seen(pid_t tid, int number) {
 /* A thread stands at an interrupted call where orig_rax is a call's number, which it never is in an event. Behind a relocated call the kernel would make
    it again inside of the trampoline: the thread is put after the original's, which is made again with its event, as single steps of the
    original make it again. An instruction at which the process ends by a fault keeps its event, as the last that the program came to. */
-void before_delivery(struct space *space, pid_t tid, int number) {
+static void put_outside(const struct space *space, pid_t tid, struct user_regs_struct *regs, siginfo_t *info, int keeps) {
+    unsigned long long stood = regs->rip;
+    if (is_at_call(regs) && (eight_at(tid, stood) & BYTE) != LOAD_ECX)
+        return;
+    if (!set_outside(space, tid, regs, keeps) || ptrace(PTRACE_SETREGS, tid, 0, regs))
+        return;
+    if (is_fault(info) && (unsigned long long)info->si_addr == stood) {
+        info->si_addr = (void *)regs->rip;
+        ptrace(PTRACE_SETSIGINFO, tid, 0, info);
+    }
+}
+
+void before_delivery(const struct task *it, int number) {
     struct user_regs_struct regs;
-    siginfo_t info;
-    if (!space || number == SIGSTOP || ptrace(PTRACE_GETREGS, tid, 0, &regs) || !read_range(space, tid))
+    siginfo_t info = {0};
+    if (!it->space || number == SIGSTOP || ptrace(PTRACE_GETREGS, it->tid, 0, &regs) || !read_range(it->space, it->tid))
         return;
     unsigned long long stood = regs.rip;
-    if ((long long)regs.orig_rax >= 0 && (eight_at(tid, regs.rip) & BYTE) != LOAD_ECX)
-        return;
-    int fault = !ptrace(PTRACE_GETSIGINFO, tid, 0, &info) && is_fault(&info);
-    int keeps = fault && !is_seen(tid, number);
-    if (!set_outside(space, tid, &regs, keeps) || ptrace(PTRACE_SETREGS, tid, 0, &regs))
-        return;
-    if (fault && (unsigned long long)info.si_addr == stood) {
-        info.si_addr = (void *)regs.rip;
-        ptrace(PTRACE_SETSIGINFO, tid, 0, &info);
-    }
+    ptrace(PTRACE_GETSIGINFO, it->tid, 0, &info);
+    int is_last = is_crash(it->tid, number), is_own = is_last && is_of_thread(it->tid, &info);
+    put_outside(it->space, it->tid, &regs, &info, is_own || (is_fault(&info) && !is_seen(it->tid, number)));
+    if (is_last)
+        keep_ring(it, number, stood, is_own ? &regs : NULL);
 }

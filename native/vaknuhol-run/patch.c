@@ -3,8 +3,9 @@
 #include <sys/mman.h>
 
 const struct patch *patch;
+const struct rule *rules;
 const char *row_text;
-static const char MARK[sizeof patch->mark] = "vakrun 5\n";
+static const char MARK[sizeof patch->mark] = "vakrun 6\n";
 static const struct tramp *tramps;
 
 void read_patch(const char *path) {
@@ -17,10 +18,12 @@ void read_patch(const char *path) {
     close(file);
     patch = whole == MAP_FAILED ? NULL : whole;
     if (!patch || memcmp(patch->mark, MARK, sizeof patch->mark)
-        || length != sizeof *patch + patch->row_count * sizeof *patch->rows + patch->tramp_count * sizeof *tramps + patch->text_length)
+        || length != sizeof *patch + patch->row_count * sizeof *patch->rows + patch->tramp_count * sizeof *tramps + patch->rule_count * sizeof *rules
+                         + patch->text_length)
         errx(REFUSED, "%s: it is no run file of this version: patch again", path);
     tramps = (const struct tramp *)(patch->rows + patch->row_count);
-    row_text = (const char *)(tramps + patch->tramp_count);
+    rules = (const struct rule *)(tramps + patch->tramp_count);
+    row_text = (const char *)(rules + patch->rule_count);
 }
 
 static int beside(const void *address, const void *row) {

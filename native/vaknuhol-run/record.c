@@ -53,20 +53,36 @@ static uint32_t slot_at(const uint32_t *ring, uint32_t position, unsigned n) {
     return ring[1 + (position % patch->slots + n) % patch->slots];
 }
 
-/* The last events of a ring, as many as are shown, oldest first. */
-static void put_ring(const struct space *it) {
-    const uint32_t *ring = (const uint32_t *)(it->range + SCRATCH), position = ring[0];
-    unsigned first = patch->slots;
-    for (unsigned left = patch->shown; first && left; first--)
-        left -= slot_at(ring, position, first - 1) != 0;
-    fprintf(half, "process %d %s\n", it->number, it->ended);
-    for (unsigned n = first; n < patch->slots; n++) {
-        uint32_t event = slot_at(ring, position, n);
-        if (event && event <= patch->row_count && patch->rows[event - 1].number == event - 1)
-            fprintf(half, "%.*s\n", ROW_ADDRESSES - 1, row_text + patch->rows[event - 1].at);
-        else if (event)
-            fputs("-\n", half);
+/* The last events of a ring, as many as are shown, oldest first; they stand until the next call. */
+static const uint32_t *last_events(const uint32_t *ring, unsigned *count) {
+    static uint32_t *events;
+    uint32_t position = ring[0];
+    unsigned left = patch->shown;
+    events = events ? events : zeros(patch->shown * sizeof *events);
+    for (unsigned n = patch->slots; n && left; n--) {
+        uint32_t event = slot_at(ring, position, n - 1);
+        if (event)
+            events[--left] = event;
     }
+    *count = patch->shown - left;
+    return events + left;
+}
+
+/* A ring takes more room than what is shown of it. */
+void keep_events(struct space *it) {
+    const uint32_t *events = last_events(last_ring(it), &it->event_count);
+    it->events = memcpy(zeros(it->event_count * sizeof *events), events, it->event_count * sizeof *events);
+}
+
+static void put_ring(const struct space *it) {
+    unsigned count = it->event_count;
+    const uint32_t *events = it->events ? it->events : last_events((const uint32_t *)(it->range + SCRATCH), &count);
+    fprintf(half, "process %d %s\n", it->number, it->ended);
+    for (unsigned n = 0; n < count; n++)
+        if (events[n] <= patch->row_count && patch->rows[events[n] - 1].number == events[n] - 1)
+            fprintf(half, "%.*s\n", ROW_ADDRESSES - 1, row_text + patch->rows[events[n] - 1].at);
+        else
+            fputs("-\n", half);
 }
 
 static void put_rings(void) {

@@ -35,10 +35,15 @@ struct row { /* a block's number, or one that no site has, and where its line in
 struct tramp { /* it ends where the next one begins */
     uint32_t place, start, number;
 };
+/* From an address on in a function: how far from rbp or rsp (6 or 7; 0: it isn't told) the caller's stack begins, and from there its rbp (0: in rbp). */
+struct rule {
+    uint32_t at, begin, end, reg;
+    int32_t distance, rbp_place;
+};
 /* A run file, as it lies in memory: scripts/vaknuhol/recording/run_file.py writes it, numbers little-endian, texts filled up by zeros. */
 struct patch {
     char mark[16], head[512], left[128], warning[512]; /* of a record: its head, and of a ring its line on blocks left; told at the first thread */
-    uint32_t kind, for_threads, slots, shown, sites, event_length, comparison_count, row_count, tramp_count, text_length;
+    uint32_t kind, for_threads, slots, shown, sites, event_length, comparison_count, row_count, tramp_count, rule_count, text_length;
     uint64_t private_at, private_length, data_length;
     uint64_t headers_at, header_count, entry; /* of the original, as the kernel tells them to it; a count of 0 where they aren't known */
     struct {
@@ -46,9 +51,10 @@ struct patch {
         uint64_t value;
     } comparisons[MOST_COMPARISONS];
     uint8_t undo[LONGEST_EVENT];
-    struct row rows[]; /* of rings by their numbers; and after them the trampolines, as they ascend, and the rows' text */
+    struct row rows[]; /* of rings by their numbers; and after them the trampolines and the rules, as they ascend, and the rows' text */
 };
 extern const struct patch *patch;
+extern const struct rule *rules; /* of a ring for threads */
 extern const char *row_text; /* a record's lines on blocks where none was executed: each has a count of 0, or why the block was left */
 /* Reads the run file; where it is none, the runner ends. */
 void read_patch(const char *path);
@@ -62,6 +68,8 @@ int read_memory(pid_t tid, uint64_t at, void *to, size_t length);
 int write_memory(pid_t tid, uint64_t at, const void *from, size_t length);
 /* The bytes at an address as a number; those that can't be read are 0. */
 uint64_t eight_at(pid_t tid, uint64_t at);
+/* Whether a stopped thread comes from a call of the kernel. */
+int is_at_call(const struct user_regs_struct *regs);
 /* What /proc says of a process after a text (a word, and a newline before it, which no name of a process has), until it is asked again. */
 const char *status_of(pid_t pid, const char *word);
 /* To the next stop at a system call, as at the end of exec; whether the thread comes to one. SIGSTOP can't be blocked: it is put off. */
@@ -70,10 +78,17 @@ int to_call_stop(pid_t tid, int *is_put_off);
 int64_t make_call(pid_t tid, long number, uint64_t a, uint64_t b, uint64_t c, uint64_t d);
 
 /* spaces.c: address spaces with the patched program, and where each one's record lies. */
+enum { SIGNALS = 32 }; /* those that dump core have lower numbers */
 struct space {
     int number, members, id, is_shared;
-    uint8_t *range; /* the private range, as it stands, or where it isn't shared, as it was read last */
+    uint8_t *range; /* the private range, as it stands, or where it isn't shared, as it was read last; nothing once it has ended */
     char ended[24];
+    struct crash {
+        pid_t group;
+        uint32_t *ring;
+    } crashes[SIGNALS]; /* of a ring for threads, by signals: what it held as one began to end a process */
+    uint32_t *events; /* of a ring that has ended, its last ones */
+    unsigned event_count;
     TAILQ_ENTRY(space) others;
 };
 TAILQ_HEAD(spaces, space);
@@ -89,9 +104,6 @@ void drop_space(struct space *it);
 
 /* vector.c: the auxiliary vector of a process that becomes the patched program, at exec's stop, has the original's program headers and entry. */
 void tell_original(pid_t tid);
-
-/* outside.c: at the stop before a signal's delivery a thread is put to a start of the original. */
-void before_delivery(struct space *space, pid_t tid, int number);
 
 /* follow.c: a traced process, and all that come from it, to their ends. */
 enum {
@@ -120,11 +132,35 @@ void drop_task(struct task *it, const char *how, int has_memory);
 /* The first process, from before it becomes the patched program, and all that come from it, to their ends. */
 void follow(struct run *run);
 
+/* outside.c: at the stop before a signal's delivery a thread is put to a start of the original. */
+void before_delivery(const struct task *it, int number);
+
+/* crash.c: a ring for threads is kept as it stands when a signal begins to end its process. */
+/* Whether a ring is to be kept: a signal ends the thread's process with a core file. */
+int is_crash(pid_t tid, int number);
+/* Whether such a signal comes from the thread itself: it is a fault, or its process sent it to this thread, as `abort` does. */
+int is_of_thread(pid_t tid, const siginfo_t *info);
+/* Keeps the ring of a thread's space for the end by a signal. Where the signal comes from the thread, up to the last event of the block in which that
+   stands, by the instruction at which it stopped and by its registers outside of trampolines. */
+void keep_ring(const struct task *it, int number, uint64_t stood, const struct user_regs_struct *outside);
+/* The ring of a space that ends: the kept one, where it ends by that signal. */
+const uint32_t *last_ring(const struct space *it);
+void forget_rings(struct space *it);
+
+/* callers.c: in which functions a thread is, the last that was called first; how many were found. */
+enum { MOST_FRAMES = 64 };
+struct frame { /* where the thread stands, or the last byte of its call; and from where on and up to where the function goes, if that is told */
+    uint64_t at, begin, end;
+};
+unsigned find_frames(pid_t tid, const struct user_regs_struct *regs, struct frame found[MOST_FRAMES]);
+
 /* record.c: the record of a run, the sum of what its processes recorded, as scripts/vaknuhol/recording/record_file.py has it; it is written whole or not at all. */
 /* Makes sure that the record can be written, else the runner ends; where it ends before the program has begun, no trace is left. */
 void open_record(const struct run *run);
 /* Adds what a space has counted. */
 void add_counts(const struct space *it);
+/* Keeps the events of a space that ends, as many as are shown. */
+void keep_events(struct space *it);
 /* Writes the record with what the living spaces have by now. */
 void write_record(struct run *run, int is_ended);
 

@@ -64,7 +64,9 @@ void drop_space(struct space *it) {
     int is_segment = it->id >= 0;
     TAILQ_REMOVE(&all_spaces, it, others);
     if (patch->kind == RING) {
-        it->range = memcpy(zeros(patch->private_length), range, SCRATCH + patch->data_length);
+        keep_events(it);
+        forget_rings(it);
+        it->range = NULL;
         TAILQ_INSERT_TAIL(&ended_spaces, it, others);
     } else {
         add_counts(it);

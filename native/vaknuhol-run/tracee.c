@@ -20,6 +20,10 @@ uint64_t eight_at(pid_t tid, uint64_t at) {
     return value;
 }
 
+int is_at_call(const struct user_regs_struct *regs) {
+    return (long long)regs->orig_rax >= 0;
+}
+
 const char *status_of(pid_t pid, const char *word) {
     static char text[8192];
     snprintf(text, sizeof text, "/proc/%d/status", pid);

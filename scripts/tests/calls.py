@@ -27,26 +27,35 @@ def match(pattern: str, text: str) -> re.Match[str]:
     return found
 
 
-def words_of(name, *words):
-    return [sys.executable, f"{SCRIPTS}/{name}.py", *words]
+def words_of(name, *words, code=""):
+    """The command line of a script; with something of it changed first, in Python, where there is code."""
+    if not code:
+        return [sys.executable, f"{SCRIPTS}/{name}.py", *words]
+    start = f"import runpy, sys\nsys.path.insert(0, {SCRIPTS!r})\n{code}\n"
+    return [sys.executable, "-c", f"{start}runpy.run_path('{SCRIPTS}/{name}.py', run_name='__main__')", *words]
 
 
-def script(name, *words, status=(0,)):
-    return run(*words_of(name, *words), status=status)
+def script(name, *words, status=(0,), code=""):
+    return run(*words_of(name, *words, code=code), status=status)
+
+
+def of_slots(slots):
+    """Code by which threads share rings of so many slots, as e9tool patches them, too."""
+    return f"import vaknuhol.recording.actions\nvaknuhol.recording.actions.SHARED_SLOTS = {slots}"
 
 
 def path_of(program, action, ending):
     return f"{program}.vak/{program}.{action}.{ending}"
 
 
-def patch(program, *words, status=(0,)):
-    return script("patch_program", program, *words, status=status)
+def patch(program, *words, status=(0,), code=""):
+    return script("patch_program", program, *words, status=status, code=code)
 
 
-def record(program, action, *words, status=(0,), to="record"):
+def record(program, action, *words, status=(0,), to="record", code=""):
     """What the patched program prints; its record stands in a file afterwards."""
     files = [path_of(program, action, "report"), to, path_of(program, action, "patched")]
-    return script("run_and_record", *files, *words, status=status)
+    return script("run_and_record", *files, *words, status=status, code=code)
 
 
 def rows_of(path):

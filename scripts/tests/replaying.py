@@ -1,12 +1,11 @@
 """Runs that are recorded and replayed in the model, and what is printed of them."""
 import os
 import subprocess
-import sys
 
 import pytest
 from filelock import FileLock
 
-from tests.calls import SCRIPTS, SOURCES, run
+from tests.calls import SOURCES, run, words_of
 from tests.needs import need
 
 FLAGS = (
@@ -42,10 +41,10 @@ def build(name: str, source: str = "replay.c") -> tuple[str, str | None]:
     return f"./{name}", next((line.split()[0] for line in told.splitlines() if line.endswith(" here")), None)
 
 
-def replay(*words: str, tool: str | None = None) -> tuple[int, list[str], str]:
+def replay(*words: str, tool: str | None = None, code: str = "") -> tuple[int, list[str], str]:
     """The status, the lines that are printed after the program's own, and what stands on standard error."""
     given = {**os.environ, "E9TOOL": tool or os.environ["E9TOOL"]}
-    command = [sys.executable, f"{SCRIPTS}/replay_run.py", *words]
+    command = words_of("replay_run", *words, code=code)
     done = subprocess.run(command, capture_output=True, text=True, env=given, check=False)
     lines = done.stdout.splitlines()
     return done.returncode, [line for line in lines if ": " in line], done.stderr

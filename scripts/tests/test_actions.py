@@ -24,9 +24,9 @@ def test_ring_wraps_at_its_length(numbers, events):
     assert isinstance(action, Ring) and action.events(numbers, action.slots) == events
 
 
-@pytest.mark.parametrize("asked, slots", [(1, 256), (256, 256), (257, 65536), (65536, 65536)])
-def test_threads_share_the_shortest_ring_that_holds_the_events(asked, slots):
-    assert action_of(f"ring:{asked}").patched(for_threads=True).name == f"ring:{slots}"
+@pytest.mark.parametrize("asked", [1, 256, 257, 65536])
+def test_threads_share_the_longest_ring_however_many_events_are_asked_for(asked):
+    assert action_of(f"ring:{asked}").patched(for_threads=True).name == "ring:65536"
     assert action_of(f"ring:{asked}").patched(for_threads=False).name == f"ring:{asked}"
 
 

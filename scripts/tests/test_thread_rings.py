@@ -1,5 +1,6 @@
 """Rings that threads share: how many events they have and in which order, what checks and undoes their patched files,
 and what is told of them."""
+import glob
 import os
 import shutil
 import signal
@@ -8,8 +9,8 @@ import sys
 
 import pytest
 
-from tests.calls import run, script
-from tests.command import COMMAND, call
+from tests.calls import of_slots, run, script
+from tests.command import COMMAND, call, changed
 from tests.programs import Programs
 from tests.test_thread_reports import change
 from vaknuhol.program.kernel import entries_of
@@ -22,9 +23,9 @@ WELL, THREADS, SHORT, LONG = 7, 4, 256, 65536
 FULL, MORE, MOST = SHORT // THREADS, SHORT // THREADS + 1, LONG // THREADS + 1
 POINTS = (0, 8, 9, 12, 20, 25, 34, 37, 48, 56, 58, 59)  # where each instruction of a ring's event begins
 UNFINISHED = (
-    "several threads wrote this ring: the others go on while a signal ends one, so what that did last may stand "
-    "further up, or be gone; where one was ended between claiming a slot and filling it, an older event or none stands "
-    "there\n"
+    "several threads wrote this ring: where the runner saw one crash, the last row is the block in which that stood, "
+    "or if it isn't patched the last one of its function or of what called that, and what came after is not shown; "
+    "where one was ended between claiming a slot and filling it, an older event or none stands there\n"
 )
 
 
@@ -43,13 +44,17 @@ def sites_of(path: str) -> list[int]:
 
 
 @pytest.mark.parametrize(
-    "times, asked",
-    [(50, 100), (50, SHORT), (FULL, SHORT), (MORE, SHORT), (MORE, SHORT + 1), (MORE, LONG), (MOST, LONG), (MOST, 1)],
+    "times, asked, slots",
+    [(50, 100, SHORT), (50, SHORT, SHORT), (FULL, SHORT, SHORT), (MORE, SHORT, SHORT), (MOST, 1, SHORT)]
+    + [(50, 100, LONG), (MORE, SHORT, LONG), (MORE, SHORT + 1, LONG), (MORE, LONG, LONG), (MOST, LONG, LONG)]
+    + [(MOST, 1, LONG)],
 )
-def test_a_ring_has_as_many_rows_as_there_were_events(programs, times, asked):
+def test_a_ring_has_as_many_rows_as_there_were_events(programs, times, asked, slots):
     """Up to so many as were asked for; threads share one that may be longer. No register and no flag is lost."""
-    name = bring_meets(programs, times)
-    _, told = call("ring", str(asked), name, "--symbols", "come", "--record", "record", status=WELL)
+    words = ["ring", str(asked), name := bring_meets(programs, times), "--symbols", "come"]
+    _, told = changed(of_slots(slots), *words, "--record", "record", status=WELL)
+    (report,) = glob.glob(f"{name}.vak/*/*.report")
+    assert Report(report).action.slots == slots
     rows = sites_of("record")
     assert len(rows) == min(asked, THREADS * times) and len(set(rows)) == 1, (len(rows), told)
     assert Record("record").action.name == f"ring:{asked}" and UNFINISHED not in told, told
@@ -64,19 +69,24 @@ def drawn(thread: int, steps: int) -> list[str]:
     return names
 
 
-def walked(programs: Programs, asked: int, threads: int, steps: int, *timer: str) -> tuple[list[str], int]:
+def walked(
+    programs: Programs, asked: int, threads: int, steps: int, *timer: str, slots: int = LONG
+) -> tuple[list[str], int]:
     """Through which functions the threads of `walks` went last, by its ring, and how many handlers came in between."""
     programs.bring("walks", "walks.c", "-pthread")
     words = ["--symbols", "step_._.|tick", "--quiet", "--record", "record", "--", str(threads), str(steps), *timer]
-    printed, _ = call("ring", str(asked), "walks", *words)
+    printed, _ = changed(of_slots(slots), "ring", str(asked), "walks", *words)
     names = {int(line.split()[0], 16): line.split()[2] for line in run("nm", "walks").splitlines()}
     return [names[site] for site in sites_of("record")], int(printed)
 
 
-@pytest.mark.parametrize("asked", [5, SHORT, SHORT + 44])
-def test_a_ring_has_the_last_events_of_a_thread_in_their_order(programs, asked):
+@pytest.mark.parametrize(
+    "asked, steps, slots",
+    [(5, 1000, SHORT), (SHORT, 1000, SHORT), (5, 1000, LONG), (SHORT + 44, 1000, LONG), (LONG, LONG + 1000, LONG)],
+)
+def test_a_ring_has_the_last_events_of_a_thread_in_their_order(programs, asked, steps, slots):
     """The ring is gone round, or the last ones of a longer ring are told."""
-    assert walked(programs, asked, 1, 1000) == (drawn(0, 1000)[-asked:], 0)
+    assert walked(programs, asked, 1, steps, slots=slots) == (drawn(0, steps)[-asked:], 0)
 
 
 @pytest.mark.parametrize("timer", [(), ("50",)], ids=["plain", "with handlers"])
@@ -90,27 +100,28 @@ def test_each_thread_has_its_own_events_in_their_order(programs, timer):
 
 
 @pytest.mark.parametrize("few", [0, 1], ids=["plain", "loader"])
-@pytest.mark.parametrize("asked", ["9", str(SHORT + 1)])
-def test_a_patched_file_is_checked_and_undone(programs, asked, few):
+@pytest.mark.parametrize("slots", [SHORT, LONG])
+def test_a_patched_file_is_checked_and_undone(programs, slots, few):
     """In the loader form, too, which runs as well."""
-    name, into = bring_meets(programs), ["--into", "few"] if few else []
-    words = ["ring", asked, name, "--functions", "--threads"]
-    (path,) = call(*words, "--patch-only")[0].split()
+    name, into, code = bring_meets(programs), ["--into", "few"] if few else [], of_slots(slots)
+    words = ["ring", "9", name, "--functions", "--threads"]
+    (path,) = changed(code, *words, "--patch-only")[0].split()
     if few:
         words += ["--entries", str(entries_of(path) - few), *into]
-        (path,) = call(*words, "--patch-only")[0].split()
+        (path,) = changed(code, *words, "--patch-only")[0].split()
     told = f"{path}: {'loader form, written again with the same bytes' if few else 'check yes'}\n"
-    assert call("check", name, *into)[0] == told
-    call(*words, "--record", "record", status=WELL)
-    assert len(sites_of("record")) == int(asked)
-    call("unpatch", path, "again")
+    assert changed(code, "check", name, *into)[0] == told
+    changed(code, *words, "--record", "record", status=WELL)
+    assert len(sites_of("record")) == 9
+    changed(code, "unpatch", path, "again")
     assert read_bytes("again") == read_bytes(name)
 
 
-@pytest.mark.parametrize("asked", [SHORT, LONG])
-def test_a_changed_byte_of_each_instruction_of_an_event_is_refused(programs, asked):
+@pytest.mark.parametrize("slots", [SHORT, LONG])
+def test_a_changed_byte_of_each_instruction_of_an_event_is_refused(programs, slots):
     name = bring_meets(programs)
-    (path,) = call("ring", str(asked), name, "--symbols", "come", "--threads", "--patch-only")[0].split()
+    words = ["ring", "9", name, "--symbols", "come", "--threads", "--patch-only"]
+    (path,) = changed(of_slots(slots), *words)[0].split()
     stem = path.removesuffix(".patched")
     ((place, _, _),) = Report(f"{stem}.report").trampolines()
     data, length = Report(f"{stem}.report").record_place()

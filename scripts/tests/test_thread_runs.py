@@ -1,18 +1,20 @@
 """Runs of programs with threads, stepped and judged by the premises of their theorem: some that keep them, and small
 programs each of which breaks one of them."""
+import os
 import re
+import shutil
 import subprocess
 
 import pytest
 
-from tests.calls import match, run
+from tests.calls import match, of_slots, run
 from tests.programs import Programs
 from tests.replaying import NUMBER, build, replay
 from tests.test_thread_reports import change, mistaken
 from vaknuhol.native import program as native_program
 from vaknuhol.program.program_file import read_text
 
-SOURCE = "thread_run.c"
+SOURCE, SHORT, LONG = "thread_run.c", 256, 65536
 LENGTH = f"{NUMBER} steps of {NUMBER} threads, {NUMBER} events, {NUMBER} deliveries"
 HOLD = f"premises of threads: they hold at each step: {LENGTH}; "
 ENDED = r"the record is right; there the program ends \(exit 7\)"
@@ -35,16 +37,16 @@ BREAKING = {
 }
 
 
-def judged(*words: str, status: int = 0) -> str:
-    """The one line that is printed of a run."""
-    found, lines, told = replay("--threads", *words)
+def judged(*words: str, status: int = 0, slots: int = LONG) -> str:
+    """The one line that is printed of a run, where a ring has so many slots."""
+    found, lines, told = replay("--threads", *words, code=of_slots(slots))
     assert found == status and len(lines) == 1, f"{words}: {found} {lines} {told}"
     return lines[0]
 
 
-def check_kept(threads: int, deliveries: int, *words: str) -> None:
+def check_kept(threads: int, deliveries: int, *words: str, slots: int = LONG) -> None:
     """The run meets the premises, with so many threads, and counts in their events."""
-    _, started, events, delivered = map(int, match(f"^{HOLD}{ENDED}$", judged(*words)).groups())
+    _, started, events, delivered = map(int, match(f"^{HOLD}{ENDED}$", judged(*words, slots=slots)).groups())
     assert (started, delivered) == (threads, deliveries) and events > 20 * (threads - 1), words
 
 
@@ -65,14 +67,19 @@ def test_threads_that_keep_the_premises(name, threads, deliveries, action):
     check_kept(threads, deliveries, *action, build(name, SOURCE)[0])
 
 
+@pytest.mark.parametrize("name, threads, deliveries", KEEPING)
+def test_threads_that_share_a_short_ring_keep_the_premises(name, threads, deliveries):
+    check_kept(threads, deliveries, *ACTIONS["ring"], build(name, SOURCE)[0], slots=SHORT)
+
+
 @pytest.mark.parametrize("threads", [2, 4])
-@pytest.mark.parametrize("action", [("--count",), ("--ring", "300")], ids=["count", "ring"])
-def test_threads_of_a_c_library_keep_the_premises(programs: Programs, threads, action):
+@pytest.mark.parametrize("action, slots", [(("--count",), LONG), (("--ring", "300"), LONG), (("--ring", "9"), SHORT)])
+def test_threads_of_a_c_library_keep_the_premises(programs: Programs, threads, action, slots):
     """Under a mutex, with a barrier, joined at the end."""
     name = f"locks_{threads}"
     programs.bring(name, "locks.c", "-pthread", f"-DTHREADS={threads}")
     low = int(match("(?m)^([0-9a-f]+) t count$", run("nm", name))[1], 16)
-    check_kept(threads + 1, 0, *action, "--blocks", "--within", f"{low:x}-{low + 0x100:x}", f"./{name}")
+    check_kept(threads + 1, 0, *action, "--blocks", "--within", f"{low:x}-{low + 0x100:x}", f"./{name}", slots=slots)
 
 
 @pytest.mark.parametrize("name, what", BREAKING.items(), ids=BREAKING)
@@ -139,15 +146,18 @@ def test_a_record_that_differs_from_the_steps_is_told(action, others):
     assert f"\nsite {int(told[1], 16):x} " in facts and told[2] != told[3], told
 
 
-def test_a_ring_that_differs_from_the_steps_is_told():
+@pytest.mark.parametrize("slots", [SHORT, LONG])
+def test_a_ring_that_differs_from_the_steps_is_told(slots):
     """As where an event fills its slot with another number, or the judge sees no claim."""
     program, _ = build("NONE", SOURCE)
-    judged(*ACTIONS["ring"], "--keep", "kept", program)
+    judged(*ACTIONS["ring"], "--keep", "kept", program, slots=slots)
     facts = read_text("kept/facts")
     assert "\ncounters yes\n" in judged_by(facts, program)
-    unclaimed = facts.replace("\nring 256 34\n", "\nring 256 33\n")
+    unclaimed = facts.replace(f"\nring {slots} 34\n", f"\nring {slots} 33\n")
     form = "\ncounters the position of the ring is ([0-9]+), but 0 slots were claimed\n"
     assert int(match(form, judged_by(unclaimed, program))[1]) > 40
+    shutil.copy("kept/patched", "other")  # what was judged may be running yet, and can't be written
+    os.replace("other", "kept/patched")
     for place in re.findall(r"(?m)^site [0-9a-f]+ ([0-9a-f]+) [0-9]+ 67$", facts):
         change("kept/patched", int(place, 16) + NUMBER_AT)
     form = "\ncounters slot [0-9]+ of the ring is ([0-9]+), but ([0-9]+) was written last\n"

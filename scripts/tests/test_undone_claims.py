@@ -7,7 +7,7 @@ from collections.abc import Iterator
 
 import pytest
 
-from tests.calls import patch, path_of, record, run
+from tests.calls import of_slots, patch, path_of, record, run
 from tests.needs import left_out
 from tests.programs import Programs, inside
 from vaknuhol.recording.patch_report import Report
@@ -30,7 +30,8 @@ class Planted:
     event of `come` does."""
 
     def __init__(self, folder: str, slots: int) -> None:
-        patch("planted", "--symbols", "|".join(NAMES.values()), "--threads", "--ring", str(slots))
+        words, self.code = ["--symbols", "|".join(NAMES.values()), "--threads", "--ring", str(slots)], of_slots(slots)
+        patch("planted", *words, code=self.code)
         self.folder, self.slots, self.report = folder, slots, Report(path_of("planted", "threads-ring", "report"))
         symbols = (line.split() for line in run("nm", "planted").splitlines())
         self.addresses = {name: int(at, 16) for at, _, name in symbols if name in NAMES.values()}
@@ -43,7 +44,7 @@ class Planted:
         data, _ = self.report.record_place()
         words = [f"{self.begin:x}", str(offset), f"{data:x}", str(self.slots), str(position), meanwhile]
         with inside(self.folder):
-            return record("planted", "threads-ring", *how, *words, status=(status,))
+            return record("planted", "threads-ring", *how, *words, status=(status,), code=self.code)
 
     def changes(self, told: str, stops: list[tuple[int, int]]) -> list[list[int]]:
         """Which words of the ring had changed at each stop. The handler found that the thread stood at `come`, with the

@@ -9,7 +9,7 @@ crates/e9tool/out/e9tool of this repository, the one in PATH, or the unproved on
 
 With --threads e9tool's `threads` is called, with `form:loader` if the table would get too long: the program may have
 threads, and nothing recorded is lost. The files are PROGRAM.threads-cover.patched, or with --count
-PROGRAM.threads.patched, with --ring PROGRAM.threads-ring.patched (of 256 or 65,536 slots, of which the last N are
+PROGRAM.threads.patched, with --ring PROGRAM.threads-ring.patched (of 65,536 slots, of which the last N are
 told), with --when PROGRAM.threads-cover-when.patched or PROGRAM.threads-count-when.patched, and so on.
 
 The exit status is 0 if each chosen block is patched, 1 if some were left, and 2 if something is refused.

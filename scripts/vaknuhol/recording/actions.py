@@ -16,7 +16,7 @@ import re
 from collections.abc import Callable, Mapping, Sequence
 
 MOST_SLOTS, HIGHEST = 65536, (1 << 31) - 1
-SHARED_SLOTS = (256, MOST_SLOTS)  # the lengths of rings that threads can share
+SHARED_SLOTS = MOST_SLOTS  # of a ring that threads share, so that others don't fill it before a crash is seen
 REGISTERS = ("rax", "rcx", "rdx", "rbx", "rsp", "rbp", "rsi", "rdi", *(f"r{number}" for number in range(8, 16)))
 SIGNS: dict[str, Callable[[int, int], bool]] = {"==": operator.eq, "!=": operator.ne, "<": operator.lt,
                                                 "<=": operator.le, ">": operator.gt, ">=": operator.ge}
@@ -101,8 +101,8 @@ class Ring(Action):
         self.slots, self.name = int(slots), f"ring:{slots}"
 
     def patched(self, for_threads: bool) -> "Ring":
-        """Threads share a ring that may be longer, of which the last ones are told."""
-        return Ring(str(next(slots for slots in SHARED_SLOTS if self.slots <= slots))) if for_threads else self
+        """Threads share the longest ring, of which the last ones are told."""
+        return Ring(str(SHARED_SLOTS)) if for_threads else self
 
     def length(self, sites: int) -> int:
         return 4 + 4 * self.slots

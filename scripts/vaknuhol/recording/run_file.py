@@ -11,6 +11,7 @@ from collections.abc import Iterator
 
 from vaknuhol.outputs import write_whole
 from vaknuhol.recording.actions import MOST_COMPARISONS, REGISTERS, SIGNS, Action
+from vaknuhol.recording.call_frames import rules_of
 from vaknuhol.recording.event_undo import undo_of
 from vaknuhol.recording.original_headers import told_to_original
 from vaknuhol.recording.patch_files import Run, RunFiles
@@ -18,12 +19,12 @@ from vaknuhol.recording.patch_report import SCRATCH, Report, outcome_counts
 from vaknuhol.recording.record_file import FOR_THREADS, NOT_KNOWN, line_of
 from vaknuhol.recording.thread_use import MEANT, SHARING
 
-MARK, ENDING, PAGE = b"vakrun 5\n", "run", 4096
+MARK, ENDING, PAGE = b"vakrun 6\n", "run", 4096
 FRONT = struct.Struct("<16s512s")
-BODY = struct.Struct(f"<128s512s10I6Q{MOST_COMPARISONS * 'IIQ'}80s")
+BODY = struct.Struct(f"<128s512s11I4x6Q{MOST_COMPARISONS * 'IIQ'}80s")
 COVER, COUNT, RING = range(3)
 LEFT, PLAIN, NOWHERE = 0xFFFFFFFF, 0xFFFFFFFF, 0xFFFFFFFE
-MOST_TRAMPOLINE, ROW_BYTES, TRAMP_BYTES = 128, 8, 12
+MOST_TRAMPOLINE, ROW_BYTES, TRAMP_BYTES, RULE_BYTES = 128, 8, 12, 24
 THREAD = ("warning: the program starts a thread: its record may have too few events, "
           f"and since {SHARING}, it may go wrong or crash")
 
@@ -93,15 +94,16 @@ def table_of(report: Report, run: Run, patched: str) -> bytes:
     kind = RING if action.is_ring else COUNT if action.adds else COVER
     tramps = rows_of_tramps(tramps_of(report))
     undo, comparisons, (rows, lines) = undo_of(action, report.for_threads), comparisons_of(action), rows_of(report, run)
+    rules = rules_of(patched) if action.is_ring and report.for_threads else b""
     warning = "" if report.for_threads else f"{THREAD}; {MEANT}"
     numbers = [kind, report.for_threads, action.slots, run.action.slots, report.sites(), len(undo),
-               len(comparisons), len(rows) // ROW_BYTES, len(tramps) // TRAMP_BYTES, len(lines), report.private,
-               -(-(SCRATCH + length) // PAGE) * PAGE, length,
+               len(comparisons), len(rows) // ROW_BYTES, len(tramps) // TRAMP_BYTES, len(rules) // RULE_BYTES,
+               len(lines), report.private, -(-(SCRATCH + length) // PAGE) * PAGE, length,
                *told_to_original(report, patched)]
     for comparison in (*comparisons, *[(0, 0, 0)] * (MOST_COMPARISONS - len(comparisons))):
         numbers += comparison
     body = BODY.pack(left_line(report, run).encode(), warning.encode(), *numbers, undo)
-    return b"".join((front_of(report, run), body, rows, tramps, lines.encode()))
+    return b"".join((front_of(report, run), body, rows, tramps, rules, lines.encode()))
 
 
 def kept_table(files: RunFiles, report: Report, run: Run) -> str:

@@ -63,10 +63,11 @@ def warn_of_threads(program: Program, listing: Listing) -> None:
 
 def thread_notes(record: Record) -> Iterator[str]:
     """A line on what threads may have lost, where they may have; a byte that cover sets stays. In a ring for them an
-    event may be unfinished where the process didn't end by itself."""
+    event may be unfinished where the process didn't end by itself, and where one crashed the runner has cut it."""
     if record.threads and not record.for_threads and (record.action.is_ring or record.action.adds):
         yield f"several threads wrote this record, and what two do at once may be lost: {MEANT}"
     if record.threads and record.for_threads and any(not history.is_exit() for history in record.histories):
-        yield ("several threads wrote this ring: the others go on while a signal ends one, so what that did last may "
-               "stand further up, or be gone; where one was ended between claiming a slot and filling it, an older "
-               "event or none stands there")
+        yield ("several threads wrote this ring: where the runner saw one crash, the last row is the block in which "
+               "that stood, or if it isn't patched the last one of its function or of what called that, and what came "
+               "after is not shown; where one was ended between claiming a slot and filling it, an older event or none "
+               "stands there")

@@ -1,5 +1,4 @@
-/* Threads that work without an end, until another one crashes as the first word says, or the program ends in another way. In each function all the work is
-   done before a thread comes to the next one.
+/* Threads that work without an end, until another one crashes as the first word says, or the program ends in another way.
    usage: crashing [filtered | forked] HOW [EVENTS]
    filtered: it begins again first, with a filter on system calls. forked: in a child, for which the first process waits; with EVENTS it stays then. With
    `late`, and with `both`, which has two crashes, no thread works: the runner is stopped before, and goes on after so many calls of `work`. */

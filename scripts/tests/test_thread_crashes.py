@@ -4,6 +4,7 @@ import bisect
 import functools
 import os
 import signal
+import struct
 import subprocess
 from collections.abc import Callable
 
@@ -14,6 +15,7 @@ from tests.command import call, changed
 from tests.needs import left_out
 from tests.programs import Programs, inside
 from tests.stand_ins import comes
+from vaknuhol.program.program_file import read_bytes
 from vaknuhol.recording.record_file import History, Record
 from vaknuhol.recording.record_folder import paths_in
 
@@ -176,6 +178,25 @@ def test_a_child_that_crashes_has_its_crash_in_the_record_while_its_parent_runs_
         it.send_signal(signal.SIGTERM)
     child, first = crashing.record().histories
     assert (child.ended, first.ended) == ("signal 11", "signal 15") and crashing.functions(child)[-1] == "fetch"
+
+
+def test_of_a_program_without_sections_a_crash_outside_of_what_is_patched_is_not_found(programs):
+    """Then all rows are there. One in its block is found."""
+    programs.bring("crashing", "crashing.c", "-pthread")
+    lines = (line.split() for line in run("nm", "--defined-only", "crashing").splitlines())
+    at = {name: int(place, 16) for place, _, name in lines}
+    data = bytearray(read_bytes("crashing"))
+    struct.pack_into("<Q", data, 40, 0)
+    struct.pack_into("<HHH", data, 58, 0, 0, 0)
+    with open("crashing", "wb") as file:
+        file.write(data)
+    words = ["ring", str(ASKED), "crashing", "--blocks", "--within", f"{at['work']:x}-{at['main']:x}", "--threads"]
+    for how, number in (("null", signal.SIGSEGV), ("abort", signal.SIGABRT)):
+        call(*words, "--record", "record", "--", how, status=128 + number)
+        (history,) = Record("record").histories
+        rows = [row.first for row in history.rows if row]
+        assert len(rows) == ASKED or how == "null" and rows == [at["fetch"]]
+        assert (rows[-1] == at["fetch"]) == (how == "null")
 
 
 def test_the_command_shows_the_crash_last(programs):

@@ -23,9 +23,9 @@ WELL, THREADS, SHORT, LONG = 7, 4, 256, 65536
 FULL, MORE, MOST = SHORT // THREADS, SHORT // THREADS + 1, LONG // THREADS + 1
 POINTS = (0, 8, 9, 12, 20, 25, 34, 37, 48, 56, 58, 59)  # where each instruction of a ring's event begins
 UNFINISHED = (
-    "several threads wrote this ring: where the runner saw one crash, the last row is the block in which that stood, "
-    "or if it isn't patched the last one of its function or of what called that, and what came after is not shown; "
-    "where one was ended between claiming a slot and filling it, an older event or none stands there\n"
+    "several threads wrote this ring: where the runner saw one crash, it ends with the block in which that stood, as "
+    "any of them executed it last, or if it isn't patched with its function or what called that; where one was ended "
+    "between claiming a slot and filling it, an older event or none stands there\n"
 )
 
 

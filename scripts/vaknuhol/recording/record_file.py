@@ -13,7 +13,7 @@
 
 A block has its first address, its end, its site, and its count; in its place stands the site's outcome where the block
 was left (`-` in records that tell no more). The record of a ring has a line for each event of each process in place of
-these, oldest first:
+these, oldest first; where threads share it and one crashes, up to the block where that stood:
 
     left 2 NoPlan 1 Shared 1
                             how many blocks were left, and with which outcomes of their sites

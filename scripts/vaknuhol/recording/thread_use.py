@@ -67,7 +67,6 @@ def thread_notes(record: Record) -> Iterator[str]:
     if record.threads and not record.for_threads and (record.action.is_ring or record.action.adds):
         yield f"several threads wrote this record, and what two do at once may be lost: {MEANT}"
     if record.threads and record.for_threads and any(not history.is_exit() for history in record.histories):
-        yield ("several threads wrote this ring: where the runner saw one crash, the last row is the block in which "
-               "that stood, or if it isn't patched the last one of its function or of what called that, and what came "
-               "after is not shown; where one was ended between claiming a slot and filling it, an older event or none "
-               "stands there")
+        yield ("several threads wrote this ring: where the runner saw one crash, it ends with the block in which that "
+               "stood, as any of them executed it last, or if it isn't patched with its function or what called that; "
+               "where one was ended between claiming a slot and filling it, an older event or none stands there")

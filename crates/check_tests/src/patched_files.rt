@@ -265,8 +265,8 @@ fn judged(alloc: Global, case: &Case) -> Result<Option<Told>, AllocError> {
 
 #[test]
 fn files_are_judged(rt: HostRuntime) -> Result<(), Fail> {
-    for case in CASES {
-        assert_eq!(rt; judged(rt.alloc(), &case)?, Some(case.2));
+    for case in &CASES {
+        assert_eq!(rt; judged(rt.alloc(), case)?, Some(case.2));
     }
     Ok(())
 }

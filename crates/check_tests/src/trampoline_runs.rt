@@ -243,9 +243,9 @@ fn agrees(alloc: Global, row: Row, recorded: Recorded) -> Result<bool, Fail> {
 
 #[test]
 fn trampolines_do_the_work(rt: HostRuntime) -> Result<(), Fail> {
-    for recorded in EVENTS {
-        for row in ROWS {
-            assert!(rt; agrees(rt.alloc(), row, recorded)?, "{}", row.0);
+    for recorded in &EVENTS {
+        for row in &ROWS {
+            assert!(rt; agrees(rt.alloc(), *row, *recorded)?, "{}", row.0);
         }
     }
     Ok(())

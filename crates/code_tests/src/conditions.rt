@@ -25,7 +25,7 @@ const OPERATORS: [(CompareOp, [bool; 4]); 6] = [
 
 #[test]
 fn operators(rt: HostRuntime) {
-    for (op, [below, at, above, high]) in OPERATORS {
+    for &(op, [below, at, above, high]) in &OPERATORS {
         for value in [0u32, 5, 0x7FFF_FFFF] {
             let x = u64::from(value);
             if value != 0 {
@@ -56,7 +56,7 @@ const THREE: [([u32; 3], bool); 4] = [
 #[test]
 fn one_of_three_fails(rt: HostRuntime) {
     let regs = [0, 1, 2, 3, 4, 5, 6, 7, 8, 9, 10, 11, 12, 13, 14, 15];
-    for ([rax, rsp, r15], want) in THREE {
+    for &([rax, rsp, r15], want) in &THREE {
         let is = |reg, value| Comparison {
             reg,
             op: CompareOp::Eq,

@@ -117,7 +117,7 @@ const ROWS: [Row; 8] = [
 
 #[test]
 fn whole_trampolines(rt: HostRuntime) {
-    for (bytes, from, place, action, want) in ROWS {
+    for &(bytes, from, place, action, want) in &ROWS {
         assert!(rt;
             is_code(trampoline_of(bytes, from, place, 0, action), want, false),
             "{bytes:?}"
@@ -165,7 +165,7 @@ const EVENTS: [(Action, u32); 6] = [
 
 #[test]
 fn sizes(rt: HostRuntime) {
-    for (action, size) in EVENTS {
+    for &(action, size) in &EVENTS {
         assert_eq!(rt; event_size(action), size);
     }
     assert_eq!(rt; counting_size(&[0x90]), Some(42));

@@ -1,15 +1,14 @@
 //! Files that are patched for guests of several threads, judged.
-ghost use Rattle.std.specs.Prelude.{◌<◌, length};
+ghost use Rattle.std.specs.Prelude.{◌<◌, length, IfSome};
 ghost use Rattle.pun_base.specs.Actions.{IsAction};
 ghost use Rattle.site_turns.specs.Modes.{IsShared};
 
-use crate::rewritten_files::{CODE, COVER, JUMP, START, VICTIMS, reported, reported_jump};
+use crate::rewritten_files::{CODE, COVER, JUMP, START, VICTIMS, patched, patched_jump};
 use elf_read::elf::{read_elf, read_written};
 use elf_read::writing::plain_file;
 use image_check::verdict::Verdict;
 use patch_report::report::Report;
 use pun_base::action::Action;
-use pun_base::memory_desk::MemDesk;
 use start_entries::starts::{Starts, ascend};
 use std::alloc::{AllocError, Global};
 use std::test::Fail;
@@ -61,23 +60,38 @@ pub(crate) fn are_refused(
     requires shared { IsShared action }
     requires some { 0 < length code.now }
 {
-    let mut desk = MemDesk::new(alloc, &[])?;
-    let report = reported_jump(alloc, action, &mut desk).ok_or("reported")?;
-    let written = desk.get("O").ok_or("held")?;
-    let mut codes = written.windows(code.len());
-    let start = codes.position(|bytes| bytes == code).ok_or("code")?;
-    let unchanged = verdict(alloc, &JUMP, &START, written, None, &report)?;
+    let (written, report) = patched_jump(alloc, action)?;
+    let start = place_of(&written, code).ok_or("code")?;
+    let unchanged = verdict(alloc, &JUMP, &START, &written, None, &report)?;
     let mut are_told = report.action() == action && unchanged == Some(Verdict::Yes);
-    for (place, value, addr) in changes {
-        let change = Some((start + usize::from(*place), *value));
-        let found = verdict(alloc, &JUMP, &START, written, change, &report)?;
-        let broken = Verdict::No {
-            addr: *addr,
-            rule: 4,
-        };
-        are_told = are_told && found == Some(broken);
+    for change in changes {
+        are_told = are_told && is_broken(alloc, &written, &report, start, *change)?;
     }
     Ok(are_told)
+}
+
+/// Whether the patched jump breaks rule 4 with one byte changed of the code that starts here.
+fn is_broken(
+    alloc: Global,
+    written: &[u8],
+    report: &Report,
+    start: usize,
+    change: (u8, u8, u64),
+) -> Result<bool, AllocError>
+    requires inside { start < length written.now }
+{
+    let (place, value, addr) = change;
+    let change = Some((start + usize::from(place), value));
+    let found = verdict(alloc, &JUMP, &START, written, change, report)?;
+    Ok(found == Some(Verdict::No { addr, rule: 4 }))
+}
+
+/// Where the first bytes equal to the code are.
+fn place_of(bytes: &[u8], code: &[u8]) -> Option<usize>
+    requires some { 0 < length code.now }
+    ensures inside { IfSome result (λ at. at < length bytes.now) }
+{
+    bytes.windows(code.len()).position(|window| window == code)
 }
 
 #[test]
@@ -85,11 +99,9 @@ fn changed_bytes(rt: HostRuntime) -> Result<(), Fail> {
     let changes = [(0, 0x49, 0x240_1005)];
     let in_code = are_refused(rt.alloc(), Action::Count, &CODE, &changes)?;
     assert!(rt; in_code);
-    let mut desk = MemDesk::new(rt.alloc(), &[])?;
-    let report = reported_jump(rt.alloc(), Action::Count, &mut desk).ok_or("reported")?;
-    let written = desk.get("O").ok_or("held")?;
+    let (written, report) = patched_jump(rt.alloc(), Action::Count)?;
     let change = Some((0x1000, 0xEB));
-    let found = verdict(rt.alloc(), &JUMP, &START, written, change, &report)?;
+    let found = verdict(rt.alloc(), &JUMP, &START, &written, change, &report)?;
     let broken = Verdict::No {
         addr: 0x40_1000,
         rule: 2,
@@ -110,28 +122,15 @@ fn changed_bytes_where_events_cover(rt: HostRuntime) -> Result<(), Fail> {
 /// A site by T2 and one by T3 pass; a changed byte of the victim's code doesn't.
 #[test]
 fn sites_with_victims_are_judged(rt: HostRuntime) -> Result<(), Fail> {
-    for (text, starts, _, _, (beside, victim)) in VICTIMS {
-        let mut desk = MemDesk::new(rt.alloc(), &[])?;
-        let found = reported(
-            rt.alloc(),
-            text,
-            starts,
-            &[0x40_1000],
-            Action::Count,
-            &mut desk,
-        );
-        let report = found.ok_or("reported")?;
-        let written = desk.get("O").ok_or("held")?;
-        let mut codes = written.windows(12);
-        let code = codes
-            .position(|bytes| bytes == victim.as_slice())
-            .ok_or("code")?;
+    for &(text, starts, _, _, (beside, victim)) in &VICTIMS {
+        let (written, report) = patched(rt.alloc(), text, starts, Action::Count)?;
+        let code = place_of(&written, victim.as_slice()).ok_or("code")?;
         let broken = Verdict::No {
             addr: u64::from(beside),
             rule: 4,
         };
         for (change, told) in [(None, Verdict::Yes), (Some((code, 0x49)), broken)] {
-            let found = verdict(rt.alloc(), text, starts, written, change, &report)?;
+            let found = verdict(rt.alloc(), text, starts, &written, change, &report)?;
             assert!(rt; found == Some(told));
         }
     }

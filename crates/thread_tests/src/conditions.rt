@@ -3,10 +3,10 @@ ghost use Rattle.pun_base.specs.Actions.{IsAction};
 ghost use Rattle.site_turns.specs.Modes.{IsShared};
 
 use crate::checked_files::{are_refused, verdict};
-use crate::rewritten_files::{JUMP, START, reported_jump};
+use crate::rewritten_files::{JUMP, START, patched_jump};
 use image_check::verdict::Verdict;
 use pun_base::action::{Action, Base, CompareOp, Comparison, Comparisons};
-use pun_base::memory_desk::MemDesk;
+use std::alloc::Global;
 use std::test::Fail;
 
 /// Counts where rax is 5.
@@ -41,28 +41,34 @@ fn changed_bytes_of_a_comparison(rt: HostRuntime) -> Result<(), Fail> {
     Ok(())
 }
 
+/// The verdict on the file that is patched with one action, by the report of the patch with another.
+fn judged(alloc: Global, of_code: Action, of_report: Action) -> Result<Option<Verdict>, Fail>
+    requires action_of_code { IsAction of_code }
+    requires shared_of_code { IsShared of_code }
+    requires action_of_report { IsAction of_report }
+    requires shared_of_report { IsShared of_report }
+{
+    let (written, _) = patched_jump(alloc, of_code)?;
+    let (_, report) = patched_jump(alloc, of_report)?;
+    let found = verdict(alloc, &JUMP, &START, &written, None, &report)?;
+    Ok(found)
+}
+
 /// Where the report tells a condition, code that counts always is refused, at the first byte of the comparison; so is code under a condition where the
 /// report tells none.
 #[test]
 fn codes_of_another_condition(rt: HostRuntime) -> Result<(), Fail> {
-    let mut always = MemDesk::new(rt.alloc(), &[])?;
-    let mut under = MemDesk::new(rt.alloc(), &[])?;
-    let counts = reported_jump(rt.alloc(), Action::Count, &mut always).ok_or("reported")?;
-    let compares = reported_jump(rt.alloc(), where_rax_is_5(), &mut under).ok_or("reported")?;
-    let counting = always.get("O").ok_or("held")?;
-    let comparing = under.get("O").ok_or("held")?;
     let refused = Verdict::No {
         addr: 0x240_1011,
         rule: 4,
     };
-    for (written, report, told) in [
-        (counting, &counts, Verdict::Yes),
-        (comparing, &compares, Verdict::Yes),
-        (counting, &compares, refused),
-        (comparing, &counts, refused),
-    ] {
-        let found = verdict(rt.alloc(), &JUMP, &START, written, None, report)?;
-        assert!(rt; found == Some(told));
-    }
+    let counting = judged(rt.alloc(), Action::Count, Action::Count)?;
+    assert!(rt; counting == Some(Verdict::Yes));
+    let comparing = judged(rt.alloc(), where_rax_is_5(), where_rax_is_5())?;
+    assert!(rt; comparing == Some(Verdict::Yes));
+    let untold = judged(rt.alloc(), where_rax_is_5(), Action::Count)?;
+    assert!(rt; untold == Some(refused));
+    let unmade = judged(rt.alloc(), Action::Count, where_rax_is_5())?;
+    assert!(rt; unmade == Some(refused));
     Ok(())
 }

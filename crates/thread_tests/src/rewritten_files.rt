@@ -49,7 +49,7 @@ pub(crate) fn rewritten<D: Desk>(
 }
 
 /// The report of such a patch with the events of an action, if it was written.
-pub(crate) fn reported<D: Desk>(
+fn reported<D: Desk>(
     alloc: Global,
     text: &[u8],
     starts: &[u32],
@@ -71,13 +71,28 @@ pub(crate) const JUMP: [u8; 5] = [0xEB, 0xFE, 0, 0, 2];
 /// The only start of such a text, and its only site.
 pub(crate) const START: [u32; 1] = [0x40_1000];
 
-/// The report of a patch of the jump to itself with the events of an action, if it was written.
-pub(crate) fn reported_jump<D: Desk>(alloc: Global, action: Action, desk: &mut D) -> Option<Report>
+/// The file that such a patch of the jump to itself writes, and its report.
+pub(crate) fn patched_jump(alloc: Global, action: Action) -> Result<(Vec<u8>, Report), Fail>
     requires action { IsAction action }
     requires shared { IsShared action }
-    requires nothing { (D.seen desk.old).writing ≡ None }
 {
-    reported(alloc, &JUMP, &START, &START, action, desk)
+    patched(alloc, &JUMP, &START, action)
+}
+
+/// The file that a patch of a text at 0x401000 writes, and its report.
+pub(crate) fn patched(
+    alloc: Global,
+    text: &[u8],
+    starts: &[u32],
+    action: Action,
+) -> Result<(Vec<u8>, Report), Fail>
+    requires action { IsAction action }
+    requires shared { IsShared action }
+{
+    let mut desk = MemDesk::new(alloc, &[])?;
+    let report = reported(alloc, text, starts, &START, action, &mut desk).ok_or("reported")?;
+    let written = desk.get("O").ok_or("held")?.to_vec(alloc)?;
+    Ok((written, report))
 }
 
 /// The report of such a patch in the loader form, if it was written.
@@ -177,8 +192,8 @@ fn jump_to_itself_in_loader_form(rt: HostRuntime) -> Result<(), Fail> {
 
 #[test]
 fn report_of_jump_to_itself(rt: HostRuntime) -> Result<(), Fail> {
-    let mut desk = MemDesk::new(rt.alloc(), &[])?;
-    let report = reported_jump(rt.alloc(), Action::Count, &mut desk).ok_or("reported")?;
+    let (written, report) = patched_jump(rt.alloc(), Action::Count)?;
+    assert!(rt; !written.is_empty());
     assert!(rt; report.action() == Action::Count);
     assert!(rt; report.private().lo == 0x2_0000 && report.private().hi == 0x2_1000);
     assert!(rt; only_place(report.rows()) == Some((0x240_1005, 0)));
@@ -189,7 +204,6 @@ fn report_of_jump_to_itself(rt: HostRuntime) -> Result<(), Fail> {
         entry: 0x40_1000,
     };
     assert!(rt; report.origin() == Some(original));
-    assert!(rt; desk.get("O").is_some());
     Ok(())
 }
 
@@ -200,11 +214,9 @@ pub(crate) const COVER: [u8; 13] = [
 
 #[test]
 fn cover_of_jump_to_itself(rt: HostRuntime) -> Result<(), Fail> {
-    let mut desk = MemDesk::new(rt.alloc(), &[])?;
-    let report = reported_jump(rt.alloc(), Action::Cover, &mut desk).ok_or("reported")?;
+    let (written, report) = patched_jump(rt.alloc(), Action::Cover)?;
     assert!(rt; report.action() == Action::Cover);
     assert!(rt; only_place(report.rows()) == Some((0x240_1005, 0)));
-    let written = desk.get("O").ok_or("held")?;
     assert!(rt; written.windows(13).any(|bytes| bytes == COVER.as_slice()));
     Ok(())
 }
@@ -271,7 +283,7 @@ pub(crate) const VICTIMS: [WithVictim; 2] = [
 
 #[test]
 fn sites_with_victims(rt: HostRuntime) -> Result<(), Fail> {
-    for (text, starts, scheme, (place, code), (beside, victim)) in VICTIMS {
+    for &(text, starts, scheme, (place, code), (beside, victim)) in &VICTIMS {
         let mut desk = MemDesk::new(rt.alloc(), &[])?;
         let found = rewritten(rt.alloc(), text, starts, &[0x40_1000], &mut desk).ok_or("read")?;
         let report = found.ok().ok_or("rewritten")?;

@@ -80,7 +80,7 @@ const ROWS: [Row; 5] = [
 
 #[test]
 fn codes(rt: HostRuntime) {
-    for (bytes, place, work) in ROWS {
+    for &(bytes, place, work) in &ROWS {
         assert!(rt; works(built(bytes, place), &EVENT, work));
     }
 }

@@ -62,7 +62,7 @@ fn range(ends: (u32, u32)) -> Option<Range> {
 #[test]
 fn searches(rt: HostRuntime) -> Result<(), Fail> {
     let space = Space::new(rt.alloc(), &TAKEN)?;
-    for (lo, hi, step, size, avoid, found) in SEARCHES {
+    for &(lo, hi, step, size, avoid, found) in &SEARCHES {
         let (step, size) = (step.max(1), size.max(1));
         assert_eq!(rt;
             space.least_fit_step(lo, hi, step, size, range(avoid)),
@@ -90,7 +90,7 @@ const NEAR_SEARCHES: [(i64, i64, u64, u64, u32, Option<u32>); 8] = [
 #[test]
 fn searches_near_steps(rt: HostRuntime) -> Result<(), Fail> {
     let space = Space::new(rt.alloc(), &TAKEN)?;
-    for (lo, hi, step, width, size, found) in NEAR_SEARCHES {
+    for &(lo, hi, step, width, size, found) in &NEAR_SEARCHES {
         let (step, width) = (step.clamp(1, 1 << 32), width.clamp(1, 0x20000));
         assert_eq!(rt;
             space.least_fit_near(lo, hi, step, width, size.max(1)),
@@ -118,7 +118,7 @@ const MARKED_DISTANCES: [(i64, i64, u32, usize, usize); 11] = [
 #[test]
 fn marks_free_places(rt: HostRuntime) -> Result<(), Fail> {
     let space = Space::new(rt.alloc(), &TAKEN)?;
-    for (lo, hi, size, from, next) in MARKED_DISTANCES {
+    for &(lo, hi, size, from, next) in &MARKED_DISTANCES {
         let mut words = [0; 4];
         space.mark_places(lo, hi, 256, size.max(1), &mut words);
         assert_eq!(rt; next_marked(&words, from.min(256), 256), next);
@@ -148,7 +148,7 @@ fn taken(
 #[test]
 fn what_is_taken_is_no_longer_free(rt: HostRuntime) -> Result<(), Fail> {
     let mut space = Space::new(rt.alloc(), &TAKEN)?;
-    for (lo, hi, size, found) in TURNS {
+    for &(lo, hi, size, found) in &TURNS {
         assert_eq!(rt; taken(&mut space, rt.alloc(), lo, hi, size)?, found);
     }
     Ok(())

@@ -142,7 +142,7 @@ const RANDOM_GROUPS: [&str; 18] = [
 #[test]
 fn random_pieces_have_their_groups(rt: HostRuntime) -> Result<(), Fail> {
     let mut state = 1;
-    for line in RANDOM_GROUPS {
+    for line in &RANDOM_GROUPS {
         for digits in line.split(' ') {
             let pieces = random_pieces(rt.alloc(), &mut state)?;
             assert!(rt; ascend(&pieces));

@@ -397,13 +397,20 @@ fn worked(rt: HostRuntime) -> Result<(), Fail> {
     let pages = [(0x2_1000, 0)];
     assert_eq!(rt; report.action(), Action::Cover);
     assert_eq!(rt; report.private(), private);
-    assert_eq!(rt; report.row_count(), 1);
-    assert_eq!(rt; report.row(0), Some(&worked_row()));
-    assert_eq!(rt; report.row(1), None);
-    assert_eq!(rt; report.row_of(0x40_1000), Some(&worked_row()));
-    assert_eq!(rt; report.row_of(0x40_1005), None);
     assert_eq!(rt; report.pages(), pages.as_slice());
     assert_eq!(rt; report.origin(), None);
+    Ok(())
+}
+
+#[test]
+fn worked_rows(rt: HostRuntime) -> Result<(), Fail> {
+    let report = read(rt.alloc(), WORKED.as_bytes())?;
+    let row = worked_row();
+    assert_eq!(rt; report.row_count(), 1);
+    assert_eq!(rt; report.row(0), Some(&row));
+    assert_eq!(rt; report.row(1), None);
+    assert_eq!(rt; report.row_of(0x40_1000), Some(&row));
+    assert_eq!(rt; report.row_of(0x40_1005), None);
     Ok(())
 }
 
@@ -426,6 +433,12 @@ fn original(rt: HostRuntime) -> Result<(), Fail> {
     assert_eq!(rt; report.action(), Action::Cover);
     assert_eq!(rt; report.row_count(), 1);
     assert_eq!(rt; report.row(0), Some(&worked_row()));
+    Ok(())
+}
+
+/// The widest numbers of an origin, and a site that shares bytes.
+#[test]
+fn widest_original(rt: HostRuntime) -> Result<(), Fail> {
     let shared = read(rt.alloc(), SHARED.as_bytes())?;
     let widest = Origin {
         len: 18_446_744_073_709_551_615,
@@ -479,12 +492,17 @@ fn actions(rt: HostRuntime) -> Result<(), Fail> {
     let (front, back) = WORKED.split_once("cover").unwrap_or(("", ""));
     for (word, action) in action_words() {
         let text = format!(in rt.alloc(); "{front}{word}{back}")?;
-        let report = read(rt.alloc(), text.as_bytes())?;
-        assert_eq!(rt; report.action(), action, "{word}");
-        let printed = report.print(rt.alloc())?;
+        let (read, printed) = read_and_printed(rt.alloc(), text.as_bytes())?;
+        assert_eq!(rt; read, action, "{word}");
         assert_eq!(rt; printed.as_slice(), text.as_bytes(), "{word}");
     }
     Ok(())
+}
+
+/// The action of a report, and its text again.
+fn read_and_printed(alloc: Global, text: &[u8]) -> Result<(Action, Vec<u8>), Fail> {
+    let report = read(alloc, text)?;
+    Ok((report.action(), report.print(alloc)?))
 }
 
 /// A report that was read prints its own text.

@@ -208,7 +208,7 @@ const NO_ACTIONS: [&str; 40] = [
 
 #[test]
 fn no_actions(rt: HostRuntime) {
-    for word in NO_ACTIONS {
+    for word in &NO_ACTIONS {
         assert_eq!(rt; read_action(word), None, "{word}");
     }
 }

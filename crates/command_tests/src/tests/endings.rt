@@ -179,7 +179,7 @@ fn failed_ending(alloc: Global, call: Option<DeskCall>, n: u64) -> Result<Ending
 #[test]
 fn failing_calls_end_the_patch(rt: HostRuntime) -> Result<(), Fail> {
     let written = written_file(rt.alloc())?;
-    for (call, n, status, line, out, report) in FAILURES {
+    for &(call, n, status, line, out, report) in &FAILURES {
         let end = failed_ending(rt.alloc(), call, n)?;
         assert_eq!(rt; end.status, status, "{line}");
         assert_eq!(rt; end.sink.bytes(), line.as_bytes());

@@ -74,7 +74,7 @@ const LINES: [&[u8]; 3] = [
 #[test]
 fn long_input_ends_the_reads(rt: HostRuntime) -> Result<(), Fail> {
     let mut words = Vec::new(rt.alloc());
-    for word in COVER {
+    for word in &COVER {
         words.push(String::from_str(rt.alloc(), word)?)?;
     }
     for (place, line) in (1_u8..).zip(LINES) {

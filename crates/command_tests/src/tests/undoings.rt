@@ -66,7 +66,7 @@ fn failed_ending(alloc: Global, call: Option<DeskCall>, n: u64) -> Result<Ending
 #[test]
 fn failing_calls_end_the_undoing(rt: HostRuntime) -> Result<(), Fail> {
     let original = plain_file(rt.alloc(), &MOV)?;
-    for (call, n, status, line, new) in FAILURES {
+    for &(call, n, status, line, new) in &FAILURES {
         let end = failed_ending(rt.alloc(), call, n)?;
         assert_eq!(rt; end.status, status, "{line}");
         assert_eq!(rt; end.sink.bytes(), line.as_bytes());

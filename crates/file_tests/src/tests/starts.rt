@@ -134,7 +134,7 @@ fn built(
 
 #[test]
 fn entries_of_starts(rt: HostRuntime) -> Result<(), Fail> {
-    for (text, zeros, distances, wanted) in ACCEPTED {
+    for &(text, zeros, distances, wanted) in &ACCEPTED {
         let answer = built(rt.alloc(), text, zeros, distances)?;
         assert!(rt; answer.is_ok(), "{distances:?}");
         if let Ok(starts) = answer {
@@ -162,7 +162,7 @@ fn entries_of_starts(rt: HostRuntime) -> Result<(), Fail> {
 
 #[test]
 fn starts_that_share_bytes(rt: HostRuntime) -> Result<(), Fail> {
-    for (text, distances, wanted) in SHARED {
+    for &(text, distances, wanted) in &SHARED {
         let answer = built(rt.alloc(), text, 0, distances)?;
         assert!(rt; answer.is_ok(), "{distances:?}");
         if let Ok(starts) = answer {
@@ -186,7 +186,7 @@ fn told(error: &StartError) -> [u32; 2] {
 
 #[test]
 fn first_refusals(rt: HostRuntime) -> Result<(), Fail> {
-    for (text, zeros, distances, wanted) in REFUSED {
+    for &(text, zeros, distances, wanted) in &REFUSED {
         match built(rt.alloc(), text, zeros, distances)? {
             Ok(_) => assert!(rt; false, "{distances:?}"),
             Err(error) => assert_eq!(rt; told(&error), wanted),
@@ -213,7 +213,7 @@ fn starts_by_address(rt: HostRuntime) -> Result<(), Fail> {
     let answer = built(rt.alloc(), EVEX, 0, &[0, 3, 9])?;
     assert!(rt; answer.is_ok());
     if let Ok(starts) = answer {
-        for (addr, here, above) in LOOKED_UP {
+        for &(addr, here, above) in &LOOKED_UP {
             assert_eq!(rt; starts.at(addr).map(|entry| entry.addr), here);
             assert_eq!(rt; starts.next_after(addr).map(|entry| entry.addr), above);
         }

@@ -117,7 +117,7 @@ fn listed(parts: &Parts) -> [u16; 11] {
 
 #[test]
 fn parts_of_instructions(rt: HostRuntime) {
-    for (bytes, want) in PARTS {
+    for &(bytes, want) in &PARTS {
         if let Shape::Known(parts) = decode(bytes) {
             assert_eq!(rt; listed(&parts), want);
         } else {
@@ -128,13 +128,13 @@ fn parts_of_instructions(rt: HostRuntime) {
 
 #[test]
 fn worked_lengths(rt: HostRuntime) {
-    for (bytes, len) in LENGTHS {
+    for &(bytes, len) in &LENGTHS {
         assert_eq!(rt; length_of(bytes), Some(len));
     }
-    for bytes in UNKNOWN {
+    for bytes in &UNKNOWN {
         assert!(rt; decode(bytes) == Shape::Unknown);
     }
-    for bytes in SHORT {
+    for bytes in &SHORT {
         assert!(rt; decode(bytes) == Shape::Short);
     }
 }

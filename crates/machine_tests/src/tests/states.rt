@@ -7,7 +7,7 @@ use cpu_state::script_regions::{Region, RegionBody, Regions};
 use cpu_state::state::State;
 use cpu_state::world::{Answer, Entries, Entry, MemWrite, MemWrites, Question};
 use pun_base::byte_list::ByteList;
-use std::alloc::Global;
+use std::alloc::{AllocError, Global};
 use std::test::Fail;
 
 /// Code at 0x1000, data at 0x2000 with four zeros, constants at 0x3000, and both ends of the addresses.
@@ -47,7 +47,7 @@ const LOADS: [(u64, u8, Result<u64, NoByte>); 8] = [
 #[test]
 fn loads(rt: HostRuntime) -> Result<(), Fail> {
     let state = state(memory(rt.alloc())?, 0);
-    for (addr, size, expected) in LOADS {
+    for &(addr, size, expected) in &LOADS {
         assert!(rt; state.load(addr, size) == expected, "at {addr:x}");
     }
     Ok(())
@@ -89,7 +89,7 @@ const MET: [(u64, u64, u64); 6] = [
 #[test]
 fn regions_meet(rt: HostRuntime) -> Result<(), Fail> {
     let mut memory = memory(rt.alloc())?;
-    for (lo, zeros, least) in MET {
+    for &(lo, zeros, least) in &MET {
         assert!(rt;
             memory.add(rt.alloc(), lo, 6, &[], zeros) == Err(AddError::Meets { lo: least }),
             "at {lo:x}"
@@ -103,11 +103,25 @@ fn regions_meet(rt: HostRuntime) -> Result<(), Fail> {
     Ok(())
 }
 
-#[test]
-fn lists_give_back_what_they_hold(rt: HostRuntime) -> Result<(), Fail> {
-    let alloc = rt.alloc();
+/// A list of one write of two bytes.
+fn two_bytes_written(alloc: Global) -> Result<MemWrites, AllocError> {
     let bytes = PageList::from_vec(vec![in alloc; 1, 2]?);
-    let writes = MemWrites::from_vec(vec![in alloc; MemWrite { addr: 9, bytes }]?);
+    Ok(MemWrites::from_vec(vec![in alloc; MemWrite { addr: 9, bytes }]?))
+}
+
+#[test]
+fn writes_give_back_what_they_hold(rt: HostRuntime) -> Result<(), Fail> {
+    let writes = two_bytes_written(rt.alloc())?;
+    assert_eq!(rt; writes.as_slice().len(), 1);
+    let write = writes.into_vec().pop().expect(&rt, "a write");
+    assert_eq!(rt; write.bytes.as_slice(), [1, 2].as_slice());
+    assert_eq!(rt; write.bytes.into_vec().as_slice(), [1, 2].as_slice());
+    Ok(())
+}
+
+#[test]
+fn entries_give_back_what_they_hold(rt: HostRuntime) -> Result<(), Fail> {
+    let alloc = rt.alloc();
     let question = Question {
         bytes: ByteList::from_slice(&[0x0f, 0x05]),
         addr: None,
@@ -117,16 +131,18 @@ fn lists_give_back_what_they_hold(rt: HostRuntime) -> Result<(), Fail> {
         flags: None,
         fs: None,
         gs: None,
-        writes,
+        writes: two_bytes_written(alloc)?,
     };
     let entries = Entries::from_vec(vec![in alloc; Entry { question, answer }]?);
     assert_eq!(rt; entries.as_slice().len(), 1);
     let entry = entries.into_vec().pop().expect(&rt, "an entry");
     assert_eq!(rt; entry.answer.writes.as_slice().len(), 1);
-    let write = entry.answer.writes.into_vec().pop().expect(&rt, "a write");
-    assert_eq!(rt; write.bytes.as_slice(), [1, 2].as_slice());
-    assert_eq!(rt; write.bytes.into_vec().as_slice(), [1, 2].as_slice());
-    let regions = Regions::from_vec(vec![in alloc;
+    Ok(())
+}
+
+#[test]
+fn regions_give_back_what_they_hold(rt: HostRuntime) -> Result<(), Fail> {
+    let regions = Regions::from_vec(vec![in rt.alloc();
         Region {
             lo: 0,
             perms: 4,
@@ -135,7 +151,12 @@ fn lists_give_back_what_they_hold(rt: HostRuntime) -> Result<(), Fail> {
     ]?);
     assert_eq!(rt; regions.as_slice().len(), 1);
     assert_eq!(rt; regions.into_vec().len(), 1);
-    let script = Script::zero(alloc);
+    Ok(())
+}
+
+#[test]
+fn zero_script(rt: HostRuntime) -> Result<(), Fail> {
+    let script = Script::zero(rt.alloc());
     assert_eq!(rt; script.flags, 2);
     assert_eq!(rt; script.world.entries.as_slice().len(), 0);
     Ok(())

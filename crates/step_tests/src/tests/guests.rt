@@ -123,7 +123,7 @@ fn text_of(file: &[u8]) -> &[u8] {
 
 #[test]
 fn drafts(rt: HostRuntime) -> Result<(), Fail> {
-    for row in ROWS {
+    for row in &ROWS {
         let is_allowed = row.blocks >= 1 && row.blocks <= 20_000;
         assert!(rt; is_allowed);
         let guest = generate(rt.alloc(), row.seed, row.blocks)?;
@@ -163,7 +163,7 @@ const BLOCKS: [(&[u8], usize); 16] = [
 /// Of eight blocks each is of its kind, and a jump of five bytes stands behind them.
 #[test]
 fn kinds(rt: HostRuntime) -> Result<(), Fail> {
-    for row in ROWS {
+    for row in &ROWS {
         let guest = generate(rt.alloc(), row.seed, 8)?;
         let mut at = 0x1001_usize;
         for kind in row.kinds {

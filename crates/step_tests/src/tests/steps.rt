@@ -122,7 +122,7 @@ const STEPS: [(&[u8], u64, usize, u64); 30] = [
 
 #[test]
 fn operations(rt: HostRuntime) -> Result<(), Fail> {
-    for (code, rip, place, number) in STEPS {
+    for &(code, rip, place, number) in &STEPS {
         let mut state = state(rt.alloc(), code)?;
         assert!(rt; step(&mut state, None).is_ok(), "{code:?}");
         assert!(rt; state.rip == rip, "{code:?}: rip {:x}", state.rip);
@@ -147,7 +147,7 @@ const FLAG_STEPS: [(&[u8], u64, u64, u64, u64); 7] = [
 
 #[test]
 fn flags(rt: HostRuntime) -> Result<(), Fail> {
-    for (code, ax, before, after, then) in FLAG_STEPS {
+    for &(code, ax, before, after, then) in &FLAG_STEPS {
         let mut state = state(rt.alloc(), code)?;
         state.regs[0] = ax;
         state.flags = cpu_alu::unpack(before);
@@ -187,7 +187,7 @@ fn same(list: &[(u64, u8)], expected: Option<(u64, u8)>) -> bool {
 
 #[test]
 fn accesses(rt: HostRuntime) -> Result<(), Fail> {
-    for (code, read, write) in ACCESSES {
+    for &(code, read, write) in &ACCESSES {
         let mut state = state(rt.alloc(), code)?;
         let Ok(info) = step(&mut state, None) else {
             assert!(rt; false, "{code:?}");
@@ -231,12 +231,15 @@ const STOPS: [(&[u8], u64, Stop); 10] = [
 
 #[test]
 fn stops(rt: HostRuntime) -> Result<(), Fail> {
-    for (code, rip, stop) in STOPS {
+    for (code, rip, stop) in &STOPS {
         let mut state = state(rt.alloc(), code)?;
-        state.rip = rip;
+        state.rip = *rip;
         let core = state.core();
-        assert!(rt; step(&mut state, None) == Err(stop), "{code:?}");
-        assert!(rt; state.core() == core && state.rip == rip, "{code:?}");
+        assert!(rt;
+            step(&mut state, None).err().as_ref() == Some(stop),
+            "{code:?}"
+        );
+        assert!(rt; state.core() == core && state.rip == *rip, "{code:?}");
     }
     Ok(())
 }

@@ -137,6 +137,8 @@ fn entries_give_back_what_they_hold(rt: HostRuntime) -> Result<(), Fail> {
     assert_eq!(rt; entries.as_slice().len(), 1);
     let entry = entries.into_vec().pop().expect(&rt, "an entry");
     assert_eq!(rt; entry.answer.writes.as_slice().len(), 1);
+    let write = entry.answer.writes.into_vec().pop().expect(&rt, "a write");
+    assert_eq!(rt; write.bytes.as_slice(), [1, 2].as_slice());
     Ok(())
 }
 

@@ -1,9 +1,9 @@
 #!/usr/bin/env python3
 """Random turns over starts that share bytes, with the first admissible plan of each scheme.
 
-A line has the words of crates/turn_tests/src/schemes/given.rt, a digit for each start that is 1 where it shares bytes,
-and, where the site shares none, what the five schemes answer. The lines of `sharing_turns.py 2026 victim=80 punned=60
-other=40 site=20` are the modules shared_victims, shared_puns, shared_neighbours and shared_sites beside that file.
+A line has the seven words of crates/turn_tests/src/schemes/given.rt, a digit for each start that is 1 where it shares bytes,
+and, where the site shares none, what the five schemes answer: the program of that crate reads `turn` and the seven, and
+prints the others. The lines of `sharing_turns.py 2026 victim=80 punned=60 other=40 site=20` are among those of its stdin.
 """
 import argparse
 import itertools

@@ -81,8 +81,8 @@ INSTALLED = {
     "catatonit": ("/usr/bin/catatonit", ["--", "/bin/echo", "started"]), "ldconfig": ("/sbin/ldconfig", ["-p"]),
 }
 SIZES = re.compile(r"([0-9]+) instructions?, ([0-9]+) blocks?")
-NOT_CODE = re.compile(r"against: ([0-9]+) bytes? \(.*of the text (?:may be no code|are data)")
-UNLISTED = re.compile(r"against: ([0-9]+) executed instructions?")
+NOT_CODE = re.compile(r"obstacle: ([0-9]+) bytes? \(.*of the text (?:may be no code|are data)")
+UNLISTED = re.compile(r"obstacle: ([0-9]+) executed instructions?")
 PATCHED = re.compile(r"patched ([0-9]+) of ([0-9]+)")
 
 
@@ -183,7 +183,7 @@ def try_case(case: Case, top: str, steps: int) -> Row:
     if fault:
         return Row(case.name, [fault], False)
     if "image" in case.words:
-        subprocess.run(["/sbin/mke2fs", "-q", "-F", "image", "512"], cwd=folder, check=True, stdin=subprocess.DEVNULL)
+        subprocess.run(["/sbin/mke2fs", "-q", "-F", "image", "512"], cwd=folder, check=True, stdin=subprocess.DEVNULL, stdout=subprocess.DEVNULL)
     cells, is_fault = stepped(case, folder, steps)
     if len(cells) > 1:
         status, output, _ = call(["./program", *case.words], folder)
@@ -225,4 +225,5 @@ def main() -> None:
     sys.exit(bool(wrong))
 
 
-main()
+if __name__ == "__main__":
+    main()

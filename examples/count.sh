@@ -1,7 +1,6 @@
 #!/bin/sh
-# Counts how often each block of a small C program is executed, by the command vaknuhol. fib(12) makes 465 calls of fib, and the
-# last line says so.
-needs="gcc objdump python3"
+# Counts how often each block and each line of a small C program is executed, by the command vaknuhol, and shows it. On a new machine
+# this does all the set-up first: what it needs, e9tool. fib(12) makes 465 calls of fib, and the last line says so.
 . "$(dirname "$0")/begin.sh"
 
 cat > numbers.c <<'C'
@@ -20,10 +19,12 @@ int main(void) {
   return 0;
 }
 C
+stage "gcc -g -O1 -fno-inline -static -no-pie -o numbers numbers.c"
 gcc -g -O1 -fno-inline -static -no-pie -o numbers numbers.c
 
+stage "vaknuhol count ./numbers (its first call in a checkout compiles what it runs)"
 "$vaknuhol" count ./numbers
-echo "--- the blocks of fib: first address, executions, site, function and line"
+stage "vaknuhol report numbers --table: the blocks of fib: first address, executions, site, function and line"
 "$vaknuhol" report numbers --table | grep ' fib '
-echo "--- the block with which fib begins: 465 executions"
+stage "the block with which fib begins: 465 executions"
 "$vaknuhol" report numbers --table | grep ' fib ' | head -n 1 | awk '{ print $2 }'

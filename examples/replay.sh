@@ -2,7 +2,6 @@
 # Checks on a real run what the theorem requires, and what it promises: records the run on this processor, instruction by
 # instruction, and repeats it by the step relation, with the original and with the patched file. The last three lines say that the
 # premises held at each step, that processor and model agree, and that both files look alike. In a checkout it also needs libzydis-dev.
-needs="gcc objdump python3"
 . "$(dirname "$0")/begin.sh"
 
 cat > small.c <<'C'

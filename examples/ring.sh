@@ -2,7 +2,6 @@
 # Shows what a program executed last before it crashed: it sums up a list of four orders, is asked for five, and reads a null
 # pointer after the list's end. The last lines are the last eight executions of blocks, oldest first; the very last is the line
 # of `worth` at which it crashed.
-needs="gcc objdump python3"
 . "$(dirname "$0")/begin.sh"
 
 cat > orders.c <<'C'
@@ -30,5 +29,5 @@ C
 gcc -g -O1 -fno-inline -static -no-pie -o orders orders.c
 
 "$vaknuhol" ring 8 ./orders --quiet && ended=0 || ended=$?
-echo "--- it ended with $ended (139 is SIGSEGV); its last executions, oldest first"
+stage "it ended with $ended (139 is SIGSEGV); its last executions, oldest first"
 "$vaknuhol" report orders

@@ -1,6 +1,5 @@
 #!/bin/sh
 # Counts in a program with four threads, each of which calls `work` 1,000 times: no count is lost, so the last line is 4000.
-needs="gcc objdump python3"
 . "$(dirname "$0")/begin.sh"
 
 cat > four.c <<'C'
@@ -29,7 +28,7 @@ C
 gcc -g -O1 -fno-inline -static -no-pie -o four four.c
 
 "$vaknuhol" count ./four --threads
-echo "--- first address, executions, site, function and line"
+stage "first address, executions, site, function and line"
 "$vaknuhol" report four --table | tee table
-echo "--- the block with which work begins, of four threads"
+stage "the block with which work begins, of four threads"
 grep ' work ' table | head -n 1 | awk '{ print $2 }'

@@ -1,24 +1,17 @@
 #!/bin/sh
 # Tries the package in a bare Debian 12, where nothing else of this system is: package_in_bare_debian.sh [E9TOOL]. The package and its
 # source are built (package.sh) and read by lintian; then debian/tests run in a root folder that debootstrap makes, where apt installs
-# the package with what it depends on, from $MIRROR. Root alone can do that; the status is 0 where all of it goes well.
+# the package with what it depends on. Root alone can do that; the status is 0 where all of it goes well.
 set -eu
-top=$(cd "$(dirname "$0")/.." && pwd)
-fail() { echo "package_in_bare_debian.sh: $*" >&2; exit 1; }
-[ "$(id -u)" = 0 ] || fail "root alone can install a system"
-for name in debootstrap autopkgtest lintian; do
-    command -v "$name" > /dev/null || fail "needs $name (package $name)"
-done
+needs="autopkgtest lintian"
+. "$(dirname "$0")/bare_debian.sh"
 
-folder=$(mktemp -d)
 root=$folder/root
-trap '! mountpoint -q "$root/proc" || umount "$root/proc"; rm -rf --one-file-system "$folder"' EXIT
-chmod 755 "$folder"
 deb=$("$top/scripts/package.sh" --source "${1:-$top/crates/e9tool/out/e9tool}" "$folder/built")
 lintian --allow-root --fail-on error,warning "$folder"/built/*.changes
 echo "lintian finds no error and no warning in $(cd "$folder/built" && echo *)"
 
-debootstrap --variant=minbase bookworm "$root" "${MIRROR:-http://deb.debian.org/debian}" > "$folder/log" || { cat "$folder/log"; exit 1; }
+bare_debian "$root"
 mount -t proc proc "$root/proc"
 mkdir "$folder/tree"
 cp -R "$top/debian" "$folder/tree/"

@@ -6,6 +6,7 @@ A link to what the package hasn't becomes its text; a row of a table goes where 
 so does the section of the README on how the package is made. Examples are linked where the package has them."""
 import os
 import re
+import shutil
 import sys
 
 LINK = re.compile(r"\[([^\[\]]+)\]\(([^)#]+)(#[^)]*)?\)")
@@ -53,11 +54,14 @@ def main() -> None:
     top, folder = sys.argv[1], sys.argv[2]
     pages = shipped(top)
     for page in sorted(page for page in pages if not page.startswith("examples/")):
+        os.makedirs(os.path.dirname(os.path.join(folder, page)), exist_ok=True)
+        if not page.endswith(".md"):
+            shutil.copyfile(os.path.join(top, page), os.path.join(folder, page))
+            continue
         with open(os.path.join(top, page), encoding="utf-8") as file:
             text = file.read()
-        os.makedirs(os.path.dirname(os.path.join(folder, page)), exist_ok=True)
         with open(os.path.join(folder, page), "w", encoding="utf-8") as file:
-            file.write(for_package(page, text, pages) if page.endswith(".md") else text)
+            file.write(for_package(page, text, pages))
 
 
 if __name__ == "__main__":

@@ -3,13 +3,15 @@
 
 Without arguments it tests that each edit has its lines: those of the gate `# clause:` (the function, its clause, what
 that says) and `# why:` (what would go wrong for a user); those of more-edits `# what:` (what it changes) and `# also:`
-(what else than the proof finds it). With names of crates, or --all, it prints the edits of the gate; with --more those
-of more-edits."""
+(what else than the proof finds it); and that the gate has no more edits than CONTRIBUTING.md allows, since each costs a
+check, and each crate of them a proof. With names of crates, or --all, it prints the edits of the gate; with --more
+those of more-edits."""
 import os
 import sys
 
 TOP = os.path.dirname(os.path.dirname(os.path.realpath(__file__)))
 GATE, MORE = ("clause", "why"), ("what", "also")
+MOST, MOST_CRATES, MOST_OF_A_CRATE = 110, 30, 4  # edits of the gate, crates with edits, edits of one crate
 
 
 def edits_of(crate: str, more: bool) -> list[str]:
@@ -40,6 +42,16 @@ def faults(more: bool) -> list[str]:
     return [f"{os.path.relpath(path, TOP)}: {wanted}" for path in found]
 
 
+def too_many() -> list[str]:
+    """Where the gate has more edits than it may have."""
+    counts = {crate: len(edits_of(crate, False)) for crate in crates_with(False)}
+    found = [f"crates/{crate}/must-fail: {count} edits, of {MOST_OF_A_CRATE} at most"
+             for crate, count in counts.items() if count > MOST_OF_A_CRATE]
+    if len(counts) > MOST_CRATES or sum(counts.values()) > MOST:
+        found.append(f"{sum(counts.values())} edits in {len(counts)} crates, of {MOST} in {MOST_CRATES} at most")
+    return found
+
+
 def show(crates: list[str], more: bool) -> None:
     for crate in crates:
         for path in edits_of(crate, more):
@@ -54,7 +66,7 @@ def main() -> None:
     crates = known if "--all" in words or words == ["--more"] else [word for word in words if not word.startswith("--")]
     if set(crates) - set(known) or set(words) - set(known) - {"--more", "--all"}:
         sys.exit(__doc__)
-    found = faults(False) + faults(True)
+    found = faults(False) + faults(True) + too_many()
     if crates:
         show(crates, more)
     elif not found:

@@ -1,12 +1,13 @@
 #!/usr/bin/env python3
 """Whether crates.txt, the heads of the crates and docs/develop/map.md agree.
 
-    layout.py [--layers | --above CRATE | --crate CRATE]
+    layout.py [--layers | --above CRATE | --chain [CRATE] | --crate CRATE]
 
 With --layers it prints the block of crates by layers that the map shows, made from crates.txt and the seconds that
 stand there; with --above what a change of the crate proves again, with these seconds and their sum, how many edits are
-tried again, and how long both take; with --crate the crate's head, its layer, what depends on it, its crate of tests,
-and the first line of each of its definition files."""
+tried again, and how long both take; with --chain the crates one above the other that take longest to prove, up to this
+one or of all, below which no number of processors brings a gate from nothing; with --crate the crate's head, its layer,
+what depends on it, its crate of tests, and the first line of each of its definition files."""
 import os
 import re
 import sys
@@ -15,7 +16,8 @@ import textwrap
 TOP = os.path.dirname(os.path.dirname(os.path.realpath(__file__)))
 MAP = "docs/develop/map.md"
 TITLE, WIDTH = 19, 150
-EDIT, PROCESSORS = 40, 4  # processor seconds of an edit, on average (docs/evidence/speed.md, The gate)
+# processor seconds of an edit, on average, beside a second proof of each crate with two or more (docs/evidence/speed.md, The gate)
+EDIT, PROCESSORS = 23, 4
 
 
 def read(path: str) -> str:
@@ -71,6 +73,15 @@ def layers() -> list[tuple[str, list[str]]]:
 def above(changed: str, crates: dict[str, list[str]]) -> list[str]:
     """What is proved again where a crate changes: the crate, and those that stand on it."""
     return [name for name in crates if name == changed or changed in below(name, crates)]
+
+
+def chain(last: str, crates: dict[str, list[str]], seconds: dict[str, int]) -> list[str]:
+    """The crates one above the other, up to this one, whose proofs take longest."""
+    found: dict[str, list[str]] = {}
+    for name, libraries in crates.items():
+        lower = [found[library] for library in libraries if library in crates]
+        found[name] = max(lower, key=lambda names: sum(seconds[below] for below in names), default=[]) + [name]
+    return found[last] if last else max(found.values(), key=lambda names: sum(seconds[name] for name in names))
 
 
 def seconds_in(page: str) -> dict[str, int]:
@@ -173,10 +184,14 @@ def answer(words: list[str], crates: dict[str, list[str]], seconds: dict[str, in
     elif len(words) == 2 and words[0] == "--above" and words[1] in crates:
         again = above(words[1], crates)
         total, tried = sum(seconds[name] for name in again), sum(edits(name) for name in again)
+        twice = sum(seconds[name] for name in again if edits(name) > 1)
         print(*(f"{name} {seconds[name]}" for name in again), sep="\n")
-        print(f"{len(again)} crates, {total} processor seconds; {tried} edits, some {EDIT} each")
-        minutes = (total + EDIT * tried) / PROCESSORS / 60
+        print(f"{len(again)} crates, {total} processor seconds; {tried} edits, some {EDIT} each, and {twice} for proofs before them")
+        minutes = (total + twice + EDIT * tried) / PROCESSORS / 60
         print(f"rt ci: some {minutes:.0f} minutes on {PROCESSORS} processors, and every test")
+    elif words[:1] == ["--chain"] and set(words[1:]) <= set(crates) and len(words) <= 2:
+        names = chain("".join(words[1:]), crates, seconds)
+        print(*(f"{name} {seconds[name]}" for name in names), f"{sum(seconds[name] for name in names)} seconds", sep="\n")
     elif len(words) == 2 and words[0] == "--crate" and words[1] in crates:
         print(*description(words[1], crates, seconds), sep="\n")
     else:

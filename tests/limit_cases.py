@@ -6,6 +6,7 @@ from typing import NamedTuple
 
 from limit_files import MOV, PAGE, TEXT, THREADS, Content, loaded, original, padded, patched, report, script, told_run
 from made_rows import Row, cover_event, file_of, most_sites, read, ring_event, run_rows
+from settled_rows import SETTLE, TINY, UNSETTLE, highest, settled
 
 # of an input in bytes; lines of STARTS; of SITES, and rows of a report; RESERVE words; steps; pages of a report
 MOST, STARTS, SITES, RESERVES, STEPS, PAGES = 1 << 28, 1 << 22, 1 << 16, 256, 10_000_000, 0x7FFF0
@@ -60,6 +61,9 @@ def longest_files() -> Iterator[Case]:
     yield from one_site(SHORT, LISTS, MOST)
     yield from judged(SHORT, LISTS, MOST - 3 * PAGE)
     inputs: Files = {"F": original(SHORT, MOST), "S": LISTS["S"], "W": script()}
+    file, base = padded(TINY, MOST - PAGE), highest(TINY)
+    commands = [Command(SETTLE, 0, b"settled %08x\n" % base), Command(UNSETTLE, 0, b"unsettled %d\n" % (MOST - PAGE))]
+    yield Case("settle and unsettle", {"F": file}, commands, {"O": padded(settled(TINY, base), MOST), "N": file})
     yield Case("step of the longest", inputs, [Command(STEP, 0, told_run(1, 2, TEXT + 5, 0x3C))])
 
 
@@ -68,6 +72,8 @@ INPUTS = [(words, {"F": "FILE", "S": "STARTS", "T": "SITES"}) for words in (PATC
     (CHECK, {"F": "FILE", "O": "OUT", "S": "STARTS", "R": "REPORT"}),
     (STEP, {"F": "FILE", "S": "STARTS", "W": "WORLD"}),
     (UNPATCH, {"O": "OUT", "R": "REPORT"}),
+    (SETTLE, {"F": "FILE"}),
+    (UNSETTLE, {"O": "FILE"}),
 ]
 
 
@@ -82,7 +88,8 @@ WITH_ZEROS = {"STARTS": "1 BadLine 4", "SITES": "1 BadLine 2", "REPORT": "1 BadR
 
 
 def longest_texts() -> Iterator[Case]:
-    """A text as long as an input may be is judged: zeros stand behind its last line. Of an input one byte longer the length is told."""
+    """A text as long as an input may be is judged: zeros stand behind its last line. Of an input one byte longer the length is told, and no
+    later input is read: there is none."""
     for words, names in INPUTS:
         files = {name: usual()[name] for name in names}
         for name, told in names.items():
@@ -90,7 +97,9 @@ def longest_texts() -> Iterator[Case]:
                 front = files[name]
                 assert isinstance(front, bytes)
                 yield refused(words, {**files, name: padded(front, MOST)}, f"{told} {WITH_ZEROS[told]}")
-            yield refused(words, {**files, name: padded(b"", MOST + 1)}, f"{told} 20 TooLong {MOST}")
+            before = words.split().index(name)
+            earlier = {it: content for it, content in files.items() if words.split().index(it) < before}
+            yield refused(words, {**earlier, name: padded(b"", MOST + 1)}, f"{told} 20 TooLong {MOST}")
 
 
 def most_starts() -> Iterator[Case]:

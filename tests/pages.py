@@ -4,7 +4,7 @@ and whether pages keep to their sizes.
 
 Links of pages, with their anchors; paths of pages (docs/..) in every tracked file; in pages also files of other
 folders, and sources of crates, with their folder or without. The facts are those of facts.txt. A page has at most 400
-lines of at most 160 columns, README 120, all together 2,400."""
+lines of at most 160 columns, README 120, all together 2,600."""
 import os
 import re
 import subprocess
@@ -12,7 +12,7 @@ import sys
 
 TOP = os.path.dirname(os.path.dirname(os.path.realpath(__file__)))
 FACTS = "tests/facts.txt"
-LINES, COLUMNS, README_LINES, ALL_LINES = 400, 160, 120, 2400
+LINES, COLUMNS, README_LINES, ALL_LINES = 400, 160, 120, 2600
 LINK = re.compile(r"\[[^\]]*\]\(([^)\s]+)\)")
 PAGE_PATH = re.compile(r"\bdocs/[\w./-]*\w")
 FILE_PATH = re.compile(r"`((?:scripts|tests|bench|native|examples|more-edits|bin|crates)/[\w./-]*\w)(?=[` ])")

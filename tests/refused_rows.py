@@ -87,6 +87,8 @@ def of_texts() -> Iterator[Row]:
 def of_plans() -> Iterator[Row]:
     for words in WRITERS:
         yield row(words, FILES, "PLAN 2 NoPrivate 1", " 00020000-7fff0000")
+        # of two sites that aren't listed the least is told, and neither that there is no room
+        yield row(words, {**FILES, "T": b"401001\n401002\n"}, "PLAN 1 NotListed 00401001", " 00020000-7fff0000")
         many = files_in("rows/table_of_1025_entries/before")
         yield row(words, many, f"EMIT 1 TooManySegments {1026 if words == LOAD else 1025}")
 

@@ -9,7 +9,7 @@ A row is a folder tests/rows/NAME:
   after/   the files that the command makes or changes; every other file stays, and there is no further one
   why      what the row shows, in a line, if its name doesn't say it
 
-Rows that a rule or a table makes are in made_rows.py, refused_rows.py and verdict_rows.py. The exit status is 1 if a row fails, and 2 if a
+Rows that a rule or a table makes are in the modules that GIVEN names. The exit status is 1 if a row fails, and 2 if a
 program or the named row is missing.
 """
 import argparse
@@ -20,10 +20,36 @@ import sys
 import tempfile
 from concurrent.futures import ThreadPoolExecutor
 
+from changed_rows import changed_files_rows
+from delivered_rows import delivered_rows
+from file_rows import file_rows
 from made_rows import TESTS, Row, files_in, made_rows, read
+from placed_rows import placed_rows
+from plan_rows import plan_rows
 from refused_rows import refused_rows
+from report_rows import report_rows
+from scripted_rows import scripted_rows
+from settled_rows import settled_rows
+from stepped_rows import stepped_rows
 from verdict_rows import verdict_rows
+from word_rows import word_rows
 
+# what makes rows by a rule or from a table
+GIVEN = (
+    made_rows,
+    changed_files_rows,
+    plan_rows,
+    refused_rows,
+    verdict_rows,
+    stepped_rows,
+    scripted_rows,
+    delivered_rows,
+    word_rows,
+    report_rows,
+    placed_rows,
+    file_rows,
+    settled_rows,
+)
 HANGS = 3600  # seconds: a command that takes longer has hung, however busy the machine is
 
 
@@ -84,7 +110,8 @@ def main():
     parser.add_argument("programs", metavar="PROGRAM", nargs="+", help="crates/e9tool/out/e9tool, say")
     parser.add_argument("--only", metavar="NAME", default="", help="only the rows whose names begin with NAME")
     asked = parser.parse_args()
-    rows = [read_row(name) for name in sorted(os.listdir(f"{TESTS}/rows"))] + [*made_rows(), *refused_rows(), *verdict_rows()]
+    rows = [read_row(name) for name in sorted(os.listdir(f"{TESTS}/rows"))]
+    rows += [row for rows_of in GIVEN for row in rows_of()]
     rows = [row for row in rows if row.name.startswith(asked.only)]
     missing = [it for it in asked.programs if not os.access(it, os.X_OK)]
     missing += [] if rows else [f"a row {asked.only}"]

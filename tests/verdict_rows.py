@@ -176,6 +176,8 @@ STOPS: list[tuple[str, bytes, bytes, str, int, int]] = [
     ("a byte to read is missing", b"\x8b\x04\x25\0\x20\x40\0", b"", "NoByte", 0x402000, 0),
     ("a byte to write is missing", b"\x89\x04\x25\0\x20\x40\0", b"", "NoByte", 0x402000, 0),
     ("a byte can't be written", b"\x89\x04\x25\0\x10\x40\0", b"", "NoByte", TEXT, 0),
+    ("a byte that is read can't be written", b"\x21\x04\x25\0\x10\x40\0", b"", "NoByte", TEXT, 0),
+    ("the last byte to read is missing", b"\x8b\x04\x25\x04\x10\x40\0", b"", "NoByte", TEXT + 7, 0),
     ("an answer writes a missing byte", CPUID, ANSWER + b"mem 0000000000402000 a5\n", "NoByte", 0x402000, 1),
     ("no answer", CPUID, b"", "WorldEmpty", TEXT, 0),
     ("no answer for flags", IMUL, b"", "WorldEmpty", TEXT, 0),

@@ -12,8 +12,9 @@ static int is_branch(const struct front *it, int reg) {
     int op = it->opcode;
     if (it->map == 2)
         return is_between(0x80, 0x8F, op);
-    return it->map == 1 && (is_between(0x70, 0x7F, op) || is_between(0xE0, 0xE3, op) || op == 0xE8 || op == 0xE9 || op == 0xEB ||
-                            op == 0xC2 || op == 0xC3 || (op == 0xFF && (reg == 2 || reg == 4)));
+    return it->map == 1
+           && (is_between(0x70, 0x7F, op) || is_between(0xE0, 0xE3, op) || op == 0xE8 || op == 0xE9 || op == 0xEB || op == 0xC2 || op == 0xC3
+               || (op == 0xFF && (reg == 2 || reg == 4)));
 }
 
 /* Whether an opcode ends a run, whatever its prefixes (docs/reference/formats.md, Classes of instructions). */
@@ -21,10 +22,10 @@ static int is_ending_opcode(const struct front *it, int reg) {
     int op = it->opcode;
     if (it->map == 2)
         return is_between(0x06, 0x09, op) || op == 0x0B || op == 0x30 || op == 0x32 || op == 0x34 || op == 0x35 || op == 0xAA;
-    return it->map == 1 && (is_between(0x6C, 0x6F, op) || is_between(0xCA, 0xCD, op) || op == 0xCF || is_between(0xE4, 0xE7, op) ||
-                            is_between(0xEC, 0xEF, op) || op == 0xF1 || op == 0xF4 || op == 0xFA || op == 0xFB ||
-                            ((op == 0xC6 || op == 0xC7) && reg != 0) || (op == 0xFE && reg > 1) ||
-                            (op == 0xFF && (reg == 3 || reg == 5 || reg == 7)));
+    return it->map == 1
+           && (is_between(0x6C, 0x6F, op) || is_between(0xCA, 0xCD, op) || op == 0xCF || is_between(0xE4, 0xE7, op) || is_between(0xEC, 0xEF, op) || op == 0xF1
+               || op == 0xF4 || op == 0xFA || op == 0xFB || ((op == 0xC6 || op == 0xC7) && reg != 0) || (op == 0xFE && reg > 1)
+               || (op == 0xFF && (reg == 3 || reg == 5 || reg == 7)));
 }
 
 static int is_ending(const struct decoded *insn) {
@@ -39,8 +40,8 @@ static int is_ending(const struct decoded *insn) {
         return 0;
     int is_plain_return = it.map == 1 && it.opcode == 0xC3 && it.repe && !it.lock;
     int is_indirect = it.map == 1 && it.opcode == 0xFF;
-    return ((it.lock || it.repne || it.repe) && !is_plain_return) || ((it.fs || it.gs) && !is_indirect) ||
-           (it.map == 1 && is_between(0xE0, 0xE2, it.opcode) && it.address_size);
+    return ((it.lock || it.repne || it.repe) && !is_plain_return) || ((it.fs || it.gs) && !is_indirect)
+           || (it.map == 1 && is_between(0xE0, 0xE2, it.opcode) && it.address_size);
 }
 
 /* LOCK INC of eight bytes at an address, and LOCK XADD of four with eax, which threads make in one step. */
@@ -59,8 +60,8 @@ enum work work_of(const struct decoded *insn) {
 /* How far below its operand's address an instruction writes that moves the stack pointer first. */
 static uint64_t below_stack(const struct decoded *insn, const ZydisDecodedOperand *operand) {
     ZydisMnemonic name = insn->insn.mnemonic;
-    int is_push = name == ZYDIS_MNEMONIC_PUSH || name == ZYDIS_MNEMONIC_PUSHF || name == ZYDIS_MNEMONIC_PUSHFQ ||
-                  name == ZYDIS_MNEMONIC_CALL || name == ZYDIS_MNEMONIC_ENTER;
+    int is_push = name == ZYDIS_MNEMONIC_PUSH || name == ZYDIS_MNEMONIC_PUSHF || name == ZYDIS_MNEMONIC_PUSHFQ || name == ZYDIS_MNEMONIC_CALL
+                  || name == ZYDIS_MNEMONIC_ENTER;
     int is_hidden = operand->visibility == ZYDIS_OPERAND_VISIBILITY_HIDDEN && operand->mem.base == ZYDIS_REGISTER_RSP;
     return is_push && is_hidden && operand->actions & ZYDIS_OPERAND_ACTION_MASK_WRITE ? operand->size / 8 : 0;
 }
@@ -78,14 +79,13 @@ static struct access access_of(const struct decoded *insn, const ZydisDecodedOpe
     if (repeats_string(insn) && insn->insn.mnemonic != ZYDIS_MNEMONIC_RET)
         turns = insn->insn.address_width == 32 ? (uint32_t)(before->rcx - after->rcx) : before->rcx - after->rcx;
     uint64_t down = turns && before->eflags >> 10 & 1 && turns > 1 ? size * (turns - 1) : 0;
-    struct access it = { addr - down, addr - down + (is_wide ? SAVED_STATE : size * turns), 0, 0, !may && !is_wide };
+    struct access it = {addr - down, addr - down + (is_wide ? SAVED_STATE : size * turns), 0, 0, !may && !is_wide};
     it.reads = (operand->actions & ZYDIS_OPERAND_ACTION_MASK_READ) != 0;
     it.writes = (operand->actions & ZYDIS_OPERAND_ACTION_MASK_WRITE) != 0;
     return it;
 }
 
-int accesses_of(const struct decoded *insn, struct user_regs_struct *before, const struct user_regs_struct *after,
-                struct access accesses[MOST_ACCESSES]) {
+int accesses_of(const struct decoded *insn, struct user_regs_struct *before, const struct user_regs_struct *after, struct access accesses[MOST_ACCESSES]) {
     int count = 0;
     for (int at = 0; at < insn->insn.operand_count && count < MOST_ACCESSES; at++) {
         const ZydisDecodedOperand *operand = &insn->operands[at];

@@ -1,12 +1,12 @@
 #include "facts.h"
 
-#include <elf.h>
 #include <stdio.h>
 #include <stdlib.h>
 #include <string.h>
 
+#include "file.h"
+#include "refusing.h"
 #include "spelling.h"
-#include "threads.h"
 
 enum { PAGE = 4096, PAGES = 1 << 18, MOST_SEGMENTS = 64, SCRATCH = 64, SAVED_FROM = 1 };
 
@@ -16,7 +16,7 @@ static struct {
 } pages[PAGES];
 static struct {
     uint64_t lo, hi;
-    uint8_t *bytes;
+    const uint8_t *bytes;
 } code[MOST_SEGMENTS];
 static int code_count;
 static struct site *sites;
@@ -33,9 +33,10 @@ static uint16_t *page_marks(uint64_t page, int made) {
             return pages[at].marks;
     if (!made)
         return 0;
-    if (tries > PAGES / 2 || !(pages[at].marks = calloc(PAGE, sizeof(uint16_t))))
+    if (tries > PAGES / 2)
         die("no memory");
     pages[at].page = page;
+    pages[at].marks = zeros(PAGE, sizeof(uint16_t));
     return pages[at].marks;
 }
 
@@ -44,9 +45,7 @@ unsigned marks_of(uint64_t addr) {
     return marks ? marks[addr % PAGE] : 0;
 }
 
-void set_marks(uint64_t addr, unsigned bits) {
-    page_marks(addr / PAGE, 1)[addr % PAGE] |= bits;
-}
+void set_marks(uint64_t addr, unsigned bits) { page_marks(addr / PAGE, 1)[addr % PAGE] |= bits; }
 
 /* The end of the page of an address, or an end before it. */
 static uint64_t page_end(uint64_t addr, uint64_t hi) {
@@ -83,29 +82,19 @@ struct site *site_at(uint64_t addr) {
     return count && sites[low].place <= addr && addr <= sites[low].place + sites[low].event ? &sites[low] : 0;
 }
 
-const struct told *told_to_original(void) {
-    return &told;
-}
+const struct told *told_to_original(void) { return &told; }
 
-const struct event *every_event(void) {
-    return &event;
-}
+const struct event *every_event(void) { return &event; }
 
 struct site *site_number(size_t number) {
     return &sites[number];
 }
 
-size_t site_count(void) {
-    return count;
-}
+size_t site_count(void) { return count; }
 
-uint64_t record_address(void) {
-    return private_at + SCRATCH;
-}
+uint64_t record_address(void) { return private_at + SCRATCH; }
 
-uint64_t mark_address(const struct site *site) {
-    return record_address() + site->number * event.size;
-}
+uint64_t mark_address(const struct site *site) { return record_address() + site->number * event.size; }
 
 int original_code(uint64_t addr, uint8_t bytes[LONGEST]) {
     for (int at = 0; at < code_count; at++)
@@ -119,28 +108,21 @@ int original_code(uint64_t addr, uint8_t bytes[LONGEST]) {
 
 /* The bytes that the file has of the segments that can be executed and not written. */
 static void read_original(const char *path) {
-    Elf64_Ehdr head;
-    Elf64_Phdr entry;
-    FILE *file = fopen(path, "r");
-    if (!file || fread(&head, sizeof head, 1, file) != 1)
+    struct elf elf;
+    if (!map_file(&elf.file, path, sizeof(Elf64_Ehdr)) || !find_tables(&elf))
         die("the original can't be read");
-    for (int at = 0; at < head.e_phnum && code_count < MOST_SEGMENTS; at++) {
-        if (fseek(file, (long)(head.e_phoff + at * sizeof entry), SEEK_SET) || fread(&entry, sizeof entry, 1, file) != 1)
-            die("the original can't be read");
-        if (entry.p_type != PT_LOAD || !(entry.p_flags & PF_X) || entry.p_flags & PF_W || !entry.p_filesz)
+    for (const Elf64_Phdr *it = elf.headers; it < elf.headers + elf.header_count && code_count < MOST_SEGMENTS; it++) {
+        if (it->p_type != PT_LOAD || !(it->p_flags & PF_X) || it->p_flags & PF_W || !it->p_filesz)
             continue;
-        uint8_t *bytes = malloc(entry.p_filesz);
-        if (!bytes || fseek(file, (long)entry.p_offset, SEEK_SET) || fread(bytes, entry.p_filesz, 1, file) != 1)
+        if (!is_in_file(&elf.file, it->p_offset, it->p_filesz))
             die("the original can't be read");
-        code[code_count].lo = entry.p_vaddr, code[code_count].hi = entry.p_vaddr + entry.p_filesz;
-        code[code_count++].bytes = bytes;
+        code[code_count].lo = it->p_vaddr, code[code_count].hi = it->p_vaddr + it->p_filesz;
+        code[code_count++].bytes = elf.file.bytes + it->p_offset;
     }
-    fclose(file);
 }
 
 static void add_site(struct site site) {
-    if (count == room && !(sites = realloc(sites, (room = 2 * room + 64) * sizeof *sites)))
-        die("no memory");
+    sites = room_for_one(sites, count, &room, sizeof *sites);
     sites[count++] = site;
     set_marks(site.addr, SITE);
     set_marks(site.place + site.event, WORK);
@@ -173,8 +155,7 @@ static int is_event_line(const char *line) {
     int at = event.comparison_count;
     if (sscanf(line, "event %lu %lu", &event.recorded, &event.size) == 2 || sscanf(line, "ring %lu %lu", &event.slots, &event.claimed) == 2)
         return 1;
-    if (at == MOST_COMPARISONS || sscanf(line, "when %d %d %lu", &event.comparisons[at].reg, &event.comparisons[at].sign,
-                                         &event.comparisons[at].value) != 3)
+    if (at == MOST_COMPARISONS || sscanf(line, "when %d %d %lu", &event.comparisons[at].reg, &event.comparisons[at].sign, &event.comparisons[at].value) != 3)
         return 0;
     event.comparison_count++;
     return 1;
@@ -189,18 +170,17 @@ void read_facts(const char *original, const char *facts) {
         die("the facts can't be read");
     read_original(original);
     while (fgets(line, sizeof line, file)) {
-        struct site site = { 0 };
+        struct site site = {0};
         if (sscanf(line, "start %lx", &lo) == 1) {
-            if (starts_count == starts_room && !(starts = realloc(starts, (starts_room = 2 * starts_room + 4096) * sizeof *starts)))
-                die("no memory");
+            starts = room_for_one(starts, starts_count, &starts_room, sizeof *starts);
             starts[starts_count++] = lo;
         } else if (sscanf(line, "new %lx %lx", &lo, &hi) == 2)
             for (; lo < hi; lo++)
                 set_marks(lo, NEW);
         else if (sscanf(line, "site %lx %lx %lu %lu", &site.addr, &site.place, &site.number, &site.event) == 4)
             add_site(site);
-        else if (!is_event_line(line) && sscanf(line, "private %lx", &private_at) != 1 &&
-                 sscanf(line, "told %lx %lu %lx", &told.headers_at, &told.header_count, &told.entry) != 3)
+        else if (!is_event_line(line) && sscanf(line, "private %lx", &private_at) != 1
+                 && sscanf(line, "told %lx %lu %lx", &told.headers_at, &told.header_count, &told.entry) != 3)
             die("the facts can't be read");
     }
     fclose(file);

@@ -2,8 +2,7 @@
    are stale. */
 #ifndef FACTS_H
 #define FACTS_H
-#include <stddef.h>
-#include <stdint.h>
+#include "process.h"
 
 /* What an address is: a listed start, one of known length, a byte of a listed instruction, a new address; the start of a patched site; code
    of an event, its first address where rax is saved, an address between save and restore; where relocated code begins; a stale byte. */
@@ -27,11 +26,6 @@ struct event {
    effect steps were made of it that are recorded, and how many threads ended before one. */
 struct site {
     uint64_t addr, place, number, event, effects, pending;
-};
-
-/* What the kernel tells the original of itself: where its program headers lie, how many they are, where it begins. */
-struct told {
-    uint64_t headers_at, header_count, entry;
 };
 
 /* Reads the original file and the facts, whose lines are: start ADDR; new LO HI; private ADDR; told HEADERS COUNT ENTRY; event RECORDED SIZE,

@@ -12,53 +12,40 @@ enum { RED_ZONE = 128, WORD = 8 };
 struct touched {
     enum work work;
     int count;
-    struct access accesses[MOST_ACCESSES];
+    struct access accesses[MOST_ACCESSES + MOST_READS];
 };
 
+static const char HERE[] = "before that step";
 struct judged judged;
-static ZydisDecoder decoder;
 
-void prepare_decoder(void) {
-    ZydisDecoderInit(&decoder, ZYDIS_MACHINE_MODE_LONG_64, ZYDIS_STACK_WIDTH_64);
+uint64_t saved_at(const struct user_regs_struct *regs) { return regs->rsp - RED_ZONE - saved_length(); }
+
+uint64_t saved_length(void) { return every_event()->slots ? 2 * WORD : WORD; }
+
+void limit_theorem(const char *limit) {
+    if (!judged.limit)
+        judged.limit = limit;
 }
 
-int decode_bytes(struct decoded *insn, uint64_t rip, const uint8_t *bytes, size_t size) {
-    memcpy(insn->bytes, bytes, size);
-    insn->rip = rip;
-    if (!size || ZYAN_FAILED(ZydisDecoderDecodeFull(&decoder, insn->bytes, size, &insn->insn, insn->operands)))
-        return 0;
-    insn->kind = class_of(insn->bytes, insn->insn.length, &insn->shifts);
-    return 1;
-}
-
-uint64_t saved_at(const struct user_regs_struct *regs) {
-    return regs->rsp - RED_ZONE - saved_length();
-}
-
-uint64_t saved_length(void) {
-    return every_event()->slots ? 2 * WORD : WORD;
-}
+/* Where a thread stands, in the original's addresses but in relocated code. */
+static uint64_t place_of(const struct thread *thread) { return thread->is_behind ? (uint64_t)thread->regs.rip : thread->projected; }
 
 int breaks(const struct thread *thread, const char *form, ...) {
     char what[160];
     va_list values;
     if (*judged.broken)
         return 0;
+    limit_theorem(HERE);
     va_start(values, form);
     vsnprintf(what, sizeof what, form, values);
     va_end(values);
-    snprintf(judged.broken, sizeof judged.broken, "step %lu, of thread %d, at %08lx, %s", judged.steps, thread->number,
-             thread->is_behind ? (uint64_t)thread->regs.rip : thread->projected, what);
+    snprintf(judged.broken, sizeof judged.broken, "step %lu, of thread %d, at %08lx, %s", judged.steps, thread->number, place_of(thread), what);
     return 0;
 }
 
-int is_outside(const struct thread *thread) {
-    return !thread->is_behind && thread->projected == thread->regs.rip && marks_of(thread->projected) & START;
-}
+int is_outside(const struct thread *thread) { return !thread->is_behind && thread->projected == thread->regs.rip && marks_of(thread->projected) & START; }
 
-static const char *kind_of(uint64_t addr) {
-    return marks_of(addr) & NEW ? "a new address, of the patch alone" : "a byte of a listed instruction";
-}
+static const char *kind_of(uint64_t addr) { return marks_of(addr) & NEW ? "a new address, of the patch alone" : "a byte of a listed instruction"; }
 
 static void note_unknown(int call) {
     for (int at = 0; at < judged.unknown_count; at++)
@@ -68,19 +55,45 @@ static void note_unknown(int call) {
         judged.unknown[judged.unknown_count++] = call;
 }
 
-/* A step whose answer may depend on what it reads. */
-static void note_answer(const struct thread *thread) {
-    if (!judged.noted++)
-        judged.noted_first = thread->is_behind ? (uint64_t)thread->regs.rip : thread->projected;
+/* What is read at a stale address. */
+static const char *stale_kind(void) {
+    return every_event()->slots ? "a stale byte: an event saved rax or flags there, and the program hasn't written it since"
+                                : "a stale byte: an event saved rax there, and the program hasn't written it since";
+}
+
+/* A step of this number asks the world, and reads what the original may have otherwise: so the answer may be another one there. */
+static void doubt(struct thread *thread, uint64_t step, uint64_t found, const char *kind) {
+    char how[32] = "";
+    if (thread->is_doubted)
+        return;
+    thread->is_doubted = 1;
+    limit_theorem(HERE);
+    if (judged.doubts++)
+        return;
+    if (is_syscall(&thread->insn))
+        snprintf(how, sizeof how, " by system call %d", (int)thread->call.regs.rax);
+    snprintf(judged.doubt, sizeof judged.doubt, "step %lu, of thread %d, at %08lx, asks the world%s and reads %08lx, %s", step, thread->number,
+             place_of(thread), how, found, kind);
+}
+
+void judge_call(struct thread *thread) {
+    for (int at = 0; at < thread->call.read_count; at++) {
+        const struct access *access = &thread->call.reads[at];
+        uint64_t found = first_marked(access->lo, access->hi, LISTED | NEW | STALE);
+        if (found < access->hi)
+            doubt(thread, judged.steps + 1, found, marks_of(found) & STALE ? stale_kind() : kind_of(found));
+    }
 }
 
 static struct touched touched_by(const struct decoded *insn, struct thread *thread, const struct user_regs_struct *after) {
-    struct touched it = { .work = work_of(insn) };
+    struct touched it = {.work = work_of(insn)};
     ZydisInstructionCategory category = insn->insn.meta.category;
     if (enters_kernel(insn)) {
         it.count = is_syscall(insn) ? answer_accesses(&thread->call, (int64_t)after->rax, it.accesses) : -1;
         if (it.count < 0)
-            note_unknown(is_syscall(insn) ? (int)thread->call.regs.rax : -1);
+            note_unknown(is_syscall(insn) ? (int)thread->call.regs.rax : -1), it.count = 0;
+        for (int at = 0; is_syscall(insn) && at < thread->call.read_count; at++)
+            it.accesses[it.count++] = thread->call.reads[at];
     } else if (category != ZYDIS_CATEGORY_NOP && category != ZYDIS_CATEGORY_WIDENOP)
         it.count = accesses_of(insn, &thread->regs, after, it.accesses);
     return it;
@@ -110,7 +123,7 @@ static int is_quiet(struct thread *thread, const struct touched *it) {
             continue;
         if (access->writes || it->work == EXACT)
             return breaks(thread, "%s %08lx, %s", access->writes ? "writes" : "reads", found, kind_of(found));
-        note_answer(thread);
+        doubt(thread, judged.steps, found, kind_of(found));
     }
     return 1;
 }
@@ -123,9 +136,8 @@ static int is_fresh(struct thread *thread, const struct touched *it) {
         if (found == access->hi)
             continue;
         if (it->work == EXACT)
-            return breaks(thread, "reads %lx, a stale byte: an event saved %s there, and the program hasn't written it since", found,
-                          every_event()->slots ? "rax or flags" : "rax");
-        note_answer(thread);
+            return breaks(thread, "reads %08lx, %s", found, stale_kind());
+        doubt(thread, judged.steps, found, stale_kind());
     }
     return 1;
 }
@@ -136,8 +148,8 @@ static int is_apart(struct thread *thread, const struct touched *it) {
         const struct access *access = &it->accesses[at];
         const struct thread *other = other_saved(thread, access->lo, access->hi);
         if (other && (access->writes || it->work == EXACT))
-            return breaks(thread, "%s saved bytes of thread %d, at %lx, while that stands in its event", access->writes ? "writes" : "reads",
-                          other->number, saved_at(&other->regs));
+            return breaks(thread, "%s saved bytes of thread %d, at %lx, while that stands in its event", access->writes ? "writes" : "reads", other->number,
+                          saved_at(&other->regs));
     }
     return 1;
 }
@@ -156,8 +168,8 @@ static void set_stale(const struct thread *thread, unsigned here, const struct t
 static int is_recorded(struct user_regs_struct regs) {
     const struct event *event = every_event();
     for (int at = 0; at < event->comparison_count; at++) {
-        uint64_t a = *slot(&regs, event->comparisons[at].reg), b = event->comparisons[at].value;
-        const int answers[] = { a == b, a != b, a < b, a <= b, a > b, a >= b };
+        uint64_t a = *register_of(&regs, event->comparisons[at].reg), b = event->comparisons[at].value;
+        const int answers[] = {a == b, a != b, a<b, a <= b, a> b, a >= b};
         if (!answers[event->comparisons[at].sign])
             return 0;
     }
@@ -215,7 +227,11 @@ int judge_step(struct thread *thread, struct user_regs_struct *after) {
     if (!is_well || !is_apart(thread, &made))
         return 0;
     set_stale(thread, here, &made);
-    return goes_on(thread, is_kept, is_work, after->rip);
+    if (!goes_on(thread, is_kept, is_work, after->rip))
+        return 0;
+    if (!judged.limit)
+        judged.covered = judged.steps;
+    return 1;
 }
 
 /* What a delivery or a thread's end writes leaves listed instructions, new addresses and other threads' saved bytes alone. */
@@ -246,7 +262,7 @@ int judge_entry(struct thread *thread, int number, uint64_t stack_pointer, const
     if (!leaves(thread, frame, frame_end(thread->tid, stack_pointer, frame), what))
         return 0;
     /* The frame's words that the kernel writes each time: up to the flags of the stack, from its size to the state's place, mask, info. */
-    const uint64_t parts[][2] = { { 0, 36 }, { 40, 240 }, { 304, 440 } };
+    const uint64_t parts[][2] = {{0, 36}, {40, 240}, {304, 440}};
     for (size_t at = 0; at < sizeof parts / sizeof *parts; at++)
         clear_marks(frame + parts[at][0], frame + parts[at][1], STALE);
     thread->projected = after->rip;
@@ -296,8 +312,8 @@ int judge_counters(void) {
         if (!site->event)
             continue;
         if (!read_memory(living(), mark_address(site), &told, every_event()->size) || told != (every_event()->size > 1 ? made : made > 0)) {
-            snprintf(judged.broken, sizeof judged.broken, "the record of the site at %08lx is %lu, but %lu came by it%s", site->addr, told,
-                     made, every_event()->comparison_count ? " with the condition met" : "");
+            snprintf(judged.broken, sizeof judged.broken, "the record of the site at %08lx is %lu, but %lu came by it%s", site->addr, told, made,
+                     every_event()->comparison_count ? " with the condition met" : "");
             return 0;
         }
     }

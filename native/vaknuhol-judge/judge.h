@@ -9,25 +9,28 @@ enum { MOST_UNKNOWN = 8 };
 
 struct judged {
     uint64_t steps, events, deliveries;
-    uint64_t noted;             /* steps whose answers may depend on stale bytes or listed instructions, which no premise is about */
-    uint64_t noted_first;       /* where the first of them is */
-    int unknown[MOST_UNKNOWN];  /* system calls of which it isn't known what they write */
+    uint64_t covered;          /* of how many steps, from the first one on, the theorem speaks */
+    const char *limit;         /* what comes behind them, if they aren't all */
+    uint64_t doubts;           /* steps whose answers may be others in the original's run, since they read what that has otherwise */
+    char doubt[256];           /* the first of them, in words */
+    int unknown[MOST_UNKNOWN]; /* system calls of which it isn't known what they read or write */
     int unknown_count;
-    char broken[256];           /* the premise that was broken first, in words */
+    char broken[256]; /* the premise that was broken first, in words */
 };
 
 extern struct judged judged;
-
-void prepare_decoder(void);
-
-/* Decodes bytes at an address; whether they are an instruction. */
-int decode_bytes(struct decoded *insn, uint64_t rip, const uint8_t *bytes, size_t size);
 
 /* A thread stands outside: at a listed start, at which it counts as standing. */
 int is_outside(const struct thread *thread);
 
 /* A thread begins, where its registers have it. */
 int judge_begin(struct thread *thread, int is_behind);
+
+/* The theorem doesn't speak of what comes now, unless it ended before. */
+void limit_theorem(const char *limit);
+
+/* A thread begins a system call, which reads memory as it is now. */
+void judge_call(struct thread *thread);
 
 /* A thread made its instruction and has these registers now; whether all premises held. */
 int judge_step(struct thread *thread, struct user_regs_struct *after);

@@ -3,9 +3,10 @@
 
    usage: vaknuhol-judge RESULT ORIGINAL FACTS LIMIT [--evex] PROGRAM [ARGUMENTS..]
 
-   RESULT gets lines: `steps`, `threads`, `events`, `deliveries`, `noted` (and where first), `unknown` (numbers of system calls), `end`
-   (exit N, signal N, exec, process, limit), `broken` (what broke a premise first) or `counters` (yes, gone, or which is wrong). FACTS is
-   as facts.h says. After LIMIT steps the program is ended. */
+   RESULT gets lines: `steps`, `threads`, `events`, `deliveries`, `covered` (of how many steps the theorem speaks, and what comes behind, if
+   they aren't all), `doubts` (how many steps may be answered otherwise in the original's run) and `doubt` (the first of them), `unknown`
+   (numbers of system calls), `end` (exit N, signal N, exec, process, limit), `broken` (what broke a premise first) or `counters` (yes, gone,
+   or which is wrong). FACTS is as facts.h says. After LIMIT steps the program is ended. */
 #define _GNU_SOURCE
 #include <errno.h>
 #include <sched.h>
@@ -18,13 +19,14 @@
 #include <ucontext.h>
 
 #include "judge.h"
+#include "refusing.h"
 
-enum { KNOWN_SIZE = 1 << 16, TRIES = 40, NO_CALL = 0xffff, LONGEST_TAIL = 12, IS_SHARED = 0x100, IS_THREAD = 0x10000, WAITS = 0x4000 };
+enum { TRIES = 40, LONGEST_TAIL = 12, IS_SHARED = 0x100, IS_THREAD = 0x10000 };
 
 /* ERESTARTSYS, ERESTARTNOINTR, ERESTARTNOHAND and ERESTART_RESTARTBLOCK of the kernel. */
 enum { RESTARTS = 512, RESTARTS_ALWAYS = 513, RESTARTS_UNHANDLED = 514, RESTARTS_REST = 516 };
 
-static struct decoded *known;
+const struct refusal refusal = {2, "no memory: %m"};
 static char ending[40];
 static int keeps_evex;
 
@@ -34,54 +36,19 @@ static int ends_by(const char *form, int number) {
     return 0;
 }
 
-static int is_over(void) {
-    return *ending || *judged.broken;
-}
-
-/* The instruction at which a thread stands, decoded once where it is one of the file's. */
-static int decode(struct thread *it) {
-    uint64_t rip = it->regs.rip;
-    struct decoded *insn = &known[(rip * 0x9e3779b97f4a7c15) >> 48];
-    uint8_t bytes[MOST_BYTES];
-    size_t size = MOST_BYTES;
-    if (insn->rip != rip || !insn->insn.length || !(marks_of(rip) & (LISTED | NEW))) {
-        while (size > 0 && !read_memory(it->tid, rip, bytes, size))
-            size--;
-        if (!decode_bytes(insn, rip, bytes, size)) {
-            insn->insn.length = 0;
-            return 0;
-        }
-    }
-    it->insn = *insn;
-    return 1;
-}
-
-/* What the trap flag and AVX-512 would show is put right, as a plain run has it. */
-static void put_right(const struct thread *it, struct user_regs_struct *after) {
-    ZydisMnemonic name = it->insn.insn.mnemonic;
-    if (name == ZYDIS_MNEMONIC_PUSHF || name == ZYDIS_MNEMONIC_PUSHFQ) {
-        uint16_t low;
-        if (read_memory(it->tid, after->rsp, &low, 2)) {
-            low &= ~TRAP_FLAG;
-            write_memory(it->tid, after->rsp, &low, 2);
-        }
-    } else if (name == ZYDIS_MNEMONIC_SYSCALL)
-        after->r11 = it->regs.eflags;
-    else if (name == ZYDIS_MNEMONIC_CPUID && !keeps_evex)
-        hide_evex(&it->regs, after);
-    else
-        return;
-    set_regs(it, after);
-}
+static int is_over(void) { return *ending || *judged.broken; }
 
 /* A thread that a call started stands where its parent does after the call. */
 static void begin_thread(struct thread *it, const struct thread *parent) {
-    get_regs(it, &it->regs);
+    get_regs(it->tid, &it->regs);
     it->regs.r11 &= ~(uint64_t)TRAP_FLAG;
-    set_regs(it, &it->regs);
+    set_regs(it->tid, &it->regs);
     it->clears = parent->call.args[0] & 0x200000 ? parent->call.args[2] : 0;
     it->state = READY;
-    judge_begin(it, (marks_of(parent->insn.rip) & WORK) != 0);
+    int is_inside = (marks_of(parent->insn.rip) & WORK) != 0;
+    if (is_inside)
+        limit_theorem("before a thread begins inside a trampoline");
+    judge_begin(it, is_inside);
 }
 
 /* Waits for the first stop of a thread that this one has started. */
@@ -117,7 +84,7 @@ static int is_interrupted(const struct user_regs_struct *after) {
 /* A thread has made its instruction, or a turn of it. */
 static void made(struct thread *it) {
     struct user_regs_struct after;
-    get_regs(it, &after);
+    get_regs(it->tid, &after);
     int may_stay = enters_kernel(&it->insn) || repeats_string(&it->insn);
     if (may_stay && after.rip == it->insn.rip) {
         step(it, 0);
@@ -135,7 +102,7 @@ static void made(struct thread *it) {
         step(it, 0);
         return;
     }
-    put_right(it, &after);
+    put_right(it->tid, &it->insn, &it->regs, &after, keeps_evex);
     if (is_syscall(&it->insn) && it->call.regs.rax == SYS_set_tid_address)
         it->clears = it->call.regs.rdi;
     finish_step(it, &after);
@@ -158,7 +125,7 @@ static void deliver(struct thread *it, const siginfo_t *info, int ends_call) {
         ends_by("signal %d", info->si_signo);
         return;
     }
-    get_regs(it, &after);
+    get_regs(it->tid, &after);
     if (ends_call && in_frame(it, &after, REG_RIP) != it->insn.rip) {
         struct user_regs_struct called = it->regs;
         called.rip = called.rcx = it->insn.rip + it->insn.insn.length;
@@ -192,8 +159,8 @@ static void take_signal(struct thread *it, int number) {
     siginfo_t info;
     struct user_regs_struct now;
     int is_default = number == SIGCHLD || number == SIGURG || number == SIGWINCH || number == SIGCONT;
-    int is_caught = is_signal_in("SigCgt", number);
-    if (!is_caught && (is_default || is_signal_in("SigIgn", number))) {
+    int is_caught = is_signal_in(living(), "\nSigCgt:", number);
+    if (!is_caught && (is_default || is_signal_in(living(), "\nSigIgn:", number))) {
         step(it, 0);
         return;
     }
@@ -205,7 +172,7 @@ static void take_signal(struct thread *it, int number) {
         ends_by("signal %d", number);
         return;
     }
-    get_regs(it, &now);
+    get_regs(it->tid, &now);
     int ends_call = is_syscall(&it->insn) && now.rip != it->insn.rip;
     if (is_outside(it) || ends_call || is_fault(&info))
         deliver(it, &info, ends_call);
@@ -258,16 +225,13 @@ static int take_stop(int waits) {
 static int may_call(struct thread *it) {
     const struct user_regs_struct *r = &it->regs;
     it->call = begin_call(it->tid, r);
+    judge_call(it);
     if (r->rax == SYS_exit_group || (r->rax == SYS_exit && living_count() == 1))
         return ends_by("exit %d", (int)(r->rdi & 255));
     uint64_t flags = it->call.args[0];
-    if (flags & IS_SHARED && !(flags & (IS_THREAD | WAITS)))
+    if (flags & IS_SHARED && !(flags & IS_THREAD)) /* its events, too, would be in this memory */
         return ends_by("process", 0);
-    if (r->rax == SYS_rseq) { /* its memory would be the kernel's to change at any time */
-        struct user_regs_struct other = *r;
-        other.rax = NO_CALL;
-        set_regs(it, &other);
-    }
+    refuse_rseq(it->tid, r);
     return 1;
 }
 
@@ -291,11 +255,14 @@ static int deliver_held(struct thread *it) {
 static void make(struct thread *it) {
     if (it->held_count && is_outside(it) && deliver_held(it))
         return;
-    if (!decode(it)) {
+    const struct decoded *insn = decode(it->tid, it->regs.rip, (marks_of(it->regs.rip) & (LISTED | NEW)) != 0);
+    if (!insn) {
         breaks(it, "is no instruction");
         return;
     }
+    it->insn = *insn;
     int is_call = enters_kernel(&it->insn);
+    it->is_doubted = 0;
     if (is_syscall(&it->insn) && !may_call(it))
         return;
     it->state = CALLS;
@@ -346,8 +313,10 @@ static void run(uint64_t limit) {
 }
 
 static void write_result(FILE *result) {
-    fprintf(result, "steps %lu\nthreads %d\nevents %lu\ndeliveries %lu\nnoted %lu %08lx\n", judged.steps, thread_count(),
-            judged.events, judged.deliveries, judged.noted, judged.noted_first);
+    fprintf(result, "steps %lu\nthreads %d\nevents %lu\ndeliveries %lu\ncovered %lu%s%s\ndoubts %lu\n", judged.steps, thread_count(), judged.events,
+            judged.deliveries, judged.covered, judged.limit ? " " : "", judged.limit ? judged.limit : "", judged.doubts);
+    if (judged.doubts)
+        fprintf(result, "doubt %s\n", judged.doubt);
     for (int at = 0; at < judged.unknown_count; at++)
         fprintf(result, "unknown %d\n", judged.unknown[at]);
     fprintf(result, "end %s\n", *ending ? ending : "broken");
@@ -368,15 +337,12 @@ int main(int count, char **words) {
         return 2;
     }
     FILE *result = fopen(words[1], "w");
-    known = calloc(KNOWN_SIZE, sizeof *known);
-    if (!result || !known)
+    if (!result)
         die("the result can't be written");
     read_facts(words[2], words[3]);
-    prepare_decoder();
     start(words + program);
     judge_begin(thread_number(0), 0);
     run(strtoull(words[4], 0, 10));
     write_result(result);
-    end_all();
     return 0;
 }

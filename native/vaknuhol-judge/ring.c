@@ -2,14 +2,15 @@
 #include "judge.h"
 
 #include <stdio.h>
-#include <stdlib.h>
+
+#include "refusing.h"
 
 static uint64_t claims;
 static uint32_t *filled;
 
 static void prepare_ring(void) {
-    if (!filled && !(filled = calloc(every_event()->slots, sizeof *filled)))
-        die("no memory");
+    if (!filled)
+        filled = zeros(every_event()->slots, sizeof *filled);
 }
 
 void watch_ring(struct thread *thread, const struct site *site) {

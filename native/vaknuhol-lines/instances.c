@@ -1,6 +1,7 @@
 /* The tree of functions and inlined calls: an instance is a DW_TAG_subprogram or a DW_TAG_inlined_subroutine with code. */
 #include "instances.h"
 #include "names.h"
+#include "refusing.h"
 #include "tables.h"
 #include <dwarf.h>
 #include <search.h>
@@ -16,35 +17,30 @@ struct unit {
 };
 
 /* A number that the entry has itself, or where `origin` is set also from what it is an instance of; 0 where there is none. */
-static uint32_t number_of(Dwarf_Die *die, unsigned name, bool origin)
-{
+static uint32_t number_of(Dwarf_Die *die, unsigned name, bool origin) {
     Dwarf_Attribute attribute;
     Dwarf_Word word;
     Dwarf_Attribute *found = origin ? dwarf_attr_integrate(die, name, &attribute) : dwarf_attr(die, name, &attribute);
     return found && !dwarf_formudata(found, &word) ? (uint32_t)word : 0;
 }
 
-static const char *string_of(Dwarf_Die *die, unsigned name)
-{
+static const char *string_of(Dwarf_Die *die, unsigned name) {
     Dwarf_Attribute attribute;
     return dwarf_attr_integrate(die, name, &attribute) ? dwarf_formstring(&attribute) : NULL;
 }
 
-static bool has(Dwarf_Die *die, unsigned name)
-{
+static bool has(Dwarf_Die *die, unsigned name) {
     Dwarf_Attribute attribute;
     return dwarf_attr_integrate(die, name, &attribute) != NULL;
 }
 
-static uint32_t file_of(const struct unit *unit, uint32_t number)
-{
+static uint32_t file_of(const struct unit *unit, uint32_t number) {
     const char *name = number < unit->count ? dwarf_filesrc(unit->files, number, NULL, NULL) : NULL;
     return file_number(unit->folder, name ? name : "");
 }
 
 /* Where the range at *at of an entry's ranges is; false behind the last. Those of functions that the linker left out are passed over. */
-static bool range_of(Dwarf_Die *die, const struct unit *unit, ptrdiff_t *at, Dwarf_Addr *low, Dwarf_Addr *high)
-{
+static bool range_of(Dwarf_Die *die, const struct unit *unit, ptrdiff_t *at, Dwarf_Addr *low, Dwarf_Addr *high) {
     Dwarf_Addr base;
     while ((*at = dwarf_ranges(die, *at, &base, low, high)) > 0)
         if (*low >= unit->lowest && *low < *high)
@@ -52,8 +48,7 @@ static bool range_of(Dwarf_Die *die, const struct unit *unit, ptrdiff_t *at, Dwa
     return false;
 }
 
-static uint32_t add_ranges(Dwarf_Die *die, const struct unit *unit)
-{
+static uint32_t add_ranges(Dwarf_Die *die, const struct unit *unit) {
     Dwarf_Addr low, high;
     uint32_t count = 0;
     for (ptrdiff_t at = 0; range_of(die, unit, &at, &low, &high); count++) {
@@ -64,8 +59,7 @@ static uint32_t add_ranges(Dwarf_Die *die, const struct unit *unit)
 }
 
 /* DW_AT_entry_pc is an address, or a distance from the first one (DWARF 5, section 2.18). */
-static Dwarf_Addr entry_of(Dwarf_Die *die, Dwarf_Addr first)
-{
+static Dwarf_Addr entry_of(Dwarf_Die *die, Dwarf_Addr first) {
     Dwarf_Attribute attribute;
     Dwarf_Addr entry;
     Dwarf_Word distance;
@@ -76,21 +70,20 @@ static Dwarf_Addr entry_of(Dwarf_Die *die, Dwarf_Addr first)
     return dwarf_formudata(&attribute, &distance) ? 0 : first + distance;
 }
 
-static int by_address(const void *left, const void *right)
-{
+static int by_address(const void *left, const void *right) {
     uintptr_t a = (uintptr_t)left, b = (uintptr_t)right;
     return (a > b) - (a < b);
 }
 
+static void *seen; /* a tree whose keys are the addresses themselves */
+
 /* Whether a function with code there was seen before: of several units' copies the linker keeps one, and sends all of them there. */
-static bool was_seen(Dwarf_Addr first)
-{
-    static void *seen; /* a tree whose keys are the addresses themselves */
+static bool was_seen(Dwarf_Addr first) {
     const void *key = (const void *)(uintptr_t)first;
     if (tfind(key, &seen, by_address))
         return true;
     if (!tsearch(key, &seen, by_address))
-        fail("vaknuhol-lines", "out of memory");
+        refuse_memory(sizeof key);
     return false;
 }
 
@@ -98,8 +91,7 @@ enum standing { ABSENT, REPEATED, PRESENT };
 
 /* Adds an instance, whose number is then `*number`: a function with code, or an inlined call that has code or an entry. One that
    is absent has no code of its own, but calls that were inlined in it may have. */
-static enum standing add_instance(Dwarf_Die *die, uint32_t parent, const struct unit *unit, uint32_t *number)
-{
+static enum standing add_instance(Dwarf_Die *die, uint32_t parent, const struct unit *unit, uint32_t *number) {
     Dwarf_Addr first = 0, high;
     ptrdiff_t at = 0;
     bool inlined = dwarf_tag(die) == DW_TAG_inlined_subroutine, has_code = range_of(die, unit, &at, &first, &high);
@@ -123,15 +115,13 @@ static enum standing add_instance(Dwarf_Die *die, uint32_t parent, const struct 
     add(INSTANCE_CALL_LINE, inlined ? number_of(die, DW_AT_call_line, false) : 0, 4);
     add(INSTANCE_ENTRY, entry, 8);
     add(INSTANCE_VIEW, number_of(die, DW_AT_GNU_entry_view, false), 4);
-    add(INSTANCE_KIND, (inlined ? INLINED : 0) | (has(die, DW_AT_artificial) ? ARTIFICIAL : 0)
-        | (has(die, DW_AT_type) ? RETURNS_VALUE : 0), 1);
+    add(INSTANCE_KIND, (inlined ? INLINED : 0) | (has(die, DW_AT_artificial) ? ARTIFICIAL : 0) | (has(die, DW_AT_type) ? RETURNS_VALUE : 0), 1);
     add(INSTANCE_RANGES, add_ranges(die, unit), 4);
     *number = (uint32_t)(length_of(INSTANCE_RANGES) / 4);
     return PRESENT;
 }
 
-static bool may_hold_instances(int tag)
-{
+static bool may_hold_instances(int tag) {
     switch (tag) {
     case DW_TAG_subprogram:
     case DW_TAG_inlined_subroutine:
@@ -140,15 +130,12 @@ static bool may_hold_instances(int tag)
     case DW_TAG_module:
     case DW_TAG_structure_type:
     case DW_TAG_class_type:
-    case DW_TAG_union_type:
-        return true;
-    default:
-        return false;
+    case DW_TAG_union_type: return true;
+    default: return false;
     }
 }
 
-static void walk(Dwarf_Die *first, uint32_t parent, const struct unit *unit, int depth)
-{
+static void walk(Dwarf_Die *first, uint32_t parent, const struct unit *unit, int depth) {
     Dwarf_Die die = *first, child;
     do {
         int tag = dwarf_tag(&die);
@@ -161,8 +148,7 @@ static void walk(Dwarf_Die *first, uint32_t parent, const struct unit *unit, int
     } while (dwarf_siblingof(&die, &die) == 0);
 }
 
-void add_instances(Dwarf_Die *die, const char *folder, Dwarf_Addr lowest)
-{
+void add_instances(Dwarf_Die *die, const char *folder, Dwarf_Addr lowest) {
     struct unit unit = {.folder = folder, .lowest = lowest};
     Dwarf_Die child;
     if (dwarf_getsrcfiles(die, &unit.files, &unit.count))

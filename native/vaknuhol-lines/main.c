@@ -1,19 +1,27 @@
 /* vaknuhol-lines PROGRAM: the debugging information that tells lines and functions of a program, as tables (tables.h) on standard
    output. A program without it has empty tables. Read by libdw of elfutils: DWARF 2 to 5, compressed sections, split units.  */
+#define _GNU_SOURCE
 #include "instances.h"
+#include "refusing.h"
 #include "rows.h"
 #include "tables.h"
 #include <dwarf.h>
-#include <errno.h>
 #include <fcntl.h>
 #include <gelf.h>
 #include <stdbool.h>
 #include <string.h>
 #include <unistd.h>
 
-/* The lowest address at which a segment with code is loaded. */
-static Dwarf_Addr lowest_code(Elf *elf)
-{
+const struct refusal refusal = {2, "out of memory"};
+
+/* Ends the program by a line that begins with what went wrong, in place of its name. */
+static _Noreturn void fail(char *what, const char *why) {
+    program_invocation_short_name = what;
+    refuse("%s", why);
+}
+
+/* The lowest address at which a segment has code, behind the header of a file that is loaded at 0. */
+static Dwarf_Addr lowest_code(Elf *elf) {
     Dwarf_Addr lowest = UINT64_MAX;
     size_t count = 0;
     GElf_Phdr header;
@@ -22,18 +30,16 @@ static Dwarf_Addr lowest_code(Elf *elf)
     for (size_t i = 0; i < count; i++)
         if (gelf_getphdr(elf, (int)i, &header) && header.p_type == PT_LOAD && header.p_flags & PF_X && header.p_vaddr < lowest)
             lowest = header.p_vaddr;
-    return lowest == UINT64_MAX ? 0 : lowest;
+    return lowest == UINT64_MAX ? 0 : lowest ? lowest : sizeof(Elf64_Ehdr);
 }
 
-static const char *folder_of(Dwarf_Die *unit)
-{
+static const char *folder_of(Dwarf_Die *unit) {
     Dwarf_Attribute attribute;
     const char *folder = dwarf_attr(unit, DW_AT_comp_dir, &attribute) ? dwarf_formstring(&attribute) : NULL;
     return folder ? folder : "";
 }
 
-static void read_units(Dwarf *dwarf, const char *path)
-{
+static void read_units(Dwarf *dwarf, char *path) {
     Dwarf_Addr lowest = lowest_code(dwarf_getelf(dwarf));
     Dwarf_CU *unit = NULL;
     Dwarf_Die die, split;
@@ -51,8 +57,7 @@ static void read_units(Dwarf *dwarf, const char *path)
 }
 
 /* Whether a section of the file is named so. */
-static bool has_section(Elf *elf, const char *wanted)
-{
+static bool has_section(Elf *elf, const char *wanted) {
     size_t names;
     Elf_Scn *section = NULL;
     GElf_Shdr header;
@@ -66,8 +71,7 @@ static bool has_section(Elf *elf, const char *wanted)
     return false;
 }
 
-int main(int count, char **words)
-{
+int main(int count, char **words) {
     if (count != 2) {
         fputs("usage: vaknuhol-lines PROGRAM\n", stderr);
         return 2;

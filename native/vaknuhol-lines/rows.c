@@ -1,6 +1,7 @@
 /* Rows of the line tables: those that have code, as pieces, and those that have none, as points. */
 #include "rows.h"
 #include "names.h"
+#include "refusing.h"
 #include "tables.h"
 #include <dwarf.h>
 #include <stdbool.h>
@@ -18,31 +19,22 @@ struct row {
 static struct row *rows;
 static size_t count, room;
 
-static void keep(struct row row)
-{
-    if (count == room) {
-        size_t more = 2 * room + 4096;
-        struct row *at = realloc(rows, more * sizeof *rows);
-        if (!at)
-            fail("vaknuhol-lines", "out of memory");
-        rows = at;
-        room = more;
-    }
+static void keep(struct row row) {
+    rows = room_for_one(rows, count, &room, sizeof *rows);
     row.number = (uint32_t)count;
     rows[count++] = row;
 }
 
 /* What a row says by itself: its end is that of the row behind it. False where it ends a sequence. */
-static bool row_of(Dwarf_Line *line, const char *folder, struct row *row)
-{
+static bool row_of(Dwarf_Line *line, const char *folder, struct row *row) {
     static const char *last_name, *last_folder;
     static uint32_t last;
     int number = 0, column = 0;
     bool ends = true;
     Dwarf_Addr at = 0;
     row->begins = false;
-    if (dwarf_lineaddr(line, &at) || dwarf_lineno(line, &number) || dwarf_lineendsequence(line, &ends)
-        || dwarf_linebeginstatement(line, &row->begins) || dwarf_linecol(line, &column))
+    if (dwarf_lineaddr(line, &at) || dwarf_lineno(line, &number) || dwarf_lineendsequence(line, &ends) || dwarf_linebeginstatement(line, &row->begins)
+        || dwarf_linecol(line, &column))
         return false;
     row->low = at;
     row->line = number > 0 ? (uint32_t)number : 0;
@@ -61,8 +53,7 @@ static bool row_of(Dwarf_Line *line, const char *folder, struct row *row)
     return true;
 }
 
-int read_rows(Dwarf_Die *unit, const char *folder, Dwarf_Addr lowest)
-{
+int read_rows(Dwarf_Die *unit, const char *folder, Dwarf_Addr lowest) {
     Dwarf_Lines *lines;
     size_t lines_count;
     if (!dwarf_hasattr(unit, DW_AT_stmt_list))
@@ -87,16 +78,14 @@ int read_rows(Dwarf_Die *unit, const char *folder, Dwarf_Addr lowest)
     return 1;
 }
 
-static int by_address(const void *left, const void *right)
-{
+static int by_address(const void *left, const void *right) {
     const struct row *a = left, *b = right;
     if (a->low != b->low)
         return a->low < b->low ? -1 : 1;
     return a->number < b->number ? -1 : a->number > b->number;
 }
 
-void add_rows(void)
-{
+void add_rows(void) {
     uint64_t end = 0; /* of the rows that were kept, with the unit of the last */
     uint32_t unit = 0;
     if (count)

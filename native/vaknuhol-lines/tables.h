@@ -54,7 +54,4 @@ const char *bytes_of(enum table table);
 
 /* Writes all tables; false where that fails. */
 int write_tables(FILE *out);
-
-/* Ends the program with a message and status 2. */
-_Noreturn void fail(const char *what, const char *why);
 #endif

@@ -82,7 +82,7 @@ static void part(const struct evidence *it, const struct leaders *by, struct blo
             blocks->all[blocks->count - 1].size++;
             continue;
         }
-        blocks->all[blocks->count++] = (struct block){ (uint32_t)at, 1 };
+        blocks->all[blocks->count++] = (struct block){(uint32_t)at, 1};
         fills = (!before || ends(before->kind)) && !is_led && is_nothing;
     }
 }
@@ -98,16 +98,24 @@ static int is_padding(const struct evidence *it, const struct leaders *by, const
     for (const struct instruction *one = first; one <= last; one++)
         if (!(one->marks & NOTHING))
             return 0;
-    int goes_on = block->first + block->size < it->count && last[1].addr == last->addr + last->length &&
-                  !(it->names[last[1].addr - it->program->lo] & NAMED);
+    int goes_on = block->first + block->size < it->count && last[1].addr == last->addr + last->length && !(it->names[last[1].addr - it->program->lo] & NAMED);
     if (before && is_int3(before) && is_int3(first))
         return 1;
     return !before || ends(before->kind) || before->addr + before->length != first->addr || !goes_on;
 }
 
+/* What says that a function begins at an address. */
+static uint8_t begins(const struct evidence *it, const struct leaders *by, uint32_t addr) {
+    uint32_t at = addr - it->program->lo, extent = it->extent_of[at];
+    int is_within = extent && it->extents[extent - 1].lo < addr;
+    int is_named = it->names[at] & NAMED, is_called = by->called[at];
+    int is_begin = it->names[at] || addr == it->program->entry || (is_called && !is_within);
+    return (uint8_t)((is_named ? HAS_NAME : 0) | (is_called ? IS_CALLED : 0) | (is_begin ? BEGINS : 0));
+}
+
 void part_blocks(const struct evidence *it, struct blocks *blocks) {
     size_t bytes = it->program->hi - it->program->lo + 16, kept = 0;
-    struct leaders leaders = { zeros(bytes, 1), zeros(HELD_WORDS, 1), zeros(bytes, 1) };
+    struct leaders leaders = {zeros(bytes, 1), zeros(HELD_WORDS, 1), zeros(bytes, 1)};
     blocks->all = zeros(it->count + 1, sizeof *blocks->all);
     blocks->count = 0;
     find_leaders(it, &leaders);
@@ -117,8 +125,6 @@ void part_blocks(const struct evidence *it, struct blocks *blocks) {
             blocks->all[kept++] = blocks->all[at];
     blocks->count = kept;
     blocks->begins_function = zeros(kept, 1);
-    for (size_t at = 0; at < kept; at++) {
-        uint32_t place = it->found[blocks->all[at].first].addr - it->program->lo;
-        blocks->begins_function[at] = (it->names[place] & NAMED ? HAS_NAME : 0) | (leaders.called[place] ? IS_CALLED : 0);
-    }
+    for (size_t at = 0; at < kept; at++)
+        blocks->begins_function[at] = begins(it, &leaders, it->found[blocks->all[at].first].addr);
 }

@@ -14,8 +14,9 @@ struct block {
     uint32_t first, size; /* the number of its first instruction, and how many it has */
 };
 
-/* Of a block that begins a function: that a symbol or a section has a name for it, or that a direct call leads there. */
-enum { HAS_NAME = 1, IS_CALLED = 2 };
+/* Of a block: that a symbol or a section has a name for it; that a direct call leads there; that a function begins there, as a name, a
+   frame, the program's entry point or a call says: a call into the extent of a function that begins before it says so of none. */
+enum { HAS_NAME = 1, IS_CALLED = 2, BEGINS = 4 };
 
 struct blocks {
     struct block *all;

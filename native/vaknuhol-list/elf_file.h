@@ -1,9 +1,7 @@
 /* A static ELF-64 file: what it loads, and which of it is text. All offsets of the file are checked before they are followed. */
 #ifndef ELF_FILE_H
 #define ELF_FILE_H
-#include <elf.h>
-#include <stddef.h>
-#include <stdint.h>
+#include "file.h"
 
 enum { MOST_PARTS = 64 };
 
@@ -17,15 +15,13 @@ struct segment {
 };
 
 struct program {
-    const uint8_t *file;
-    size_t size;
+    struct elf elf;
     struct segment segments[MOST_PARTS];
     int segment_count;
     struct range text[MOST_PARTS]; /* ascending; sections that are executed, or segments where there are no sections */
     int text_count;
-    uint32_t lo, hi; /* around all text */
-    const Elf64_Shdr *sections;
-    int section_count;
+    uint32_t lo, hi;              /* around all text */
+    uint32_t base;                /* of a settled file (settled.h), else 0: calls of what isn't there lead there */
     uint64_t entry, frame_header; /* frame_header: the address of .eh_frame_hdr, or 0 */
 };
 

@@ -5,7 +5,9 @@
 
 #include "jump_tables.h"
 #include "refusing.h"
+#include "restarts.h"
 #include "spelling.h"
+#include "uses.h"
 
 /* How many bytes from a start on have to read as code, by what there is of evidence. */
 enum { OF_WORD = 48, OF_NUMBER = 256, LOWEST_NUMBER = 0x10000 };
@@ -21,11 +23,24 @@ void begin_evidence(struct evidence *it, const struct program *program) {
     it->state = zeros(bytes, 1);
     it->is_data = zeros(bytes, 1);
     it->names = zeros(bytes, 1);
+    it->callees = zeros(bytes, 1);
     it->extent_of = zeros(bytes, sizeof *it->extent_of);
     it->index_of = zeros(bytes, sizeof *it->index_of);
 }
 
-struct instruction *at_start(const struct evidence *it, uint32_t addr) { return it->found + it->index_of[addr - it->program->lo]; }
+struct instruction *at_start(const struct evidence *it, uint32_t addr) {
+    return it->found + it->index_of[addr - it->program->lo];
+}
+
+const struct instruction *one_before(const struct evidence *it, uint32_t addr) {
+    uint32_t at = addr - 1;
+    if (addr <= it->program->lo || !in_text(it->program, at))
+        return NULL;
+    while (at > it->program->lo && addr - at < 15 && !is_start(it, at))
+        at--;
+    const struct instruction *found = is_start(it, at) ? at_start(it, at) : NULL;
+    return found && found->addr + found->length == addr ? found : NULL;
+}
 
 void propose(struct evidence *it, uint64_t addr, int level) {
     struct queue *queue = it->queues + level;
@@ -39,14 +54,37 @@ void add_extent(struct evidence *it, uint64_t addr, uint64_t length) {
     if (!length || !in_text(it->program, addr) || length > text_end(it->program, (uint32_t)addr) - addr)
         return;
     it->extents = room_for_one(it->extents, it->extent_count, &it->extent_capacity, sizeof *it->extents);
-    it->extents[it->extent_count++] = (struct range){ (uint32_t)addr, (uint32_t)(addr + length) };
+    it->extents[it->extent_count++] = (struct range){(uint32_t)addr, (uint32_t)(addr + length)};
     for (uint64_t at = addr; at < addr + length; at++)
         it->extent_of[at - it->program->lo] = (uint32_t)it->extent_count;
 }
 
 void add_data(struct evidence *it, uint64_t addr, uint64_t length) {
     for (uint64_t at = addr; at - addr < length && in_text(it->program, at); at++)
-        it->is_data[at - it->program->lo] = 1;
+        it->is_data[at - it->program->lo] = IS_DATA;
+}
+
+static void begin_data(struct evidence *it, uint32_t addr) {
+    uint32_t at = addr - it->program->lo;
+    if (in_text(it->program, addr) && !it->state[at] && !it->is_data[at])
+        it->is_data[at] = DATA_BEGINS;
+}
+
+static void add_holder(struct evidence *it, uint64_t addr, uint32_t from) {
+    if (!in_text(it->program, addr))
+        return;
+    it->holders = room_for_one(it->holders, it->holder_count, &it->holder_capacity, sizeof *it->holders);
+    it->holders[it->holder_count++] = (struct holder){(uint32_t)addr, from};
+}
+
+void judge_holders(struct evidence *it) {
+    for (; it->holders_judged < it->holder_count; it->holders_judged++) {
+        struct holder holder = it->holders[it->holders_judged];
+        if (it->state[holder.addr - it->program->lo] || is_data(it, holder.addr))
+            continue;
+        if (!holder.from || reads_through(it, at_start(it, holder.from)))
+            begin_data(it, holder.addr);
+    }
 }
 
 int are_prefixes(const struct evidence *it, uint32_t from, uint32_t to) {
@@ -132,7 +170,7 @@ static int meets_starts(const struct evidence *it, const struct instruction *one
 /* Reads a run after the listed instructions. Where it breaks off, 0 is answered, and `next` is the place; else `next` is what stands
    after the call that ends it, or 0. */
 static int read_run(struct evidence *it, uint32_t first, int level, int is_shared, uint32_t *next) {
-    for (uint32_t addr = first;; ) {
+    for (uint32_t addr = first;;) {
         int is_odd, is_wrong = 0;
         *next = addr;
         if (!in_text(it->program, addr))
@@ -173,29 +211,52 @@ static void mark_listed(struct evidence *it, size_t number) {
 
 static int weaker(int one, int other) { return one > other ? one : other; }
 
+/* What stands behind a call is code if that returns, and else data may begin there. */
+static void propose_behind(struct evidence *it, const struct instruction *call, uint32_t next, int level) {
+    if (call->kind == CALL && call->target != next && takes_return(it, call->target))
+        begin_data(it, next);
+    else
+        propose(it, next, weaker(level, AFTER_CALL));
+}
+
+/* The word of the data that an instruction loads. */
+static uint64_t loaded_word(const struct evidence *it, const struct instruction *one) {
+    uint64_t word = 0;
+    const uint8_t *bytes = one->is_absolute && one->marks & READS && one->width == 8 ? bytes_at(it->program, one->held, 8) : NULL;
+    if (bytes && !in_text(it->program, one->held))
+        memcpy(&word, bytes, 8);
+    return word;
+}
+
 /* Says what a listed instruction is evidence for. */
 static void follow(struct evidence *it, const struct instruction *one, int level) {
     const struct program *program = it->program;
     if (one->target)
         propose(it, one->target, weaker(level, DIRECT));
     if (one->held) {
-        if (one->is_lea && in_text(program, one->held))
+        if (one->is_lea && in_text(program, one->held)) {
             propose(it, one->held, weaker(level, NUMBER));
+            add_holder(it, one->held, one->addr);
+        }
+        add_holder(it, loaded_word(it, one), one->addr);
         name_word(one->held);
         if (one->is_lea || one->kind == JUMP_INDIRECT)
             add_table(it, one->held, one->addr, one->is_lea ? 4 : 8);
         if (!one->is_lea && one->is_absolute && one->marks & (READS | WRITES) && level <= AFTER_CALL)
             add_data(it, one->held, one->width);
     }
-    if (one->number)
+    add_holder(it, one->table, 0);
+    if (one->number) {
         propose(it, one->number, weaker(level, NUMBER));
+        add_holder(it, one->number, one->addr);
+    }
     if (one->number >= LOWEST_NUMBER)
         add_table(it, one->number, one->addr, 4);
 }
 
 static void add_break(struct evidence *it, uint32_t addr) {
     it->breaks = room_for_one(it->breaks, it->break_count, &it->break_capacity, sizeof *it->breaks);
-    it->breaks[it->break_count++] = (struct range){ addr, addr + 1 };
+    it->breaks[it->break_count++] = (struct range){addr, addr + 1};
 }
 
 int list_run(struct evidence *it, uint32_t first, int level) {
@@ -220,8 +281,10 @@ int list_run(struct evidence *it, uint32_t first, int level) {
         struct instruction one = it->found[number];
         follow(it, &one, level);
     }
-    if (next)
-        propose(it, next, weaker(level, AFTER_CALL));
+    if (next) {
+        struct instruction last = it->found[it->count - 1];
+        propose_behind(it, &last, next, level);
+    }
     return 1;
 }
 
@@ -254,14 +317,13 @@ static void mark_spelling(const struct evidence *it, struct instruction *one) {
     if (!length)
         one->marks |= NO_LENGTH | FIXED;
     else if (length != one->length)
-        refuse("at %08x an instruction has %d bytes for e9tool and %d for Zydis, so the program can't be patched", one->addr, length,
-               one->length);
+        refuse("at %08x an instruction has %d bytes for e9tool and %d for Zydis, so the program can't be patched", one->addr, length, one->length);
     else if (!can_be_displaced(bytes, one->length))
         one->marks |= FIXED;
 }
 
 static void mark_support(const struct evidence *it, struct instruction *one) {
-    if (one->level == TABLE && !it->extent_of[one->addr - it->program->lo])
+    if ((one->level == TABLE && !it->extent_of[one->addr - it->program->lo]) || is_restarted(it, one))
         one->marks |= UNSURE;
     for (int at = 0; !(one->marks & UNSURE) && at < one->length; at++)
         it->state[one->addr - it->program->lo + (uint32_t)at] |= SURE;
@@ -269,7 +331,8 @@ static void mark_support(const struct evidence *it, struct instruction *one) {
 
 void finish(struct evidence *it) {
     uint32_t reached = 0;
-    qsort(it->found, it->count, sizeof *it->found, by_address);
+    if (it->count)
+        qsort(it->found, it->count, sizeof *it->found, by_address);
     for (size_t number = 0; number < it->count; number++) {
         struct instruction *one = it->found + number;
         uint32_t end = one->addr + one->length;

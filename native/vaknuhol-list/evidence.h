@@ -25,7 +25,23 @@ enum level {
 
 /* Of a byte: an instruction begins there, or has it after its first one; when all is listed: its evidence is no weak one. */
 enum { START = 1, INSIDE = 2, SURE = 4 };
+/* Of a byte: it is data; data begins there, whose end isn't known. */
+enum { IS_DATA = 1, DATA_BEGINS = 2 };
 enum { NAMED = 1, FRAMED = 2 }; /* of a byte: a symbol or a section begins there, or a frame */
+
+/* Of a function that is called: whether it was looked at, and doesn't return to where it was called. */
+enum { JUDGED = 1, TAKES_RETURN = 2 };
+
+/* An address of text that an instruction holds, or has by a word of the data: of `from` it is seen what it does with it; with 0 it reads there. */
+struct holder {
+    uint32_t addr, from;
+};
+
+/* A restartable sequence, from where on what begins it stands, and the signature before the place where it is aborted. */
+struct restart {
+    uint32_t begin;
+    struct range range, signature;
+};
 
 struct queue {
     uint32_t *addrs;
@@ -34,14 +50,18 @@ struct queue {
 
 struct evidence {
     const struct program *program;
-    uint8_t *state, *is_data, *names; /* of each byte from the text's first address on */
-    uint32_t *extent_of;              /* the number of the function's extent that holds a byte, 0 where there is none */
-    uint32_t *index_of;               /* of a start: its instruction */
-    struct instruction *found;        /* in the order of finding, and at the end by address */
+    uint8_t *state, *is_data, *names, *callees; /* of each byte from the text's first address on */
+    uint32_t *extent_of;                        /* the number of the function's extent that holds a byte, 0 where there is none */
+    uint32_t *index_of;                         /* of a start: its instruction */
+    struct instruction *found;                  /* in the order of finding, and at the end by address */
     size_t count, capacity;
     struct range *extents;
     size_t extent_count, extent_capacity;
     struct queue queues[LEVELS];
+    struct holder *holders;
+    size_t holder_count, holder_capacity, holders_judged;
+    struct restart *restarts;
+    size_t restart_count, restart_capacity;
     struct range *breaks; /* where strong evidence leads to what can't be decoded, or into an instruction */
     size_t break_count, break_capacity;
 };
@@ -58,6 +78,9 @@ static inline int is_data(const struct evidence *it, uint32_t addr) { return it-
 /* The listed instruction that begins at a start. */
 struct instruction *at_start(const struct evidence *it, uint32_t addr);
 
+/* The listed instruction that ends where another one begins, or NULL. */
+const struct instruction *one_before(const struct evidence *it, uint32_t addr);
+
 /* Says that there is evidence of a level for a start. What is no text is no start. */
 void propose(struct evidence *it, uint64_t addr, int level);
 
@@ -66,6 +89,14 @@ void add_extent(struct evidence *it, uint64_t addr, uint64_t length);
 
 /* Says that bytes of the text are data. */
 void add_data(struct evidence *it, uint64_t addr, uint64_t length);
+
+/* Looks at the code that holds addresses of text: where it reads through one, data begins there, unless code is listed there. */
+void judge_holders(struct evidence *it);
+
+/* Whether data begins there, whose end isn't known. */
+static inline int begins_data(const struct evidence *it, uint32_t addr) {
+    return it->is_data[addr - it->program->lo] == DATA_BEGINS && !it->state[addr - it->program->lo];
+}
 
 /* Whether a jump from anywhere to an address would enter an accepted instruction after more than its prefixes. */
 int enters_inside(const struct evidence *it, uint32_t addr);

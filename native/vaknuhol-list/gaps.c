@@ -8,6 +8,8 @@ enum { PASSES = 6, MOST_READ = 400, FILL = 0xCC };
 void drain(struct evidence *it, int weakest) {
     for (int level = ENTRY; level <= weakest;) {
         struct queue *queue = it->queues + level;
+        if (level == WORD)
+            judge_holders(it);
         if (level == WORD && judge_known_tables(it, 0)) {
             level = ENTRY;
         } else if (queue->count) {
@@ -23,7 +25,10 @@ void drain(struct evidence *it, int weakest) {
 
 static int is_known(const struct evidence *it, uint32_t addr) { return it->state[addr - it->program->lo] || is_data(it, addr); }
 
+/* Where data of unknown length begins, a gap ends, and one begins. */
 static uint32_t gap_end(const struct evidence *it, uint32_t addr, uint32_t end) {
+    if (addr < end && begins_data(it, addr))
+        addr++;
     while (addr < end && !is_known(it, addr))
         addr++;
     return addr;
@@ -51,11 +56,12 @@ static int list_extent(struct evidence *it, uint32_t first, uint32_t end) {
 void sweep_extents(struct evidence *it) {
     for (int again = 1; again;) {
         size_t before = it->count;
+        judge_holders(it);
         for (size_t number = 0; number < it->extent_count; number++) {
             struct range extent = it->extents[number];
             for (uint32_t at = extent.lo; at < extent.hi;) {
                 uint32_t end = gap_end(it, at, extent.hi);
-                if (at < end)
+                if (at < end && !begins_data(it, at))
                     list_extent(it, at, end);
                 at = end > at ? end : at + 1;
             }
@@ -148,7 +154,7 @@ static void add_doubtful(struct gaps *gaps, uint32_t lo, uint32_t hi) {
     if (lo >= hi)
         return;
     gaps->doubtful = room_for_one(gaps->doubtful, gaps->count, &gaps->capacity, sizeof *gaps->doubtful);
-    gaps->doubtful[gaps->count++] = (struct range){ lo, hi };
+    gaps->doubtful[gaps->count++] = (struct range){lo, hi};
 }
 
 /* Lists the first code of a gap that has support, and answers its place, or the gap's end. The bytes before it are doubtful. */
@@ -169,11 +175,17 @@ static int sweep_once(struct evidence *it, struct gaps *gaps) {
     const struct program *program = it->program;
     int more = 0;
     gaps->count = gaps->zeros = gaps->traps = 0;
+    judge_holders(it);
     for (int part = 0; part < program->text_count; part++)
         for (uint32_t at = program->text[part].lo; at < program->text[part].hi;) {
             uint32_t end = gap_end(it, at, program->text[part].hi);
             if (at == end) {
                 at++;
+                continue;
+            }
+            if (begins_data(it, at)) {
+                add_doubtful(gaps, at, end);
+                at = end;
                 continue;
             }
             at = skip_fill(it, gaps, at, end);

@@ -1,6 +1,5 @@
 #include "instruction.h"
 
-#include <Zydis/Zydis.h>
 #include <string.h>
 
 #include "spelling.h"
@@ -18,11 +17,16 @@ static uint32_t bit_of(ZydisRegister name) {
     ZydisRegister whole = ZydisRegisterGetLargestEnclosing(ZYDIS_MACHINE_MODE_LONG_64, name);
     switch (ZydisRegisterGetClass(whole)) {
     case ZYDIS_REGCLASS_GPR64: return 1u << ZydisRegisterGetId(whole);
-    case ZYDIS_REGCLASS_X87: case ZYDIS_REGCLASS_MMX: return X87;
-    case ZYDIS_REGCLASS_XMM: case ZYDIS_REGCLASS_YMM: case ZYDIS_REGCLASS_ZMM: return VECTOR;
+    case ZYDIS_REGCLASS_X87:
+    case ZYDIS_REGCLASS_MMX: return X87;
+    case ZYDIS_REGCLASS_XMM:
+    case ZYDIS_REGCLASS_YMM:
+    case ZYDIS_REGCLASS_ZMM: return VECTOR;
     case ZYDIS_REGCLASS_MASK: return MASK;
     case ZYDIS_REGCLASS_SEGMENT: return SEGMENT;
-    case ZYDIS_REGCLASS_FLAGS: case ZYDIS_REGCLASS_IP: case ZYDIS_REGCLASS_INVALID: return 0;
+    case ZYDIS_REGCLASS_FLAGS:
+    case ZYDIS_REGCLASS_IP:
+    case ZYDIS_REGCLASS_INVALID: return 0;
     default: return OTHER;
     }
 }
@@ -34,21 +38,44 @@ static int is_rare(const ZydisDecodedInstruction *insn) {
     if (insn->meta.branch_type == ZYDIS_BRANCH_TYPE_FAR)
         return 1;
     switch (insn->mnemonic) {
-    case ZYDIS_MNEMONIC_IN: case ZYDIS_MNEMONIC_OUT: case ZYDIS_MNEMONIC_INSB: case ZYDIS_MNEMONIC_INSW: case ZYDIS_MNEMONIC_INSD:
-    case ZYDIS_MNEMONIC_OUTSB: case ZYDIS_MNEMONIC_OUTSW: case ZYDIS_MNEMONIC_OUTSD: case ZYDIS_MNEMONIC_CLI:
-    case ZYDIS_MNEMONIC_STI: case ZYDIS_MNEMONIC_INT1: case ZYDIS_MNEMONIC_XLAT: case ZYDIS_MNEMONIC_ENTER:
-    case ZYDIS_MNEMONIC_IRET: case ZYDIS_MNEMONIC_IRETD: case ZYDIS_MNEMONIC_IRETQ: case ZYDIS_MNEMONIC_LSS:
-    case ZYDIS_MNEMONIC_LFS: case ZYDIS_MNEMONIC_LGS: case ZYDIS_MNEMONIC_INT: return 1;
+    case ZYDIS_MNEMONIC_IN:
+    case ZYDIS_MNEMONIC_OUT:
+    case ZYDIS_MNEMONIC_INSB:
+    case ZYDIS_MNEMONIC_INSW:
+    case ZYDIS_MNEMONIC_INSD:
+    case ZYDIS_MNEMONIC_OUTSB:
+    case ZYDIS_MNEMONIC_OUTSW:
+    case ZYDIS_MNEMONIC_OUTSD:
+    case ZYDIS_MNEMONIC_CLI:
+    case ZYDIS_MNEMONIC_STI:
+    case ZYDIS_MNEMONIC_INT1:
+    case ZYDIS_MNEMONIC_XLAT:
+    case ZYDIS_MNEMONIC_ENTER:
+    case ZYDIS_MNEMONIC_IRET:
+    case ZYDIS_MNEMONIC_IRETD:
+    case ZYDIS_MNEMONIC_IRETQ:
+    case ZYDIS_MNEMONIC_LSS:
+    case ZYDIS_MNEMONIC_LFS:
+    case ZYDIS_MNEMONIC_LGS:
+    case ZYDIS_MNEMONIC_INT: return 1;
     default: return 0;
     }
 }
 
 static int kind_of(const ZydisDecodedInstruction *insn, int is_direct) {
     switch (insn->mnemonic) {
-    case ZYDIS_MNEMONIC_HLT: case ZYDIS_MNEMONIC_UD0: case ZYDIS_MNEMONIC_UD1: case ZYDIS_MNEMONIC_UD2:
-    case ZYDIS_MNEMONIC_SYSRET: case ZYDIS_MNEMONIC_IRET: case ZYDIS_MNEMONIC_IRETD: case ZYDIS_MNEMONIC_IRETQ: return END;
-    case ZYDIS_MNEMONIC_SYSCALL: case ZYDIS_MNEMONIC_SYSENTER: return KERNEL;
-    case ZYDIS_MNEMONIC_XABORT: case ZYDIS_MNEMONIC_XEND: return TRAP;
+    case ZYDIS_MNEMONIC_HLT:
+    case ZYDIS_MNEMONIC_UD0:
+    case ZYDIS_MNEMONIC_UD1:
+    case ZYDIS_MNEMONIC_UD2:
+    case ZYDIS_MNEMONIC_SYSRET:
+    case ZYDIS_MNEMONIC_IRET:
+    case ZYDIS_MNEMONIC_IRETD:
+    case ZYDIS_MNEMONIC_IRETQ: return END;
+    case ZYDIS_MNEMONIC_SYSCALL:
+    case ZYDIS_MNEMONIC_SYSENTER: return KERNEL;
+    case ZYDIS_MNEMONIC_XABORT:
+    case ZYDIS_MNEMONIC_XEND: return TRAP;
     case ZYDIS_MNEMONIC_INT: return insn->raw.imm[0].value.u == 0x80 ? KERNEL : TRAP;
     default: break;
     }
@@ -77,22 +104,35 @@ static uint64_t named_address(const struct instruction *it, const ZydisDecodedOp
     return (uint64_t)operand->mem.disp.value;
 }
 
+/* Whether an operand is read at a distance from an address of text, by a register. */
+static int is_table(const struct program *program, const ZydisDecodedOperand *operand) {
+    int has_register = operand->mem.base != ZYDIS_REGISTER_NONE || operand->mem.index != ZYDIS_REGISTER_NONE;
+    return has_register && operand->mem.base != ZYDIS_REGISTER_RIP && operand->mem.type == ZYDIS_MEMOP_TYPE_MEM
+           && operand->actions & ZYDIS_OPERAND_ACTION_MASK_READ && operand->mem.disp.has_displacement && operand->mem.disp.value > 0
+           && in_text(program, (uint64_t)operand->mem.disp.value);
+}
+
 static int is_aligned_vector(const ZydisDecodedInstruction *insn, const ZydisDecodedOperand *operand) {
     if (operand->size < 128)
         return 0;
     switch (insn->mnemonic) {
-    case ZYDIS_MNEMONIC_MOVUPS: case ZYDIS_MNEMONIC_MOVUPD: case ZYDIS_MNEMONIC_MOVDQU: case ZYDIS_MNEMONIC_LDDQU: return 0;
+    case ZYDIS_MNEMONIC_MOVUPS:
+    case ZYDIS_MNEMONIC_MOVUPD:
+    case ZYDIS_MNEMONIC_MOVDQU:
+    case ZYDIS_MNEMONIC_LDDQU: return 0;
     default: return 1;
     }
 }
 
-static void take_memory(const struct program *program, struct instruction *it, const ZydisDecodedInstruction *insn,
-                        const ZydisDecodedOperand *operand, int *is_odd) {
+static void take_memory(const struct program *program, struct instruction *it, const ZydisDecodedInstruction *insn, const ZydisDecodedOperand *operand,
+                        int *is_odd) {
     int is_whole;
     uint64_t named = named_address(it, operand, &is_whole);
     it->reads |= bit_of(operand->mem.base) | bit_of(operand->mem.index);
     if (named && named < (uint32_t)TOP && !is_in_thread_area(operand))
         it->held = (uint32_t)named;
+    if (is_table(program, operand) && !is_in_thread_area(operand))
+        it->table = (uint32_t)operand->mem.disp.value;
     if (operand->mem.type == ZYDIS_MEMOP_TYPE_AGEN) {
         it->is_lea = 1;
         return;
@@ -125,11 +165,11 @@ static void take_register(struct instruction *it, const ZydisDecodedOperand *ope
 }
 
 /* Whether there is a target. */
-static int take_immediate(const struct program *program, struct instruction *it, const ZydisDecodedInstruction *insn,
-                          const ZydisDecodedOperand *operand, int *is_odd) {
+static int take_immediate(const struct program *program, struct instruction *it, const ZydisDecodedInstruction *insn, const ZydisDecodedOperand *operand,
+                          int *is_odd) {
     if (operand->imm.is_relative) {
         uint64_t target = it->addr + it->length + operand->imm.value.u;
-        it->target = (uint32_t)target;
+        it->target = target == program->base ? 0 : (uint32_t)target; /* an undefined weak symbol is 0, at the base */
         if (it->target && !in_text(program, target))
             *is_odd = 1;
         return 1;
@@ -146,20 +186,21 @@ static int faults_alone(const ZydisDecodedInstruction *insn, int kind) {
     if (kind == END || kind == KERNEL || kind == TRAP || insn->encoding != ZYDIS_INSTRUCTION_ENCODING_LEGACY)
         return 1;
     switch (insn->meta.isa_ext) {
-    case ZYDIS_ISA_EXT_BASE: case ZYDIS_ISA_EXT_LONGMODE: case ZYDIS_ISA_EXT_CET: break;
-    case ZYDIS_ISA_EXT_SSE: case ZYDIS_ISA_EXT_SSE2: /* numeric exceptions */
+    case ZYDIS_ISA_EXT_BASE:
+    case ZYDIS_ISA_EXT_LONGMODE:
+    case ZYDIS_ISA_EXT_CET: break;
+    case ZYDIS_ISA_EXT_SSE:
+    case ZYDIS_ISA_EXT_SSE2: /* numeric exceptions */
         return insn->meta.exception_class == ZYDIS_EXCEPTION_CLASS_SSE2 || insn->meta.exception_class == ZYDIS_EXCEPTION_CLASS_SSE3;
     default: return 1;
     }
-    return insn->mnemonic == ZYDIS_MNEMONIC_DIV || insn->mnemonic == ZYDIS_MNEMONIC_IDIV || insn->meta.category == ZYDIS_CATEGORY_IO ||
-           insn->meta.category == ZYDIS_CATEGORY_SYSTEM || insn->meta.category == ZYDIS_CATEGORY_SEGOP ||
-           insn->attributes & ZYDIS_ATTRIB_IS_PRIVILEGED;
+    return insn->mnemonic == ZYDIS_MNEMONIC_DIV || insn->mnemonic == ZYDIS_MNEMONIC_IDIV || insn->meta.category == ZYDIS_CATEGORY_IO
+           || insn->meta.category == ZYDIS_CATEGORY_SYSTEM || insn->meta.category == ZYDIS_CATEGORY_SEGOP || insn->attributes & ZYDIS_ATTRIB_IS_PRIVILEGED;
 }
 
 static int fills_room(const ZydisDecodedInstruction *insn, const ZydisDecodedOperand *operands, const uint8_t *bytes) {
     if (insn->mnemonic == ZYDIS_MNEMONIC_LEA)
-        return operands[0].reg.value == operands[1].mem.base && operands[1].mem.index == ZYDIS_REGISTER_NONE &&
-               operands[1].mem.disp.value == 0;
+        return operands[0].reg.value == operands[1].mem.base && operands[1].mem.index == ZYDIS_REGISTER_NONE && operands[1].mem.disp.value == 0;
     return insn->mnemonic == ZYDIS_MNEMONIC_NOP || insn->mnemonic == ZYDIS_MNEMONIC_INT3 || (bytes[0] == 0x66 && bytes[1] == 0x90);
 }
 
@@ -179,35 +220,39 @@ static void take_flags(struct instruction *it, const ZydisDecodedInstruction *in
     if (!insn->cpu_flags)
         return;
     it->flags_read = (uint16_t)insn->cpu_flags->tested;
-    it->flags_written = (uint16_t)(insn->cpu_flags->modified | insn->cpu_flags->set_0 | insn->cpu_flags->set_1 |
-                                   insn->cpu_flags->undefined);
+    it->flags_written = (uint16_t)(insn->cpu_flags->modified | insn->cpu_flags->set_0 | insn->cpu_flags->set_1 | insn->cpu_flags->undefined);
 }
 
-int decode(const struct program *program, uint32_t addr, struct instruction *it, int *is_odd) {
-    ZydisDecodedInstruction insn;
-    ZydisDecodedOperand operands[ZYDIS_MAX_OPERAND_COUNT];
+int decode_whole(const struct program *program, uint32_t addr, struct instruction *it, int *is_odd, ZydisDecodedInstruction *insn,
+                 ZydisDecodedOperand operands[ZYDIS_MAX_OPERAND_COUNT]) {
     uint32_t room = text_end(program, addr) - addr;
     const uint8_t *bytes = bytes_at(program, addr, 1);
     int is_direct = 0;
     if (!ready)
         ready = ZYAN_SUCCESS(ZydisDecoderInit(&decoder, ZYDIS_MACHINE_MODE_LONG_64, ZYDIS_STACK_WIDTH_64));
-    if (!bytes || !room || !ZYAN_SUCCESS(ZydisDecoderDecodeFull(&decoder, bytes, room < LONGEST ? room : LONGEST, &insn, operands)))
+    if (!bytes || !room || !ZYAN_SUCCESS(ZydisDecoderDecodeFull(&decoder, bytes, room < LONGEST ? room : LONGEST, insn, operands)))
         return 0;
     memset(it, 0, sizeof *it);
     it->addr = addr;
-    it->length = insn.length;
-    *is_odd = is_rare(&insn) || (insn.length == 2 && bytes[0] == 0 && bytes[1] == 0);
-    take_flags(it, &insn);
-    for (int at = 0; at < insn.operand_count; at++) {
+    it->length = insn->length;
+    *is_odd = is_rare(insn) || (insn->length == 2 && bytes[0] == 0 && bytes[1] == 0);
+    take_flags(it, insn);
+    for (int at = 0; at < insn->operand_count; at++) {
         const ZydisDecodedOperand *operand = operands + at;
         if (operand->type == ZYDIS_OPERAND_TYPE_REGISTER)
             take_register(it, operand);
         else if (operand->type == ZYDIS_OPERAND_TYPE_MEMORY)
-            take_memory(program, it, &insn, operand, is_odd);
+            take_memory(program, it, insn, operand, is_odd);
         else if (operand->type == ZYDIS_OPERAND_TYPE_IMMEDIATE)
-            is_direct |= take_immediate(program, it, &insn, operand, is_odd);
+            is_direct |= take_immediate(program, it, insn, operand, is_odd);
     }
-    it->kind = (uint8_t)kind_of(&insn, is_direct);
-    mark(it, &insn, operands, bytes);
+    it->kind = (uint8_t)kind_of(insn, is_direct);
+    mark(it, insn, operands, bytes);
     return 1;
+}
+
+int decode(const struct program *program, uint32_t addr, struct instruction *it, int *is_odd) {
+    ZydisDecodedInstruction insn;
+    ZydisDecodedOperand operands[ZYDIS_MAX_OPERAND_COUNT];
+    return decode_whole(program, addr, it, is_odd, &insn, operands);
 }

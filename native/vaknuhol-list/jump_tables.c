@@ -32,18 +32,7 @@ void add_table(struct evidence *it, uint32_t addr, uint32_t from, uint32_t width
     if (!segment_of(it->program, addr))
         return;
     tables = room_for_one(tables, table_count, &table_capacity, sizeof *tables);
-    tables[table_count++] = (struct table){ addr, from, width, 0 };
-}
-
-/* The listed instruction that ends where another one begins, or NULL. */
-static const struct instruction *one_before(const struct evidence *it, uint32_t addr) {
-    uint32_t at = addr - 1;
-    if (addr <= it->program->lo || !in_text(it->program, at))
-        return NULL;
-    while (at > it->program->lo && addr - at < 15 && !is_start(it, at))
-        at--;
-    const struct instruction *found = is_start(it, at) ? at_start(it, at) : NULL;
-    return found && found->addr + found->length == addr ? found : NULL;
+    tables[table_count++] = (struct table){addr, from, width, 0};
 }
 
 /* A jump where the number is above that of a comparison. */

@@ -4,6 +4,7 @@
 #include <stdio.h>
 #include <string.h>
 
+#include "clones.h"
 #include "refusing.h"
 
 enum { VERSION = 1, HEAD = 64 };
@@ -22,21 +23,21 @@ struct ranges {
 };
 
 static struct output create(const char *path) {
-    struct output made = { fopen(path, "w"), path, 0 };
+    struct output made = {fopen(path, "w"), path, 0};
     if (!made.file)
-        refuse("%s: %s", path, strerror(errno));
+        refuse("%s: %m", path);
     return made;
 }
 
 static void put(struct output *to, const void *bytes, size_t count) {
     if (count && fwrite(bytes, 1, count, to->file) != count)
-        refuse("%s: %s", to->path, strerror(errno));
+        refuse("%s: %m", to->path);
     to->place += count;
 }
 
 static void close_output(struct output *to) {
     if (fclose(to->file))
-        refuse("%s: %s", to->path, strerror(errno));
+        refuse("%s: %m", to->path);
 }
 
 static void align(struct output *to) {
@@ -51,31 +52,12 @@ static void add_range(struct ranges *to, struct range range, int kind) {
     to->all[to->count++] = range;
 }
 
-/* Of linux/sched.h: what libraries share among threads (VM, FS, FILES, SIGHAND, THREAD), and what no thread is made with (PTRACE, VFORK,
-   PARENT, a signal). */
-static int is_for_thread(const struct program *program, const struct instruction *one) {
-    enum { OF_A_THREAD = 0x10F00, OF_NONE = 0xE0FF };
-    const uint8_t *bytes = bytes_at(program, one->addr, 2);
-    if ((one->number & (OF_A_THREAD | OF_NONE)) != OF_A_THREAD || segment_of(program, one->number) || !bytes)
-        return 0;
-    uint8_t opcode = bytes[(bytes[0] & 0xF0) == 0x40];
-    return opcode == 0x68 || (opcode & 0xF8) == 0xB8 || opcode == 0xC7;
-}
-
-static void find_clones(const struct evidence *it, struct ranges *to) {
-    for (size_t at = 0; at < it->count; at++) {
-        const struct instruction *one = it->found + at;
-        if (one->number && is_for_thread(it->program, one))
-            add_range(to, (struct range){ one->addr, one->addr + one->length }, CLONE);
-    }
-}
-
 static void find_unsupported(const struct evidence *it, struct range text, struct ranges *to) {
     for (uint32_t at = text.lo, end; at < text.hi; at = end) {
         for (end = at; end < text.hi && !is_supported(it, end); end++)
             continue;
         if (end > at)
-            add_range(to, (struct range){ at, end }, WITHOUT_SUPPORT);
+            add_range(to, (struct range){at, end}, WITHOUT_SUPPORT);
         else
             end = at + 1;
     }
@@ -84,19 +66,23 @@ static void find_unsupported(const struct evidence *it, struct range text, struc
 static void find_ranges(const struct told *told, struct ranges *to) {
     const struct evidence *it = told->evidence;
     const struct program *program = it->program;
+    struct range *clones;
     for (size_t at = 0; at < told->gaps->count; at++)
         add_range(to, told->gaps->doubtful[at], DOUBTFUL);
     for (uint32_t at = program->lo, end; at < program->hi; at = end) {
-        for (end = at; end < program->hi && is_data(it, end); end++)
+        for (end = at; end < program->hi && it->is_data[end - program->lo] == IS_DATA; end++)
             continue;
         if (end > at)
-            add_range(to, (struct range){ at, end }, DATA);
+            add_range(to, (struct range){at, end}, DATA);
         else
             end = at + 1;
     }
     for (size_t at = 0; at < it->break_count; at++)
         add_range(to, it->breaks[at], BREAK);
-    find_clones(it, to);
+    for (size_t at = 0, count = find_clones(it, &clones); at < count; at++)
+        add_range(to, clones[at], CLONE_FLAGS);
+    for (size_t at = 0; at < it->restart_count; at++)
+        add_range(to, it->restarts[at].range, RESTARTED);
     for (int part = 0; part < program->text_count; part++)
         find_unsupported(it, program->text[part], to);
 }
@@ -104,14 +90,15 @@ static void find_ranges(const struct told *told, struct ranges *to) {
 static void put_head(struct output *to, const struct told *told, const struct ranges *ranges, uint32_t texts) {
     const struct evidence *it = told->evidence;
     const struct program *program = it->program;
-    uint32_t text = 0, listed = 0, numbers[HEAD / 4] = { 0 };
+    uint32_t text = 0, listed = 0, numbers[HEAD / 4] = {0};
     for (int part = 0; part < program->text_count; part++) {
         text += program->text[part].hi - program->text[part].lo;
         for (uint32_t at = program->text[part].lo; at < program->text[part].hi; at++)
             listed += it->state[at - program->lo] != 0;
     }
-    uint32_t told_numbers[] = { VERSION,       (uint32_t)it->count,    (uint32_t)told->blocks->count, (uint32_t)told->names->count,
-                                (uint32_t)ranges->count, texts, text, listed, told->gaps->zeros, told->gaps->traps };
+    uint32_t told_numbers[] = {
+        VERSION,           (uint32_t)it->count, (uint32_t)told->blocks->count, (uint32_t)told->names->count, (uint32_t)ranges->count, texts, text, listed,
+        told->gaps->zeros, told->gaps->traps};
     memcpy(numbers, "VAKLIST", 8);
     memcpy(numbers + 2, told_numbers, sizeof told_numbers);
     put(to, numbers, sizeof numbers);
@@ -136,7 +123,7 @@ static uint32_t number_of(const struct instruction *one, int column) {
 }
 
 static void put_columns(struct output *to, const struct evidence *it) {
-    static const uint8_t WIDTHS[] = { 4, 4, 4, 4, 4, 4, 2, 2, 2, 1, 1, 1 };
+    static const uint8_t WIDTHS[] = {4, 4, 4, 4, 4, 4, 2, 2, 2, 1, 1, 1};
     uint8_t *column = zeros(it->count, 4);
     for (int number = 0; number < (int)sizeof WIDTHS; number++) {
         size_t width = WIDTHS[number];
@@ -169,7 +156,7 @@ static void put_names(struct output *to, const struct names *names) {
 }
 
 void write_list(const char *path, const struct told *told) {
-    struct ranges ranges = { NULL, NULL, 0, 0, 0 };
+    struct ranges ranges = {NULL, NULL, 0, 0, 0};
     struct output to = create(path);
     uint32_t texts = 0;
     for (size_t at = 0; at < told->names->count; at++)

@@ -29,11 +29,13 @@
 #include "symbols.h"
 
 enum range_kind {
-    DOUBTFUL = 1, /* no evidence says whether it is code */
-    DATA = 2,     /* it is read as data, or is a jump table */
-    BREAK = 3,    /* strong evidence leads there, and it can't be decoded */
-    CLONE = 4,    /* an instruction that moves or pushes what a call of clone for a thread has as flags */
-    WITHOUT_SUPPORT = 5, /* no instruction is listed there, or only one for which there is weak evidence: nothing of a patch may lie there */
+    DOUBTFUL = 1,        /* no evidence says whether it is code */
+    DATA = 2,            /* it is read as data, or is a jump table */
+    BREAK = 3,           /* strong evidence leads there, and it can't be decoded */
+    CLONE_FLAGS = 4,     /* an instruction that loads or pushes what a call of clone has as flags, for a thread or a process in the same memory */
+    WITHOUT_SUPPORT = 5, /* no instruction is listed there, only one for which there is weak evidence, or one of a restartable sequence or of
+                            what begins it: nothing of a patch may lie there */
+    RESTARTED = 6,       /* a restartable sequence */
 };
 
 struct told {

@@ -9,8 +9,11 @@
 #include "jump_tables.h"
 #include "list_file.h"
 #include "refusing.h"
+#include "restarts.h"
 #include "symbols.h"
 #include "words.h"
+
+const struct refusal refusal = {3, "there is no memory for %zu bytes"};
 
 static void list_all(struct evidence *it, struct names *names, struct gaps *gaps) {
     read_symbols(it, names);
@@ -28,6 +31,7 @@ static void list_all(struct evidence *it, struct names *names, struct gaps *gaps
     sweep_extents(it);
     drain(it, TABLE);
     sweep_gaps(it, gaps);
+    find_restarts(it);
     finish(it);
 }
 
@@ -35,8 +39,8 @@ int main(int count, char **words) {
     struct program program;
     struct evidence evidence;
     struct blocks blocks;
-    struct names names = { NULL, 0, 0 };
-    struct gaps gaps = { NULL, 0, 0, 0, 0 };
+    struct names names = {NULL, 0, 0};
+    struct gaps gaps = {NULL, 0, 0, 0, 0};
     if (count != 3 && count != 4)
         refuse("usage: vaknuhol-list PROGRAM LIST [STARTS]");
     open_program(&program, words[1]);
@@ -45,7 +49,7 @@ int main(int count, char **words) {
     if (!evidence.count)
         refuse("%s has no instruction that anything leads to", words[1]);
     part_blocks(&evidence, &blocks);
-    write_list(words[2], &(struct told){ &evidence, &blocks, &names, &gaps });
+    write_list(words[2], &(struct told){&evidence, &blocks, &names, &gaps});
     if (count == 4)
         write_starts(words[3], &evidence);
     return 0;

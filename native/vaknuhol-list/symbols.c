@@ -20,7 +20,7 @@ struct candidates {
 
 static void add_candidate(struct candidates *them, uint64_t addr, int rank, uint64_t length, const char *text) {
     them->all = room_for_one(them->all, them->count, &them->capacity, sizeof *them->all);
-    them->all[them->count++] = (struct candidate){ (uint32_t)addr, rank, length, text };
+    them->all[them->count++] = (struct candidate){(uint32_t)addr, rank, length, text};
 }
 
 /* Functions before objects, these before others; then what has a length, the longer one first; then global ones; then by name. */
@@ -64,26 +64,27 @@ static void take_symbol(struct evidence *it, const Elf64_Sym *symbol, const char
 static void take_table(struct evidence *it, const Elf64_Shdr *table, struct candidates *found) {
     const struct program *program = it->program;
     const Elf64_Sym *symbols = (const void *)section_bytes(program, table);
-    if (!symbols || table->sh_offset % 8 || table->sh_link >= (uint32_t)program->section_count)
+    if (!symbols || table->sh_offset % 8 || table->sh_link >= (uint32_t)program->elf.section_count)
         return;
     for (uint64_t at = 0; at < table->sh_size / sizeof *symbols; at++) {
         const Elf64_Sym *symbol = symbols + at;
-        if (symbol->st_shndx == SHN_UNDEF || symbol->st_shndx >= program->section_count || !in_text(program, symbol->st_value))
+        if (symbol->st_shndx == SHN_UNDEF || symbol->st_shndx >= program->elf.section_count || !in_text(program, symbol->st_value))
             continue;
-        take_symbol(it, symbol, string_in(program, program->sections + table->sh_link, symbol->st_name), found);
+        take_symbol(it, symbol, string_in(program, program->elf.sections + table->sh_link, symbol->st_name), found);
     }
 }
 
 void read_symbols(struct evidence *it, struct names *names) {
     const struct program *program = it->program;
-    struct candidates found = { NULL, 0, 0 };
-    for (int at = 0; at < program->section_count; at++) {
-        const Elf64_Shdr *section = program->sections + at;
+    struct candidates found = {NULL, 0, 0};
+    for (int at = 0; at < program->elf.section_count; at++) {
+        const Elf64_Shdr *section = program->elf.sections + at;
         if (section->sh_type == SHT_SYMTAB)
             take_table(it, section, &found);
         if (section->sh_flags & SHF_EXECINSTR && in_text(program, section->sh_addr)) {
             it->names[section->sh_addr - program->lo] |= NAMED;
-            add_candidate(&found, section->sh_addr, 8, 0, section_name(program, section));
+            const char *text = section_name(program, section); /* with a dot, or it would be taken for a function's */
+            add_candidate(&found, section->sh_addr, 8, 0, text[0] == '.' ? text : ".section");
         }
     }
     if (found.count)
@@ -92,7 +93,7 @@ void read_symbols(struct evidence *it, struct names *names) {
         if (names->count && names->all[names->count - 1].addr == found.all[at].addr)
             continue;
         names->all = room_for_one(names->all, names->count, &names->capacity, sizeof *names->all);
-        names->all[names->count++] = (struct name){ found.all[at].addr, found.all[at].text };
+        names->all[names->count++] = (struct name){found.all[at].addr, found.all[at].text};
     }
     free(found.all);
 }
@@ -108,8 +109,8 @@ static void propose_array(struct evidence *it, const Elf64_Shdr *section) {
 
 void propose_entries(struct evidence *it) {
     const struct program *program = it->program;
-    for (int at = 0; at < program->section_count; at++) {
-        const Elf64_Shdr *section = program->sections + at;
+    for (int at = 0; at < program->elf.section_count; at++) {
+        const Elf64_Shdr *section = program->elf.sections + at;
         const char *name = section_name(program, section);
         if (section->sh_type == SHT_INIT_ARRAY || section->sh_type == SHT_FINI_ARRAY || section->sh_type == SHT_PREINIT_ARRAY)
             propose_array(it, section);

@@ -8,13 +8,17 @@ enum { ALIGNED = 16, FARTHEST = 2048 };
 /* Whether the bytes before an address may be the end of what doesn't go on, of a nop or of fill. A call may not return. */
 static int may_end_before(const uint8_t *end) {
     switch (end[-1]) {
-    case 0: case NOP: case INT3: case RET: case HLT: return 1;
+    case 0:
+    case NOP:
+    case INT3:
+    case RET:
+    case HLT: return 1;
     default: break;
     }
     if (end[-2] == JUMP_SHORT || (end[-2] == 0x0F && end[-1] == 0x0B) || (end[-2] == 0xFF && (end[-1] & 0xF8) == 0xE0))
         return 1; /* a short jump, ud2, a jump by a register */
     if (end[-3] == 0xC2 || end[-5] == CALL_NEAR || end[-5] == JUMP_NEAR)
-        return 1; /* a return that takes arguments away */
+        return 1;                                       /* a return that takes arguments away */
     return end[-6] == 0xFF && (end[-5] & 0xC7) == 0x05; /* a call or jump by an address in memory */
 }
 

@@ -14,70 +14,26 @@
 #include <sys/syscall.h>
 
 #include "record.h"
+#include "refusing.h"
 #include "script.h"
 #include "shadow.h"
 
-enum { KNOWN = 1 << 16, MOST_SCRIPT = 255 << 20 };
+enum { MOST_SCRIPT = 255 << 20 };
 
-static struct decoded *known;
-static ZydisDecoder decoder;
+const struct refusal refusal = {1, "no memory: %m"};
 static struct record record;
 static FILE *states;
 static int is_full, keeps_evex;
 static long written, delivered;
 
-/* The instruction at an address, read and decoded once where it stands in the file's segments. */
-static const struct decoded *decode(uint64_t rip) {
-    struct decoded *insn = &known[(rip * 0x9e3779b97f4a7c15) >> 48];
-    size_t size = MOST_BYTES;
-    if (insn->rip == rip && insn->insn.length && is_own(rip))
-        return insn;
-    while (size > 0 && !read_part(rip, insn->bytes, size))
-        size--;
-    insn->rip = rip;
-    if (!size || ZYAN_FAILED(ZydisDecoderDecodeFull(&decoder, insn->bytes, size, &insn->insn, insn->operands))) {
-        insn->insn.length = 0;
-        return 0;
-    }
-    insn->kind = class_of(insn->bytes, insn->insn.length, &insn->shifts);
-    return insn;
-}
-
 /* Why the run ends at a system call: it starts a thread, or another program in its place. */
 static const char *ends_at_call(const struct user_regs_struct *regs) {
     uint64_t flags = regs->rdi, thread = 0x10000, shared = 0x100, waits = 0x4000;
-    if (regs->rax == SYS_clone3 && !read_part(regs->rdi, &flags, 8))
+    if (regs->rax == SYS_clone3 && !read_memory(tracee(), regs->rdi, &flags, 8))
         return 0;
     if ((regs->rax == SYS_clone || regs->rax == SYS_clone3) && (flags & thread || (flags & shared && !(flags & waits))))
         return "thread";
     return 0;
-}
-
-/* What the trap flag and AVX-512 would show is put right in the process, as a plain run has it. */
-static void put_right(const struct decoded *insn, const struct user_regs_struct *before, struct user_regs_struct *after) {
-    ZydisMnemonic name = insn->insn.mnemonic;
-    if (name == ZYDIS_MNEMONIC_PUSHF || name == ZYDIS_MNEMONIC_PUSHFQ) {
-        uint16_t low;
-        if (read_part(after->rsp, &low, 2)) {
-            low &= ~TRAP_FLAG;
-            write_part(after->rsp, &low, 2);
-        }
-    } else if (name == ZYDIS_MNEMONIC_SYSCALL)
-        after->r11 = before->eflags;
-    else if (name == ZYDIS_MNEMONIC_CPUID && !keeps_evex)
-        hide_evex(before, after);
-    else
-        return;
-    set_regs(after);
-}
-
-/* A system call that the run does without: rseq, whose memory the kernel changes at any time. */
-static void refuse_rseq(struct user_regs_struct *regs) {
-    if (regs->rax == SYS_rseq) {
-        struct user_regs_struct other = *regs;
-        other.rax = 0xffff;
-        set_regs(&other);
-    }
 }
 
 /* Makes an asked instruction and writes its entry. */
@@ -88,13 +44,13 @@ static enum outcome make_asked(const struct decoded *insn, struct user_regs_stru
         const char *why = ends_at_call(before);
         if (why)
             return ends_by(why);
-        refuse_rseq(before);
+        refuse_rseq(tracee(), before);
     }
     all ? take_all(0) : take_spans(spans, count, 0);
     enum outcome outcome = make_step(insn, after);
     if (outcome != MADE)
         return outcome;
-    put_right(insn, before, after);
+    put_right(tracee(), insn, before, after, keeps_evex);
     write_question(record.entries, insn);
     write_changes(record.entries, before, after);
     all ? take_all(record.entries) : take_spans(spans, count, record.entries);
@@ -141,7 +97,7 @@ static void run(struct user_regs_struct *regs, uint64_t every, uint64_t limit) {
     write_state(states, 0, regs);
     while (record.steps < limit) {
         const struct record before = record;
-        const struct decoded *insn = decode(regs->rip);
+        const struct decoded *insn = decode(tracee(), regs->rip, is_own(regs->rip));
         if (insn ? make(insn, regs, &after) == ENDED || !has_room(&before) : !ends_by("unreadable"))
             break;
         if (record.steps > before.steps && record.steps % every == 0)
@@ -187,24 +143,23 @@ int main(int count, char **words) {
     record.path = fopen(words[3], "w");
     record.entries = tmpfile();
     record.deliveries = tmpfile();
-    known = calloc(KNOWN, sizeof *known);
-    if (!world || !states || !record.path || !record.entries || !record.deliveries || !known)
+    if (!world || !states || !record.path || !record.entries || !record.deliveries)
         die("the outputs can't be written");
-    ZydisDecoderInit(&decoder, ZYDIS_MACHINE_MODE_LONG_64, ZYDIS_STACK_WIDTH_64);
     read_segments(words[program]);
     start(words + program);
-    get_regs(&first);
+    get_regs(tracee(), &first);
     first.orig_rax = -1;
-    blank_vdso(first.rsp);
+    if (!change_vector(tracee(), first.rsp, &(struct told){0}, 1))
+        die("the program's memory can't be changed");
     move_break(&first);
-    set_regs(&first);
+    set_regs(tracee(), &first);
     struct stack stack = read_stack(first.rsp);
     regs = first;
     run(&regs, strtoull(words[4], 0, 10), strtoull(words[5], 0, 10));
     if (is_running())
         see_maps();
-    end_tracee();
-    write_world(world, &first, &stack, (struct part){ record.deliveries, delivered }, (struct part){ record.entries, written });
+    end_started();
+    write_world(world, &first, &stack, (struct part){record.deliveries, delivered}, (struct part){record.entries, written});
     fprintf(states, "asked %lu\nflags_alone %lu\nend %s\n", record.asked, record.flags_alone, ending());
     if (fclose(states) || fclose(record.path))
         die("the states can't be written");

@@ -5,6 +5,7 @@
 #include <sys/syscall.h>
 #include <ucontext.h>
 
+#include "refusing.h"
 #include "script.h"
 #include "shadow.h"
 
@@ -12,7 +13,7 @@ void count_step(struct record *record, const struct decoded *insn, struct user_r
     uint64_t jumps = after->rip != insn->rip + insn->insn.length, word = insn->rip | jumps << 63;
     fwrite(&word, sizeof word, 1, record->path);
     for (int at = 0; at < record->kept_count; at++)
-        fwrite(slot(before, record->kept[at]), sizeof word, 1, record->path);
+        fwrite(register_of(before, record->kept[at]), sizeof word, 1, record->path);
     record->arrived = *after;
     record->steps++;
 }
@@ -54,18 +55,17 @@ static void write_call(struct record *record, const struct decoded *insn, struct
 /* A register that the frame of the handler keeps. */
 static uint64_t kept_in_frame(const struct user_regs_struct *in_handler, int number) {
     uint64_t value = 0, context = in_handler->rsp + sizeof(void *);
-    if (!read_part(context + offsetof(ucontext_t, uc_mcontext.gregs) + number * sizeof(greg_t), &value, sizeof value))
+    if (!read_memory(tracee(), context + offsetof(ucontext_t, uc_mcontext.gregs) + number * sizeof(greg_t), &value, sizeof value))
         die("the frame of a handler can't be read");
     return value;
 }
 
-enum outcome deliver(struct record *record, const struct decoded *insn, struct user_regs_struct *before,
-                     struct user_regs_struct *after) {
+enum outcome deliver(struct record *record, const struct decoded *insn, struct user_regs_struct *before, struct user_regs_struct *after) {
     int ends_call = is_syscall(insn) && after->rip != insn->rip;
     char *first_writes = begun_writes(insn, before, after);
     if (ends_call) { /* all was taken over before the call; what it wrote belongs to the delivery */
         after->r11 = before->eflags;
-        set_regs(after);
+        set_regs(tracee(), after);
     } else
         take_all(0);
     int is_entered = enter_handler(after);
@@ -77,12 +77,9 @@ enum outcome deliver(struct record *record, const struct decoded *insn, struct u
     return is_entered ? CAME : ENDED;
 }
 
-int is_return(const struct decoded *insn, const struct user_regs_struct *before) {
-    return is_syscall(insn) && before->rax == SYS_rt_sigreturn;
-}
+int is_return(const struct decoded *insn, const struct user_regs_struct *before) { return is_syscall(insn) && before->rax == SYS_rt_sigreturn; }
 
-enum outcome make_return(struct record *record, const struct decoded *insn, struct user_regs_struct *before,
-                         struct user_regs_struct *after) {
+enum outcome make_return(struct record *record, const struct decoded *insn, struct user_regs_struct *before, struct user_regs_struct *after) {
     take_all(0);
     enum outcome outcome = make_step(insn, after);
     if (outcome != MADE)

@@ -1,15 +1,14 @@
 #include "script.h"
 
-#include <errno.h>
 #include <stdlib.h>
 
+#include "child.h"
+#include "refusing.h"
 #include "shadow.h"
-#include "tracee.h"
 
 enum { MOST_REGIONS = 16, MOST_ZEROS = 16777216 };
 
-static const char *NAMES[] = { "rax", "rcx", "rdx", "rbx", "rsp", "rbp", "rsi", "rdi",
-                               "r8",  "r9",  "r10", "r11", "r12", "r13", "r14", "r15" };
+static const char *NAMES[] = {"rax", "rcx", "rdx", "rbx", "rsp", "rbp", "rsi", "rdi", "r8", "r9", "r10", "r11", "r12", "r13", "r14", "r15"};
 
 void write_question(FILE *entries, const struct decoded *insn) {
     uint8_t bytes[MOST_BYTES];
@@ -23,8 +22,8 @@ void write_question(FILE *entries, const struct decoded *insn) {
 
 void write_changes(FILE *entries, struct user_regs_struct *before, struct user_regs_struct *after) {
     for (int at = 0; at < 16; at++)
-        if (*slot(before, at) != *slot(after, at))
-            fprintf(entries, "set %s %016llx\n", NAMES[at], *slot(after, at));
+        if (*register_of(before, at) != *register_of(after, at))
+            fprintf(entries, "set %s %016llx\n", NAMES[at], *register_of(after, at));
     if (before->eflags != after->eflags)
         fprintf(entries, "set flags %016llx\n", after->eflags);
     if (before->fs_base != after->fs_base)
@@ -35,7 +34,7 @@ void write_changes(FILE *entries, struct user_regs_struct *before, struct user_r
 
 static void write_values(FILE *file, struct user_regs_struct *regs) {
     for (int at = 0; at < 16; at++)
-        fprintf(file, "%s %016llx\n", NAMES[at], *slot(regs, at));
+        fprintf(file, "%s %016llx\n", NAMES[at], *register_of(regs, at));
     fprintf(file, "flags %016llx\nfs %016llx\ngs %016llx\n", regs->eflags, regs->fs_base, regs->gs_base);
 }
 
@@ -51,13 +50,13 @@ void write_due(FILE *deliveries, uint64_t steps, struct user_regs_struct *regs) 
 }
 
 struct stack read_stack(uint64_t rsp) {
-    struct stack stack = { .end = end_of_range(rsp) };
+    struct stack stack = {.end = end_of_range(rsp)};
     stack.bytes = malloc(stack.end - rsp);
     if (!stack.bytes || stack.end == rsp)
         die("the stack can't be read");
     for (uint64_t at = rsp, next; at < stack.end; at = next) {
         next = (at / PAGE + 1) * PAGE;
-        if (!read_part(at, stack.bytes + (at - rsp), next - at))
+        if (!read_memory(tracee(), at, stack.bytes + (at - rsp), next - at))
             die("the stack can't be read");
     }
     return stack;
@@ -98,11 +97,8 @@ static void write_regions(FILE *world, uint64_t rsp, const struct stack *stack) 
         if (has_stack)
             count += write_bytes(world, rsp, stack->end, stack->bytes) + write_zeros(world, after);
     }
-    errno = 0;
-    if (count > MOST_REGIONS) {
-        fprintf(stderr, "vaknuhol-record: the run needs %d regions of memory; a script has at most %d\n", count, MOST_REGIONS);
-        exit(1);
-    }
+    if (count > MOST_REGIONS)
+        refuse("the run needs %d regions of memory; a script has at most %d", count, MOST_REGIONS);
 }
 
 static void copy(FILE *world, struct part part) {

@@ -1,11 +1,11 @@
 #include "shadow.h"
 
-#include <elf.h>
 #include <stdlib.h>
 #include <string.h>
-#include <unistd.h>
 
-#include "tracee.h"
+#include "child.h"
+#include "file.h"
+#include "refusing.h"
 
 enum { MOST_RANGES = 4096, LINE = 4096 };
 
@@ -25,19 +25,12 @@ static struct page first_pages[1 << 12], *shadow = first_pages;
 static size_t shadow_size = 1 << 12, shadow_count;
 
 void read_segments(const char *path) {
-    Elf64_Ehdr head;
-    Elf64_Phdr entry;
-    FILE *file = fopen(path, "rb");
-    if (!file || fread(&head, sizeof head, 1, file) != 1)
+    struct elf elf;
+    if (!map_file(&elf.file, path, sizeof(Elf64_Ehdr)) || !find_tables(&elf))
         die(path);
-    for (int at = 0; at < head.e_phnum; at++) {
-        if (fseek(file, head.e_phoff + at * sizeof entry, SEEK_SET) || fread(&entry, sizeof entry, 1, file) != 1)
-            die(path);
-        if (entry.p_type == PT_LOAD && entry.p_memsz && own.count < MOST_RANGES)
-            own.at[own.count++] = (struct range){ entry.p_vaddr / PAGE * PAGE,
-                                                  (entry.p_vaddr + entry.p_memsz + PAGE - 1) / PAGE * PAGE, 0, 0 };
-    }
-    fclose(file);
+    for (const Elf64_Phdr *it = elf.headers; it < elf.headers + elf.header_count; it++)
+        if (it->p_type == PT_LOAD && it->p_memsz && own.count < MOST_RANGES)
+            own.at[own.count++] = (struct range){it->p_vaddr / PAGE * PAGE, (it->p_vaddr + it->p_memsz + PAGE - 1) / PAGE * PAGE, 0, 0};
 }
 
 /* The place of a page in the shadow, empty where the page isn't known. */
@@ -52,12 +45,10 @@ static void grow_shadow(void) {
     struct page *old = shadow;
     size_t size = shadow_size;
     shadow_size *= 2;
-    shadow = calloc(shadow_size, sizeof *shadow);
-    for (size_t place = 0; shadow && place < size; place++)
+    shadow = zeros(shadow_size, sizeof *shadow);
+    for (size_t place = 0; place < size; place++)
         if (old[place].bytes)
             *place_of(old[place].at) = old[place];
-    if (!shadow)
-        die("no memory");
     if (old != first_pages)
         free(old);
 }
@@ -72,9 +63,7 @@ static uint8_t *shadow_of(uint64_t at) {
         page = place_of(at);
     }
     page->at = at;
-    page->bytes = calloc(1, PAGE);
-    if (!page->bytes)
-        die("no memory");
+    page->bytes = zeros(1, PAGE);
     return page->bytes;
 }
 
@@ -104,7 +93,7 @@ static void add_seen(uint64_t lo, uint64_t hi, int executable) {
         }
     if (seen.count == MOST_RANGES)
         die("the program maps too many ranges of memory");
-    seen.at[seen.count++] = (struct range){ lo, hi, executable, 0 };
+    seen.at[seen.count++] = (struct range){lo, hi, executable, 0};
 }
 
 /* The readable ranges of the process that the run may change or that lie beside its file; they are marked as seen. */
@@ -117,12 +106,12 @@ static void read_maps(struct ranges *ranges) {
     ranges->count = 0;
     while (fgets(line, sizeof line, maps)) {
         name[0] = 0;
-        if (sscanf(line, "%lx-%lx %7s %*s %*s %lu %255s", &lo, &hi, perms, &inode, name) < 4 || perms[0] != 'r' ||
-            !strncmp(name, "[v", 2) || (perms[1] != 'w' && is_own(lo)))
+        if (sscanf(line, "%lx-%lx %7s %*s %*s %lu %255s", &lo, &hi, perms, &inode, name) < 4 || perms[0] != 'r' || !strncmp(name, "[v", 2)
+            || (perms[1] != 'w' && is_own(lo)))
             continue;
         if (ranges->count == MOST_RANGES)
             die("the program maps too many ranges of memory");
-        ranges->at[ranges->count++] = (struct range){ lo, hi, perms[2] == 'x', inode == 0 };
+        ranges->at[ranges->count++] = (struct range){lo, hi, perms[2] == 'x', inode == 0};
         add_seen(lo, hi, perms[2] == 'x');
     }
     fclose(maps);
@@ -188,13 +177,11 @@ void take_all(FILE *entries) {
     for (int at = 0; at < now.count; at++) {
         const struct range *range = &now.at[at];
         size_t pages = (range->hi - range->lo) / PAGE;
-        uint8_t *is_there = malloc(pages);
-        if (!is_there)
-            die("no memory");
+        uint8_t *is_there = zeros(pages, 1);
         read_presence(range, is_there, pages);
         for (size_t place = 0; place < pages; place++) {
             uint64_t page = range->lo + place * PAGE;
-            int read = is_there[place] && read_part(page, bytes, PAGE);
+            int read = is_there[place] && read_memory(tracee(), page, bytes, PAGE);
             if (!read && (is_own(page) || !place_of(page)->bytes))
                 continue;
             if (!read)
@@ -214,7 +201,7 @@ void take_spans(const struct span *spans, int count, FILE *entries) {
     for (int at = 0; at < count; at++)
         for (uint64_t lo = spans[at].lo, hi; lo < spans[at].hi; lo = hi) {
             hi = (lo / PAGE + 1) * PAGE < spans[at].hi ? (lo / PAGE + 1) * PAGE : spans[at].hi;
-            if (!read_part(lo, bytes, hi - lo))
+            if (!read_memory(tracee(), lo, bytes, hi - lo))
                 continue;
             uint8_t *before = shadow_of(lo / PAGE * PAGE) + lo % PAGE;
             if (!entries)

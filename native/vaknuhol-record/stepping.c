@@ -10,18 +10,12 @@ static int held_count, came;      /* came: the signal of this stop, with a handl
 static int is_held;               /* it is the first of those that waited */
 static uint64_t rested;           /* steps since a handler was entered or left */
 
-void rest(void) {
-    rested = 0;
-}
-
-static int is_in(const char *name, int number) {
-    return signals_of(name) >> (number - 1) & 1;
-}
+void rest(void) { rested = 0; }
 
 /* Whether a signal changes nothing: it is ignored. */
 static int is_idle(int number) {
     int is_ignored = number == SIGCHLD || number == SIGURG || number == SIGWINCH || number == SIGCONT;
-    return is_in("SigIgn", number) || (is_ignored && !is_in("SigCgt", number));
+    return is_signal_in(tracee(), "\nSigIgn:", number) || (is_ignored && !is_signal_in(tracee(), "\nSigCgt:", number));
 }
 
 /* A repeated instruction stops after each turn, and a system call that a signal interrupts is made again. */
@@ -37,9 +31,7 @@ static int is_unfinished(const struct decoded *insn, const struct user_regs_stru
 
 /* Whether a signal from outside may come before this instruction. Before a system call it doesn't wait for long: the call may wait for
    it. */
-static int may_come(const struct decoded *insn) {
-    return rested >= REST || (enters_kernel(insn) && rested > 0);
-}
+static int may_come(const struct decoded *insn) { return rested >= REST || (enters_kernel(insn) && rested > 0); }
 
 /* Whether a timer or another process sent a signal; a program that sends one itself has it at once. */
 static int is_from_outside(const siginfo_t *info) {
@@ -70,11 +62,11 @@ static enum outcome take_signal(int number, int *sent, const struct decoded *ins
         *sent = number;
         return MADE;
     }
-    if (!is_in("SigCgt", number)) {
+    if (!is_signal_in(tracee(), "\nSigCgt:", number)) {
         snprintf(why, sizeof why, "signal %d", number);
         return ends_by(why);
     }
-    get_regs(regs);
+    get_regs(tracee(), regs);
     if (is_kept(insn, regs))
         return MADE;
     came = number, is_held = 0;
@@ -83,7 +75,7 @@ static enum outcome take_signal(int number, int *sent, const struct decoded *ins
 
 /* Whether a signal that waited comes now. */
 static int is_released(const struct decoded *insn) {
-    if (!held_count || !may_come(insn) || is_in("SigBlk", held[0].si_signo))
+    if (!held_count || !may_come(insn) || is_signal_in(tracee(), "\nSigBlk:", held[0].si_signo))
         return 0;
     came = held[0].si_signo, is_held = 1;
     return 1;
@@ -92,7 +84,7 @@ static int is_released(const struct decoded *insn) {
 enum outcome make_step(const struct decoded *insn, struct user_regs_struct *regs) {
     int sent = 0;
     if (is_released(insn)) {
-        get_regs(regs);
+        get_regs(tracee(), regs);
         return CAME;
     }
     for (;;) {
@@ -106,7 +98,7 @@ enum outcome make_step(const struct decoded *insn, struct user_regs_struct *regs
             continue;
         }
         sent = 0;
-        get_regs(regs);
+        get_regs(tracee(), regs);
         if (!is_unfinished(insn, regs)) {
             rested++;
             return MADE;
@@ -128,7 +120,7 @@ int enter_handler(struct user_regs_struct *regs) {
         return ends_by(why);
     }
     if (number)
-        get_regs(regs);
+        get_regs(tracee(), regs);
     rest();
     return number;
 }

@@ -1,7 +1,7 @@
 /* Instructions of the process, one by one, and the signals that come to it meanwhile. */
 #ifndef STEPPING_H
 #define STEPPING_H
-#include "tracee.h"
+#include "child.h"
 
 /* What became of an instruction: the run ended, it is made, or a signal came that has a handler, before it or while it waited in a
    system call. */

@@ -17,10 +17,11 @@ static const struct rule *rule_at(uint64_t address) {
     return low > rules && address < low[-1].end ? low - 1 : NULL;
 }
 
-/* Whether a thread was led to where no memory is, as by a null pointer to a function. It has made no more than the call. */
-static int is_led_astray(pid_t tid, uint64_t at) {
+/* Whether a thread was led to where no memory is, as by a null pointer to a function. It has made no more than the call. Its stack can be read. */
+static int is_led_astray(pid_t tid, uint64_t at, uint64_t rsp) {
     uint8_t byte;
-    return !read_memory(tid, at, &byte, sizeof byte);
+    uint64_t word;
+    return !read_memory(tid, at, &byte, sizeof byte) && read_word(tid, rsp, &word);
 }
 
 unsigned find_frames(pid_t tid, const struct user_regs_struct *regs, struct frame found[MOST_FRAMES]) {
@@ -29,14 +30,13 @@ unsigned find_frames(pid_t tid, const struct user_regs_struct *regs, struct fram
     while (count < MOST_FRAMES) {
         const struct rule *it = rule_at(at);
         found[count++] = (struct frame){at, it ? it->begin : 0, it ? it->end : 0};
-        if (!it && count == 1 && is_led_astray(tid, at))
+        if (!it && count == 1 && is_led_astray(tid, at, rsp))
             it = &behind_call;
         uint64_t end = !it || !it->reg ? 0 : (it->reg == RBP ? rbp : rsp) + (uint64_t)(int64_t)it->distance;
-        if (end <= rsp)
+        if (end <= rsp || !read_word(tid, end - ADDRESS, &at) || (it->rbp_place && !read_word(tid, end + (uint64_t)(int64_t)it->rbp_place, &rbp)))
             break;
         rsp = end;
-        at = eight_at(tid, end - ADDRESS) - 1; /* the last byte of the call, whose function may end behind it */
-        rbp = it->rbp_place ? eight_at(tid, end + (uint64_t)(int64_t)it->rbp_place) : rbp;
+        at--; /* the last byte of the call, whose function may end behind it */
     }
     return count;
 }

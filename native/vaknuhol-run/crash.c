@@ -2,7 +2,7 @@
    them all, so by then the ring has what they did after the crash, and may have lost what led to it. */
 #include "run.h"
 
-enum { FIRST, END, SITE, ADDRESS_BYTES = 9 };
+enum { FIRST, END, SITE, ADDRESS_BYTES = 9, AT_ONCE = 256 };
 static const unsigned FAULTS = 1u << SIGSEGV | 1u << SIGBUS | 1u << SIGFPE | 1u << SIGILL | 1u << SIGTRAP | 1u << SIGSYS,
                       OTHERS = 1u << SIGABRT | 1u << SIGQUIT | 1u << SIGXCPU | 1u << SIGXFSZ; /* these end a process with a core file, too */
 
@@ -10,8 +10,7 @@ static const unsigned FAULTS = 1u << SIGSEGV | 1u << SIGBUS | 1u << SIGFPE | 1u 
 int is_crash(pid_t tid, int number) {
     if (patch->kind != RING || !patch->for_threads || number >= SIGNALS || !((FAULTS | OTHERS) >> number & 1))
         return 0;
-    unsigned long long caught = strtoull(status_of(tid, "\nSigCgt:"), NULL, 16), ignored = strtoull(status_of(tid, "\nSigIgn:"), NULL, 16);
-    return !((caught | ignored) >> (number - 1) & 1);
+    return !is_signal_in(tid, "\nSigCgt:", number) && !is_signal_in(tid, "\nSigIgn:", number);
 }
 
 /* The number of a thread's process, as that knows it: the last one, of the innermost namespace. */
@@ -30,9 +29,7 @@ int is_of_thread(pid_t tid, const siginfo_t *info) {
 }
 
 /* The first address of a row, its end and its site. */
-static uint64_t address_of(const struct row *row, unsigned which) {
-    return strtoull(row_text + row->at + ADDRESS_BYTES * which, NULL, 16);
-}
+static uint64_t address_of(const struct row *row, unsigned which) { return strtoull(row_text + row->at + ADDRESS_BYTES * which, NULL, 16); }
 
 /* The number of the site of the patched block that has an address, or PLAIN. */
 static uint32_t block_of(uint64_t address) {
@@ -42,15 +39,31 @@ static uint32_t block_of(uint64_t address) {
     return PLAIN;
 }
 
-/* The ring as it stands, or as it was read. What was claimed while it was copied stands in the place of its oldest events, which are left out. */
-static uint32_t *copied(const struct space *space, pid_t tid) {
+/* Words of the ring, of which others may be written meanwhile; whether they could be read. */
+static int read_ring(const struct space *space, pid_t tid, uint32_t first, uint32_t *to, uint32_t count) {
     const uint32_t *ring = (const uint32_t *)(space->range + SCRATCH);
-    uint32_t *copy = zeros(patch->data_length), position = __atomic_load_n(ring, __ATOMIC_SEQ_CST);
-    memcpy(copy, ring, patch->data_length);
-    uint32_t now = space->is_shared ? __atomic_load_n(ring, __ATOMIC_SEQ_CST) : (uint32_t)eight_at(tid, patch->private_at + SCRATCH);
-    copy[0] = position;
-    for (uint32_t n = 0; n < now - position && n < patch->slots; n++)
-        copy[1 + (position + n) % patch->slots] = 0;
+    for (uint32_t n = 0; space->is_shared && n < count; n++)
+        to[n] = __atomic_load_n(&ring[first + n], __ATOMIC_SEQ_CST);
+    return space->is_shared || read_memory(tid, patch->private_at + SCRATCH + first * sizeof *ring, to, count * sizeof *to);
+}
+
+/* The ring as it stands. The other threads claim slots while it is copied, the oldest ones first, and so many that a runner which has to wait for a processor
+   finds all of them claimed: so the newest are copied first. What was claimed before it was copied is left out. */
+static uint32_t *copied(const struct space *space, pid_t tid) {
+    uint32_t *copy = zeros(patch->data_length), slots = patch->slots, claimed = 0, now;
+    if (!read_ring(space, tid, 0, copy, 1))
+        return memcpy(copy, space->range + SCRATCH, patch->data_length);
+    for (uint32_t back = 0, count; back < slots - claimed; back += count) {
+        uint32_t end = (copy[0] - 1 - back) % slots + 1; /* of the slots before those that were copied */
+        count = slots - back < AT_ONCE ? slots - back : AT_ONCE;
+        count = end < count ? end : count;
+        uint32_t *part = copy + 1 + end - count;
+        if (!read_ring(space, tid, 1 + end - count, part, count) || !read_ring(space, tid, 0, &now, 1))
+            now = copy[0] + slots;
+        claimed = now - copy[0] < slots ? now - copy[0] : slots;
+        for (uint32_t n = 0; n < count && back + count - n > slots - claimed; n++)
+            part[n] = 0;
+    }
     return copy;
 }
 

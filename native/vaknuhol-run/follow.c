@@ -4,7 +4,8 @@
 #include <stddef.h>
 #include <time.h>
 
-enum { PAUSE = 2, COSTS_AT_MOST = 20 }; /* seconds between two writings of the record, and how many times as long as one takes */
+/* Seconds between two writings of the record, how many times as long as one takes, and after how many it is told that the program alone has ended. */
+enum { PAUSE = 2, COSTS_AT_MOST = 20, TOLD_AFTER = 1 };
 static const int PASSED_ON[] = {SIGINT, SIGQUIT, SIGTERM, SIGHUP, SIGUSR1, SIGUSR2};
 
 struct tasks all_tasks = LIST_HEAD_INITIALIZER(all_tasks);
@@ -15,8 +16,8 @@ static int is_loss_told, is_rest_told;
 static struct task *find_task(pid_t tid, pid_t group) {
     struct task *it;
     LIST_FOREACH(it, &all_tasks, others)
-        if (it->tid == tid || it->group == group)
-            break;
+    if (it->tid == tid || it->group == group)
+        break;
     return it;
 }
 
@@ -33,7 +34,8 @@ void drop_task(struct task *it, const char *how, int has_memory) {
     if (space && --space->members == 0) {
         if (!(has_memory ? read_range(space, it->tid) : space->is_shared) && !is_loss_told++)
             warnx("warning: the memory of process %d was its own, and could not be read as it ended, or began another program (exec): its record has "
-                  "too few events, what was read up to two seconds before, or none", it->group);
+                  "too few events, what was read up to two seconds before, or none",
+                  it->group);
         snprintf(space->ended, sizeof space->ended, "%s", how);
         drop_space(space);
     }
@@ -49,12 +51,19 @@ static int is_ours(pid_t pid) {
     return !stat(path, &now) && now.st_dev == run->image.st_dev && now.st_ino == run->image.st_ino;
 }
 
-/* The flags of clone with which a thread at its first stop was made: it has the registers of the call. */
+/* The flags of clone with which a thread at its first stop was made: it has the registers of the call. Of clone3 they are in memory; where that can't be read,
+   it is taken for the call of posix_spawn, since fork makes clone. */
 static unsigned long birth_flags(pid_t tid) {
     long number = ptrace(PTRACE_PEEKUSER, tid, offsetof(struct user, regs.orig_rax), 0);
     unsigned long first = (unsigned long)ptrace(PTRACE_PEEKUSER, tid, offsetof(struct user, regs.rdi), 0);
-    return number == SYS_clone ? first : number == SYS_clone3 ? eight_at(tid, first) : number == SYS_vfork ? CLONE_VM : 0;
+    uint64_t flags = CLONE_VM | CLONE_VFORK;
+    if (number == SYS_clone3)
+        read_word(tid, first, &flags);
+    return number == SYS_clone ? first : number == SYS_clone3 || number == SYS_vfork ? flags : 0;
 }
+
+/* A thread, or a process that runs at once with its parent in the same memory. */
+static int is_beside(pid_t tid, pid_t group) { return group != tid || (birth_flags(tid) & (CLONE_VM | CLONE_VFORK)) == CLONE_VM; }
 
 /* A thread or a process at its first stop. Its parent hasn't gone on yet, but may have been killed. */
 static void born(pid_t tid) {
@@ -62,13 +71,12 @@ static void born(pid_t tid) {
     const struct task *parent = find_task(0, group == tid ? atoi(status_of(tid, "\nPPid:")) : group);
     struct space *space = parent ? parent->space : NULL;
     int has_program = parent ? space != NULL : is_ours(tid);
-    if (space && group != tid && !run->threads++ && patch->warning[0])
+    if (space && is_beside(tid, group) && !run->threads++ && patch->warning[0])
         warnx("%s", patch->warning);
     if (has_program && !(birth_flags(tid) & CLONE_VM)) {
         run->processes++;
-        space = space_of(tid, 1);
-        if (!space && !kill(tid, SIGKILL))
-            warnx("process %d was ended: no memory could be mapped for its record", tid);
+        space = space_of_child(tid, space);
+        run->unrecorded += !space;
     }
     add_task(tid, group, space);
     ptrace(PTRACE_CONT, tid, 0, 0);
@@ -77,12 +85,11 @@ static void born(pid_t tid) {
 /* A parent goes on, and perhaps to another program, once its child has been seen. */
 static void await_child(pid_t tid) {
     siginfo_t info;
-    if (!find_task(tid, 0) && !TEMP_FAILURE_RETRY(waitid(P_PID, (id_t)tid, &info, WEXITED | WSTOPPED | WNOWAIT | __WALL))
-        && info.si_code == CLD_TRAPPED)
+    if (!find_task(tid, 0) && !TEMP_FAILURE_RETRY(waitid(P_PID, (id_t)tid, &info, WEXITED | WSTOPPED | WNOWAIT | __WALL)) && info.si_code == CLD_TRAPPED)
         born(tid);
 }
 
-/* A stand-in's runner is then done with the program's errors. */
+/* A stand-in's runner is then done with the program's errors; who called another one waits for it. */
 static void first_ends(void) {
     if (!run->processes)
         errx(REFUSED, "%s can't be started: is it a whole program, and may it be executed?", run->patched);
@@ -90,6 +97,29 @@ static void first_ends(void) {
     write_record(run, TAILQ_EMPTY(&all_spaces));
     if (run->is_stand_in)
         dup2(0, 2);
+    else
+        alarm(TOLD_AFTER);
+}
+
+/* That the program has ended, and what it left has not. */
+static void tell_rest(void) {
+    const struct task *it;
+    int others = 0;
+    LIST_FOREACH(it, &all_tasks, others)
+    others += it == find_task(0, it->group);
+    pid_t group = others ? LIST_FIRST(&all_tasks)->group : 0;
+    if (others && !run->is_stand_in && !is_rest_told++)
+        warnx("the program has ended, and process %d, which it left%s, is waited for: kill %d ends it, vaknuhol dump --detach %d lets it run on", group,
+              others > 1 ? " with others" : "", group, group);
+}
+
+/* A program learns from the kernel where its table of program headers is loaded, how many entries that has, and where the program starts. The patched
+   file's table is another, longer one, and a loader form starts at its stub. The C library of a static program reads the table, so it would do other
+   work than in the original. The original's table is loaded too, where the original has it, and as it was: the process is told of that. */
+static void tell_original(pid_t tid) {
+    struct user_regs_struct regs;
+    if (patch->told.header_count && !ptrace(PTRACE_GETREGS, tid, 0, &regs))
+        change_vector(tid, regs.rsp, &patch->told, 0);
 }
 
 /* At exec's stop the other threads are gone, and the process may run the patched program, or again. */
@@ -103,7 +133,7 @@ static void replaced(pid_t pid) {
     if (has_program)
         tell_original(pid);
     if (has_program || !run->is_stand_in)
-        add_task(pid, pid, has_program && to_call_stop(pid, &(int){0}) ? space_of(pid, 0) : NULL);
+        add_task(pid, pid, has_program && to_call_stop(pid) ? space_of(pid) : NULL);
     else if (pid == run->first)
         first_ends();
     ptrace(has_program || !run->is_stand_in ? PTRACE_CONT : PTRACE_DETACH, pid, 0, 0);
@@ -133,21 +163,32 @@ static void stopped(pid_t tid, int number, int event) {
             await_child((pid_t)told);
         else if (event == PTRACE_EVENT_EXIT)
             ended(tid, (int)told, 1);
+        else if (!event && is_inner_step(it, number))
+            number = 0;
         else if (!event)
-            before_delivery(it, number);
-        ptrace(PTRACE_CONT, tid, 0, event ? 0 : number);
+            number = before_delivery(it, number);
+        if (number != AWAY)
+            ptrace(PTRACE_CONT, tid, 0, event ? 0 : number);
     }
 }
 
-/* Everything that the kernel tells by now; whether a process is left. A stop is not told again once the thread goes on, or listens. Nobody sees
-   the end of a process before it is waited for: the record is there by then. */
+/* A stop is waited for before anything is asked of the process: the kernel answers no call of ptrace on one that another thread than the first has replaced
+   (exec) until that is done. Nothing is there to wait for where the thread was killed meanwhile. */
+static void take_stop(pid_t tid) {
+    siginfo_t info = {0};
+    if (!waitid(P_PID, (id_t)tid, &info, WSTOPPED | WNOHANG | __WALL) && info.si_pid)
+        stopped(tid, info.si_status & 0xff, info.si_status >> 8);
+}
+
+/* Everything that the kernel tells by now; whether a process is left. Nobody sees the end of a process before it is waited for: the record is there by
+   then. */
 static int take_stops(void) {
     for (;;) {
         siginfo_t info = {0};
         int none = waitid(P_ALL, 0, &info, WEXITED | WSTOPPED | WNOWAIT | WNOHANG | __WALL);
         int is_stop = info.si_code == CLD_TRAPPED, status = info.si_code == CLD_EXITED ? info.si_status << 8 : info.si_status;
         if (is_stop)
-            stopped(info.si_pid, info.si_status & 0xff, info.si_status >> 8);
+            take_stop(info.si_pid);
         else if (info.si_pid)
             ended(info.si_pid, status, 0);
         if (info.si_pid == run->first)
@@ -168,8 +209,8 @@ static void pass_on(const siginfo_t *info) {
     if (info->si_code == SI_KERNEL || find_task(info->si_pid, 0))
         return;
     LIST_FOREACH(it, &all_tasks, others)
-        if (it->tid == (run->is_over ? it->group : run->first))
-            kill(it->tid, info->si_signo);
+    if ((run->is_over || it->group == run->first) && it == find_task(0, it->group))
+        kill(it->group, info->si_signo);
 }
 
 /* The record as far as the program has come. */
@@ -177,11 +218,11 @@ static void write_so_far(void) {
     const struct task *it;
     clock_t begun = clock();
     LIST_FOREACH(it, &all_tasks, others)
-        if (it->space)
-            read_range(it->space, it->tid);
+    if (it->space)
+        read_range(it->space, it->tid);
     write_record(run, 0);
-    if (run->is_over && !is_rest_told++ && isatty(2))
-        warnx("the program has ended, and processes that it started have not: their ends are waited for");
+    if (run->is_over)
+        tell_rest();
     alarm(PAUSE + (unsigned)(COSTS_AT_MOST * (clock() - begun) / CLOCKS_PER_SEC));
 }
 
@@ -191,7 +232,7 @@ void follow(struct run *given) {
     run = given;
     sigemptyset(&watched);
     sigaddset(&watched, SIGCHLD), sigaddset(&watched, SIGALRM), sigaddset(&watched, LET_GO_SIGNAL);
-    for (size_t n = 0; !run->is_stand_in && n < sizeof PASSED_ON / sizeof *PASSED_ON; n++)
+    for (size_t n = 0; n < sizeof PASSED_ON / sizeof *PASSED_ON; n++)
         sigaddset(&watched, PASSED_ON[n]);
     sigprocmask(SIG_BLOCK, &watched, NULL);
     signal(SIGXFSZ, SIG_IGN), signal(SIGPIPE, SIG_IGN);

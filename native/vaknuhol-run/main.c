@@ -4,6 +4,7 @@
 #include "run.h"
 
 #include <sys/prctl.h>
+#include <sys/resource.h>
 #include <sys/socket.h>
 
 /* A program waits, before it becomes the patched file, until its runner traces it. The two speak by a socket: a stand-in's runner says its number, the
@@ -21,6 +22,17 @@ int is_traced(int socket, pid_t runner, char line[ANSWER]) {
     return length == 1;
 }
 
+/* Limits on files and on memory are for the program, and not for its record, as far as they may be raised. */
+static void lift_limits(void) {
+    static const int LIMITS[] = {RLIMIT_FSIZE, RLIMIT_AS, RLIMIT_DATA};
+    struct rlimit limit;
+    for (size_t n = 0; n < sizeof LIMITS / sizeof *LIMITS; n++) {
+        getrlimit(LIMITS[n], &limit);
+        limit.rlim_cur = limit.rlim_max;
+        setrlimit(LIMITS[n], &limit);
+    }
+}
+
 /* What is refused before a stand-in is traced is told to that, which runs on and tells it. */
 void trace(struct run *run, int socket) {
     FILE *errors = stderr, *program = fdopen(socket, "w");
@@ -30,6 +42,7 @@ void trace(struct run *run, int socket) {
         errx(REFUSED, "the program doesn't wait for its runner");
     setlinebuf(program);
     stderr = run->is_stand_in ? program : errors;
+    lift_limits();
     read_patch(run->run_file);
     if (stat(run->patched, &run->image))
         err(REFUSED, "%s", run->patched);

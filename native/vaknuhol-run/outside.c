@@ -1,23 +1,18 @@
 /* A thread that stands in a trampoline is put back to the site, as if it had not come there: the event is undone and taken out of the record.
    Where the displaced instruction has done its work, the thread is put to the one that follows. docs/reference/formats.md has the code byte by byte
-   (Relocated code). */
+   (Relocated code). No register is set by what can't be read: a thread of which the runner may not read the memory goes by single steps to the end of the
+   event, where nothing is changed but the record, or behind the displaced instruction to the next one. */
 #include "run.h"
 
 enum { BELOW_STACK = 136, FLAGS_BELOW = 144, CALL_TARGET = 16, FLAGS_PLACE = 8, FLAGS = 0x8d5, AH_FLAGS = 0xd5, OVERFLOW = 0x800, BYTE = 0xff };
-/* MOV p, rax and JMP through memory, before the address; MOV to ecx, JMP by a distance, a prefix for r8 and above, JMP by a register. */
-enum { SAVE_RAX = 0x25048948, JUMP_THROUGH = 0x2524ff, LOAD_ECX = 0xb9, JUMP = 0xe9, HIGH = 0x41, JUMP_BY = 0xe0ff, NO_REGISTER = 0xf8ff };
-
-static unsigned long long *register_of(struct user_regs_struct *regs, unsigned number) {
-    unsigned long long *all[] = {&regs->rax, &regs->rcx, &regs->rdx, &regs->rbx, &regs->rsp, &regs->rbp, &regs->rsi, &regs->rdi,
-                                 &regs->r8,  &regs->r9,  &regs->r10, &regs->r11, &regs->r12, &regs->r13, &regs->r14, &regs->r15};
-    return all[number & 15];
-}
+/* JMP through memory, before the address; JMP by a distance, a prefix for r8 and above, JMP by a register. */
+enum { JUMP_THROUGH = 0x2524ff, JUMP = 0xe9, HIGH = 0x41, JUMP_BY = 0xe0ff, NO_REGISTER = 0xf8ff };
 
 /* Whether the condition holds of registers before the event. */
 static int condition_holds(struct user_regs_struct *regs) {
     for (unsigned n = 0; n < patch->comparison_count; n++) {
         uint64_t a = *register_of(regs, patch->comparisons[n].reg), b = patch->comparisons[n].value;
-        const int answers[] = {a == b, a != b, a < b, a <= b, a > b, a >= b};
+        const int answers[] = {a == b, a != b, a<b, a <= b, a> b, a >= b};
         if (!answers[patch->comparisons[n].sign])
             return 0;
     }
@@ -92,31 +87,37 @@ static void undo_record(const struct space *space, pid_t tid, unsigned number, s
     }
 }
 
-static void undo_event(const struct space *space, pid_t tid, unsigned number, struct user_regs_struct *regs, unsigned undo) {
+/* Whether all that it takes was read; else nothing is changed. */
+static int undo_event(const struct space *space, pid_t tid, unsigned number, struct user_regs_struct *regs, unsigned undo) {
     const uint64_t *scratch = (const uint64_t *)space->range;
+    uint64_t rax = *scratch, flags = scratch[FLAGS_PLACE / sizeof *scratch];
     uint32_t eax = (uint32_t)regs->rax, ax = eax;
+    if (patch->for_threads
+        && ((undo & FLAGS_IN_MEMORY && !read_word(tid, regs->rsp - FLAGS_BELOW, &flags))
+            || (undo & RAX_IS_KEPT && !read_word(tid, regs->rsp - BELOW_STACK, &rax))))
+        return 0;
     if (undo & FLAGS_IN_MEMORY)
-        ax = (uint32_t)(patch->for_threads ? eight_at(tid, regs->rsp - FLAGS_BELOW) : scratch[FLAGS_PLACE / sizeof *scratch]);
+        ax = (uint32_t)flags;
     if (undo & FLAGS_ADDED)
         ax = (ax & 0xff00) | ((ax & BYTE) == 0x80);
     if (undo & FLAGS_CHANGED)
         regs->eflags = (regs->eflags & ~(unsigned long long)FLAGS) | ((ax >> 8) & AH_FLAGS) | (ax & 1 ? OVERFLOW : 0);
     if (undo & RAX_IS_KEPT)
-        regs->rax = patch->for_threads ? eight_at(tid, regs->rsp - BELOW_STACK) : *scratch;
+        regs->rax = rax;
     if (patch->kind == RING && patch->for_threads && undo & (CLAIMED | RECORDED))
         undo_slot(space, tid, number, eax, undo);
     else if (undo & (RECORDED | SLOT_WRITTEN))
         undo_record(space, tid, number, regs, undo & RECORDED);
+    return 1;
 }
 
-/* Behind the instruction's own work: MOV of the next address to ecx, which a system call has; then a jump, by a distance, or by a
-   register where a thread's call has pushed its return address. */
+void take_back(const struct space *space, pid_t tid, unsigned number, struct user_regs_struct *before) { undo_event(space, tid, number, before, RECORDED); }
+
+/* Behind the instruction's own work: a jump, by a distance, or by a register where a thread's call has pushed its return address. */
 static int finish(pid_t tid, struct user_regs_struct *regs) {
-    uint64_t code = eight_at(tid, regs->rip);
-    if ((code & BYTE) == LOAD_ECX) {
-        regs->rcx = (uint32_t)(code >> 8), regs->rip += 5;
-        code = eight_at(tid, regs->rip);
-    }
+    uint64_t code;
+    if (!read_word(tid, regs->rip, &code))
+        return 0;
     unsigned is_high = (code & BYTE) == HIGH;
     uint64_t jump = code >> 8 * is_high;
     if ((code & BYTE) == JUMP)
@@ -128,22 +129,54 @@ static int finish(pid_t tid, struct user_regs_struct *regs) {
     return 1;
 }
 
-/* Whether the registers were changed. With `keeps` an event that was made whole stays in the record. The code of an indirect call begins by saving
-   rax at p, and up to its jump through p + 16 nothing is done that can't be undone. */
-static int set_outside(const struct space *space, pid_t tid, struct user_regs_struct *regs, int keeps) {
-    const struct tramp *it = tramp_at(regs->rip);
-    if (!it)
+/* Behind a displaced system call comes MOV of the next address to rcx, which a call has, too. */
+static void set_behind_call(const struct tramp *it, struct user_regs_struct *regs) {
+    regs->rcx = regs->rip = it->start + (regs->rip - it->place - event_of(it));
+}
+
+/* A thread inside of a trampoline, so that the registers are those outside of it; whether that could be worked out. With `keeps` an event that was made
+   whole stays in the record. The code of an indirect call begins by saving rax at p, and up to its jump through p + 16 nothing is done that can't be
+   undone. */
+static int set_outside(const struct space *space, pid_t tid, const struct tramp *it, struct user_regs_struct *regs, int keeps) {
+    uint64_t length = event_of(it), off = regs->rip - it->place, code = 0, before = 0;
+    if (off > length && is_at_call(regs)) {
+        set_behind_call(it, regs);
+        return 1;
+    }
+    if (off > length && !patch->for_threads && !(read_word(tid, it->place + length, &code) && read_word(tid, regs->rip - 1, &before)))
         return 0;
-    uint64_t length = it->number == PLAIN ? 0 : patch->event_length, off = regs->rip - it->place;
-    int is_call = off > length && !patch->for_threads && eight_at(tid, it->place + length) == (patch->private_at << 32 | SAVE_RAX);
+    int is_call = off > length && code == (patch->private_at << 32 | SAVE_RAX);
     if (off > length && !is_call)
         return finish(tid, regs);
-    if (is_call && eight_at(tid, regs->rip - 1) >> 8 == ((patch->private_at + CALL_TARGET) << 24 | JUMP_THROUGH)) {
+    if (is_call && before >> 8 == ((patch->private_at + CALL_TARGET) << 24 | JUMP_THROUGH)) {
         memcpy(&regs->rip, space->range + CALL_TARGET, sizeof regs->rip);
         return 1;
     }
     unsigned whole = (off > length ? RAX_IS_KEPT : 0) | (length && !keeps ? RECORDED : 0);
-    undo_event(space, tid, it->number, regs, off < length ? patch->undo[off] : whole);
+    if (!undo_event(space, tid, it->number, regs, off < length ? patch->undo[off] : whole))
+        return 0;
+    regs->rip = it->start;
+    return 1;
+}
+
+/* Whether a thread stands in a trampoline where more is changed than the record. */
+static int is_amid(const struct user_regs_struct *regs) {
+    const struct tramp *it = tramp_at(regs->rip);
+    return it && regs->rip != it->place && regs->rip != it->place + event_of(it);
+}
+
+/* By steps: a fault on the way is of a displaced call, which reads its operand when all registers are yet as before it. */
+static int step_outside(const struct space *space, pid_t tid, struct user_regs_struct *regs, int keeps) {
+    const struct tramp *it;
+    if (is_at_call(regs))
+        return 0;
+    int is_made = make_steps(tid, regs, is_amid);
+    if (!(it = tramp_at(regs->rip)))
+        return is_made;
+    if (!is_made && regs->rip - it->place < event_of(it))
+        return 0;
+    if (it->number != PLAIN && !keeps)
+        undo_event(space, tid, it->number, regs, RECORDED);
     regs->rip = it->start;
     return 1;
 }
@@ -153,20 +186,19 @@ static int is_fault(const siginfo_t *info) {
     return info->si_code > 0 && info->si_code != SI_KERNEL && info->si_signo < 32 && faults >> info->si_signo & 1;
 }
 
-/* Whether a handler of the program sees a fault: it is caught, and not blocked. Otherwise the kernel ends the process by it. */
-static int is_seen(pid_t tid, int number) {
-    unsigned long long caught = strtoull(status_of(tid, "\nSigCgt:"), NULL, 16), blocked = strtoull(status_of(tid, "\nSigBlk:"), NULL, 16);
-    return (caught & ~blocked) >> (number - 1) & 1;
-}
+/* Whether a handler of the program sees a signal: it is caught, and not blocked. Otherwise the kernel ends the process by a fault. */
+static int is_seen(pid_t tid, int number) { return is_signal_in(tid, "\nSigCgt:", number) && !is_signal_in(tid, "\nSigBlk:", number); }
 
-/* A thread stands at an interrupted call where orig_rax is a call's number, which it never is in an event. Behind a relocated call the kernel would make
-   it again inside of the trampoline: the thread is put after the original's, which is made again with its event, as single steps of the
-   original make it again. An instruction at which the process ends by a fault keeps its event, as the last that the program came to. */
-static void put_outside(const struct space *space, pid_t tid, struct user_regs_struct *regs, siginfo_t *info, int keeps) {
+/* A thread stands at an interrupted call where orig_rax is a call's number, which it never is in an event. Behind a relocated call the thread is put after the
+   original's. An instruction at which the process ends by a fault keeps its event, as the last that the program came to. Of a range that can't be
+   read nothing is undone. */
+static void put_outside(const struct space *space, pid_t tid, struct user_regs_struct *regs, siginfo_t *info, int keeps, int is_read) {
     unsigned long long stood = regs->rip;
-    if (is_at_call(regs) && (eight_at(tid, stood) & BYTE) != LOAD_ECX)
+    const struct tramp *it = tramp_at(stood);
+    if (!it)
         return;
-    if (!set_outside(space, tid, regs, keeps) || ptrace(PTRACE_SETREGS, tid, 0, regs))
+    int is_set = (is_read || is_at_call(regs) || !is_amid(regs)) && set_outside(space, tid, it, regs, keeps || !is_read);
+    if ((!is_set && !step_outside(space, tid, regs, keeps || !is_read)) || ptrace(PTRACE_SETREGS, tid, 0, regs))
         return;
     if (is_fault(info) && (unsigned long long)info->si_addr == stood) {
         info->si_addr = (void *)regs->rip;
@@ -174,15 +206,40 @@ static void put_outside(const struct space *space, pid_t tid, struct user_regs_s
     }
 }
 
-void before_delivery(const struct task *it, int number) {
+int before_delivery(const struct task *it, int number) {
     struct user_regs_struct regs;
     siginfo_t info = {0};
-    if (!it->space || number == SIGSTOP || ptrace(PTRACE_GETREGS, it->tid, 0, &regs) || !read_range(it->space, it->tid))
-        return;
+    if (number == SIGSTOP || ptrace(PTRACE_GETREGS, it->tid, 0, &regs))
+        return number;
+    wait_again(it->tid, number, &regs);
+    if (!it->space)
+        return number;
     unsigned long long stood = regs.rip;
+    const struct tramp *within = is_unfinished(&regs) ? tramp_at(stood) : NULL;
+    if (within && is_idle(it->tid, number))
+        return number;
+    int is_read = read_range(it->space, it->tid);
     ptrace(PTRACE_GETSIGINFO, it->tid, 0, &info);
-    int is_last = is_crash(it->tid, number), is_own = is_last && is_of_thread(it->tid, &info);
-    put_outside(it->space, it->tid, &regs, &info, is_own || (is_fault(&info) && !is_seen(it->tid, number)));
+    int is_last = is_read && is_crash(it->tid, number), is_own = is_last && is_of_thread(it->tid, &info);
+    put_outside(it->space, it->tid, &regs, &info, is_own || (is_fault(&info) && !is_seen(it->tid, number)), is_read);
     if (is_last)
         keep_ring(it, number, stood, is_own ? &regs : NULL);
+    int may_undo = within && within->number != PLAIN && is_read && patch->kind != COVER && is_seen(it->tid, number);
+    return may_undo ? deliver(it->space, it->tid, number, within, &regs) : number;
+}
+
+int is_inner_step(const struct task *it, int number) {
+    struct user_regs_struct regs;
+    siginfo_t info;
+    return it->space && number == SIGTRAP && !ptrace(PTRACE_GETSIGINFO, it->tid, 0, &info) && info.si_code == TRAP_TRACE
+           && !ptrace(PTRACE_GETREGS, it->tid, 0, &regs) && regs.eflags & TRAP_FLAG && tramp_at(regs.rip);
+}
+
+void put_behind_call(pid_t tid) {
+    struct user_regs_struct regs;
+    const struct tramp *it = ptrace(PTRACE_GETREGS, tid, 0, &regs) ? NULL : tramp_at(regs.rip);
+    if (!it || !is_at_call(&regs))
+        return;
+    set_behind_call(it, &regs);
+    ptrace(PTRACE_SETREGS, tid, 0, &regs);
 }

@@ -7,14 +7,20 @@
 static char half_path[PATH_MAX + 24]; /* what is written so far has a name that no other process has */
 static FILE *half;
 static uint64_t *total;
+static uint32_t *events; /* of a ring, those that are shown */
 
-static void forget_half(void) {
+static void forget_half(void) { unlink(half_path); }
+
+/* A file of ours alone: what stood there is no link that we follow, and no file of another user that we write to, give away or open to others. */
+static FILE *new_half(void) {
     unlink(half_path);
+    int file = open(half_path, O_WRONLY | O_CREAT | O_EXCL | O_NOFOLLOW | O_CLOEXEC, 0666);
+    return file < 0 ? NULL : fdopen(file, "w");
 }
 
 void open_record(const struct run *run) {
     snprintf(half_path, sizeof half_path, "%s.%d.part", run->record, getpid());
-    half = fopen(half_path, "we");
+    half = new_half();
     if (!half)
         err(REFUSED, "%s can't be written", run->record);
     fclose(half);
@@ -35,7 +41,7 @@ static void put_counts(void) {
     uint64_t *of_ended = total;
     total = memcpy(zeros(patch->sites * sizeof *total), of_ended, patch->sites * sizeof *total);
     TAILQ_FOREACH(it, &all_spaces, others)
-        add_counts(it);
+    add_counts(it);
     for (const struct row *row = patch->rows, *end = row + patch->row_count; row < end; row++) {
         if (row->number >= patch->sites || !total[row->number])
             continue;
@@ -49,13 +55,10 @@ static void put_counts(void) {
 }
 
 /* The number of a site and 1 in a slot of a ring, from the one that is next and round to it, oldest first; an unused slot holds 0. */
-static uint32_t slot_at(const uint32_t *ring, uint32_t position, unsigned n) {
-    return ring[1 + (position % patch->slots + n) % patch->slots];
-}
+static uint32_t slot_at(const uint32_t *ring, uint32_t position, unsigned n) { return ring[1 + (position % patch->slots + n) % patch->slots]; }
 
 /* The last events of a ring, as many as are shown, oldest first; they stand until the next call. */
 static const uint32_t *last_events(const uint32_t *ring, unsigned *count) {
-    static uint32_t *events;
     uint32_t position = ring[0];
     unsigned left = patch->shown;
     events = events ? events : zeros(patch->shown * sizeof *events);
@@ -89,9 +92,9 @@ static void put_rings(void) {
     const struct space *it;
     fprintf(half, "left %s\n", patch->left);
     TAILQ_FOREACH(it, &ended_spaces, others)
-        put_ring(it);
+    put_ring(it);
     TAILQ_FOREACH(it, &all_spaces, others)
-        put_ring(it);
+    put_ring(it);
 }
 
 /* Records are named by the time at which they were begun, so the oldest come first. */
@@ -117,11 +120,14 @@ void write_record(struct run *run, int is_ended) {
     static char buffer[1 << 17];
     static int is_failed;
     run->is_written = is_ended;
-    half = fopen(half_path, "we");
+    half = new_half();
     if (half) {
         setvbuf(half, buffer, _IOFBF, sizeof buffer);
-        fprintf(half, "vakrecord 1\n%sstate %s\nprocesses %d threads %d execs %d\n", patch->head, is_ended ? "ended" : "running", run->processes,
-                run->threads, run->execs);
+        fprintf(half, "vakrecord 1\n%sstate %s\nprocesses %d threads %d execs %d", patch->head, is_ended ? "ended" : "running", run->processes, run->threads,
+                run->execs);
+        if (run->unrecorded)
+            fprintf(half, " unrecorded %d", run->unrecorded);
+        fputs("\n", half);
         patch->kind == RING ? put_rings() : put_counts();
         fputs("end\n", half);
     }

@@ -4,7 +4,6 @@
 
 #include <limits.h>
 #include <sys/prctl.h>
-#include <sys/resource.h>
 #include <sys/socket.h>
 #include <time.h>
 
@@ -15,17 +14,13 @@ struct {
 } names = {.mark = "vakstandin 2"};
 enum { SPOKEN_BY = 3 };
 
-/* Nothing of the program's stays open or keeps a folder in use, but for its errors, until it has ended; no signal ends the runner before, and a
-   limit on files is not for records. The socket may be one of the three files that a program has by custom, where that was closed. */
+/* Nothing of the program's stays open or keeps a folder in use, but for its errors, until it has ended; no signal ends the runner before. The socket may be
+   one of the three files that a program has by custom, where that was closed. */
 static void stand_apart(int socket) {
-    struct rlimit limit = {0};
     sigset_t all;
     sigfillset(&all);
     sigprocmask(SIG_BLOCK, &all, NULL);
     signal(SIGCHLD, SIG_DFL);
-    getrlimit(RLIMIT_FSIZE, &limit);
-    limit.rlim_cur = limit.rlim_max;
-    setrlimit(RLIMIT_FSIZE, &limit);
     if (socket != SPOKEN_BY && dup3(socket, SPOKEN_BY, O_CLOEXEC) >= 0)
         close(socket);
     close(0), close(1);
@@ -45,8 +40,13 @@ static int has_runner(char line[ANSWER]) {
     int ends[2];
     char record[PATH_MAX + 64];
     struct timespec now;
-    struct run run = {.run_file = names.run_file, .patched = names.patched, .record = record, .folder = names.records, .keep = names.keep,
-                      .is_stand_in = 1, .first = getpid()};
+    struct run run = {.run_file = names.run_file,
+                      .patched = names.patched,
+                      .record = record,
+                      .folder = names.records,
+                      .keep = names.keep,
+                      .is_stand_in = 1,
+                      .first = getpid()};
     if (socketpair(AF_UNIX, SOCK_SEQPACKET | SOCK_CLOEXEC, 0, ends))
         return 0;
     pid_t child = (pid_t)syscall(SYS_clone, 0, 0, 0, 0, 0);

@@ -1,54 +1,45 @@
 #include "run.h"
 
-#include <sys/uio.h>
+#include <time.h>
 
 enum { CALL_STOP = SIGTRAP | 0x80, CALL_BYTES = 0x050f, LOW_TWO = 0xffff };
 
-int read_memory(pid_t tid, uint64_t at, void *to, size_t length) {
-    struct iovec here = {to, length}, there = {(void *)at, length};
-    return process_vm_readv(tid, &here, 1, &there, 1, 0) == (ssize_t)length;
+int is_at_call(const struct user_regs_struct *regs) { return (long long)regs->orig_rax >= 0; }
+
+/* A thread's next stop, which is left to be waited for; whether it comes to one. The end of a process's first thread is not told before the other threads have
+   been waited for, so it is looked for. */
+static int await_stop(pid_t tid, siginfo_t *info) {
+    static const struct timespec PAUSE = {0, 10000000};
+    sigset_t children;
+    sigemptyset(&children), sigaddset(&children, SIGCHLD);
+    while (!(info->si_pid = 0) && !waitid(P_PID, (id_t)tid, info, WEXITED | WSTOPPED | WNOWAIT | WNOHANG | __WALL) && !info->si_pid)
+        if (sigtimedwait(&children, NULL, &PAUSE) < 0 && strchr("ZX", status_of(tid, "\nState:\t")[0]))
+            return 0;
+    return info->si_pid && info->si_code == CLD_TRAPPED;
 }
 
-int write_memory(pid_t tid, uint64_t at, const void *from, size_t length) {
-    struct iovec here = {(void *)from, length}, there = {(void *)at, length};
-    return process_vm_writev(tid, &here, 1, &there, 1, 0) == (ssize_t)length;
-}
-
-uint64_t eight_at(pid_t tid, uint64_t at) {
-    uint64_t value = 0;
-    read_memory(tid, at, &value, sizeof value);
-    return value;
-}
-
-int is_at_call(const struct user_regs_struct *regs) {
-    return (long long)regs->orig_rax >= 0;
-}
-
-const char *status_of(pid_t pid, const char *word) {
-    static char text[8192];
-    snprintf(text, sizeof text, "/proc/%d/status", pid);
-    int file = open(text, O_RDONLY | O_CLOEXEC);
-    ssize_t length = read(file, text, sizeof text - 1);
-    close(file);
-    text[length > 0 ? length : 0] = 0;
-    const char *found = strstr(text, word);
-    return found ? found + strlen(word) : "";
-}
-
-/* Where the thread ends, that is left to be waited for. */
-int to_call_stop(pid_t tid, int *is_put_off) {
+/* To the next stop of a kind; whether the thread comes to it. Where it ends, or a fault stops it, that is left to be waited for. SIGSTOP can't be blocked:
+   it is put off, as is a stop of job control. */
+static int to_stop(pid_t tid, enum __ptrace_request how, int wanted, int *is_put_off) {
     siginfo_t info;
-    while (!ptrace(PTRACE_SYSCALL, tid, 0, 0)
-           && !TEMP_FAILURE_RETRY(waitid(P_PID, (id_t)tid, &info, WEXITED | WSTOPPED | WNOWAIT | __WALL)) && info.si_code == CLD_TRAPPED
-           && info.si_status >> 8 != PTRACE_EVENT_EXIT) {
-        if (info.si_status == CALL_STOP)
+    while (!ptrace(how, tid, 0, 0) && await_stop(tid, &info)) {
+        int event = info.si_status >> 8, number = info.si_status & 0xff;
+        if (info.si_status == wanted)
             return 1;
-        *is_put_off |= info.si_status == SIGSTOP;
+        if (event != PTRACE_EVENT_STOP && info.si_status != SIGSTOP)
+            break;
+        *is_put_off |= number != SIGTRAP;
     }
     return 0;
 }
 
-/* The instruction for the call is written over the aligned word in which the thread stands, and all signals are blocked, until the end. */
+int to_call_stop(pid_t tid) {
+    int is_put_off = 0;
+    return to_stop(tid, PTRACE_SYSCALL, CALL_STOP, &is_put_off);
+}
+
+/* The instruction of a call by which a thread has come to its stop stands before it: so no memory has to be read, as that of the child of a process whose
+   memory is kept from the runner. Else the instruction is written over the aligned word in which the thread stands. All signals are blocked until the end. */
 int64_t make_call(pid_t tid, long number, uint64_t a, uint64_t b, uint64_t c, uint64_t d) {
     struct user_regs_struct kept, regs;
     uint64_t mask, all = ~0ull;
@@ -56,20 +47,43 @@ int64_t make_call(pid_t tid, long number, uint64_t a, uint64_t b, uint64_t c, ui
     int is_put_off = 0;
     if (ptrace(PTRACE_GETREGS, tid, 0, &kept) || ptrace(PTRACE_GETSIGMASK, tid, 8, &mask) || ptrace(PTRACE_SETSIGMASK, tid, 8, &all))
         return -ESRCH;
+    int is_behind = is_at_call(&kept) && kept.orig_rax != SYS_execve && kept.orig_rax != SYS_execveat;
     regs = kept;
-    regs.rip &= ~7ull, regs.rax = (uint64_t)number, regs.orig_rax = ~0ull;
+    regs.rip = is_behind ? kept.rip - 2 : kept.rip & ~7ull, regs.rax = (uint64_t)number, regs.orig_rax = ~0ull;
     regs.rdi = a, regs.rsi = b, regs.rdx = c, regs.r10 = d, regs.r8 = ~0ull, regs.r9 = 0;
     errno = 0;
-    long covered = ptrace(PTRACE_PEEKTEXT, tid, regs.rip, 0);
-    if (!errno && !ptrace(PTRACE_POKETEXT, tid, regs.rip, (covered & ~(long)LOW_TWO) | CALL_BYTES)) {
-        if (!ptrace(PTRACE_SETREGS, tid, 0, &regs) && to_call_stop(tid, &is_put_off) && to_call_stop(tid, &is_put_off)
-            && !ptrace(PTRACE_GETREGS, tid, 0, &regs))
+    long covered = is_behind ? 0 : ptrace(PTRACE_PEEKTEXT, tid, regs.rip, 0);
+    if (is_behind || (!errno && !ptrace(PTRACE_POKETEXT, tid, regs.rip, (covered & ~(long)LOW_TWO) | CALL_BYTES))) {
+        if (!ptrace(PTRACE_SETREGS, tid, 0, &regs) && to_stop(tid, PTRACE_SYSCALL, CALL_STOP, &is_put_off)
+            && to_stop(tid, PTRACE_SYSCALL, CALL_STOP, &is_put_off) && !ptrace(PTRACE_GETREGS, tid, 0, &regs))
             answer = (int64_t)regs.rax;
-        ptrace(PTRACE_POKETEXT, tid, kept.rip & ~7ull, covered);
+        if (!is_behind)
+            ptrace(PTRACE_POKETEXT, tid, kept.rip & ~7ull, covered);
     }
     ptrace(PTRACE_SETREGS, tid, 0, &kept);
     ptrace(PTRACE_SETSIGMASK, tid, 8, &mask);
     if (is_put_off)
         syscall(SYS_tkill, tid, SIGSTOP);
     return answer;
+}
+
+/* The signal for which the thread has stopped stays the one that is delivered as it goes on. */
+int make_steps(pid_t tid, struct user_regs_struct *regs, int (*is_wanted)(const struct user_regs_struct *regs)) {
+    uint64_t mask, all_but_faults = ~(1ull << (SIGSEGV - 1) | 1ull << (SIGBUS - 1) | 1ull << (SIGFPE - 1) | 1ull << (SIGILL - 1) | 1ull << (SIGTRAP - 1));
+    siginfo_t info;
+    int is_put_off = 0, is_made = 1;
+    if (ptrace(PTRACE_GETSIGINFO, tid, 0, &info) || ptrace(PTRACE_GETSIGMASK, tid, 8, &mask) || ptrace(PTRACE_SETSIGMASK, tid, 8, &all_but_faults))
+        return 0;
+    while (is_made && is_wanted(regs))
+        is_made = to_stop(tid, PTRACE_SINGLESTEP, SIGTRAP, &is_put_off) && !ptrace(PTRACE_GETREGS, tid, 0, regs);
+    ptrace(PTRACE_SETSIGMASK, tid, 8, &mask);
+    ptrace(PTRACE_SETSIGINFO, tid, 0, &info);
+    if (is_put_off)
+        syscall(SYS_tkill, tid, SIGSTOP);
+    return is_made;
+}
+
+int begin_handler(pid_t tid, int number, struct user_regs_struct *regs) {
+    siginfo_t info;
+    return !ptrace(PTRACE_SINGLESTEP, tid, 0, number) && await_stop(tid, &info) && info.si_status == SIGTRAP && !ptrace(PTRACE_GETREGS, tid, 0, regs);
 }

@@ -5,48 +5,42 @@
      stopped            the steps were made, and the program was let run on, or it was killed where it can't
      unlisted A         an instruction was executed that is no listed start (hexadecimal, ascending)
      read LO HI         listed bytes that were read as data, from LO on and below HI
+     maps LO HI         memory was mapped at this fixed place
+     shares A A         at A a thread was made, or a process that runs in the same memory at once
+     traps A A          the program had the trap flag at A first, as one has that steps itself
+     restarts LO HI     the kernel was told of this restartable sequence
 
    Only the process that is started is stepped, and of it the first thread; children and other threads run as they are. With STEPS 0 the
    whole run is made. The status is 0 wherever OUT is written. */
-#include <errno.h>
 #include <signal.h>
-#include <stdarg.h>
 #include <stdio.h>
 #include <stdlib.h>
-#include <string.h>
 #include <sys/ptrace.h>
 #include <sys/wait.h>
 #include <unistd.h>
 
+#include "refusing.h"
 #include "step.h"
 
-void refuse(const char *format, ...) {
-    va_list words;
-    va_start(words, format);
-    fputs("vaknuhol-step: ", stderr);
-    vfprintf(stderr, format, words);
-    fputc('\n', stderr);
-    va_end(words);
-    exit(3);
-}
+const struct refusal refusal = {3, "there is no memory for the text"};
 
 static pid_t start(char **words) {
     pid_t process = fork();
     if (process < 0)
-        refuse("no process can be made: %s", strerror(errno));
+        refuse("no process can be made: %m");
     if (process)
         return process;
     if (ptrace(PTRACE_TRACEME, 0, NULL, NULL))
-        refuse("no process can be traced here: %s", strerror(errno));
+        refuse("no process can be traced here: %m");
     execv(words[0], words);
-    refuse("%s: %s", words[0], strerror(errno));
+    refuse("%s: %m", words[0]);
 }
 
 /* The next stop of a process; whether it has ended. */
 static int has_ended(pid_t process, int *told) {
     while (waitpid(process, told, __WALL) < 0)
         if (errno != EINTR)
-            refuse("the process is lost: %s", strerror(errno));
+            refuse("the process is lost: %m");
     return !WIFSTOPPED(*told);
 }
 
@@ -64,11 +58,13 @@ static unsigned long step_through(struct text *text, pid_t process, unsigned lon
         if (!number && !ptrace(PTRACE_GETREGS, process, NULL, &registers)) {
             if (registers.rip >= text->lo && registers.rip < text->hi)
                 text->seen[registers.rip - text->lo] |= SEEN_AT;
-            mark_reads(text, process, &registers);
+            watch_state(process, &registers);
+            if (mark_reads(text, process, &registers))
+                watch_call(process, &registers);
             steps++;
         }
         if (ptrace(PTRACE_SINGLESTEP, process, NULL, number) && errno != ESRCH)
-            refuse("no step can be made: %s", strerror(errno));
+            refuse("no step can be made: %m");
         if (has_ended(process, told))
             return steps;
         number = WSTOPSIG(*told) == SIGTRAP ? 0 : WSTOPSIG(*told);
@@ -105,15 +101,16 @@ int main(int count, char **words) {
     unsigned long steps = step_through(&text, process, most, &told);
     FILE *out = fopen(words[3], "w");
     if (!out)
-        refuse("%s: %s", words[3], strerror(errno));
+        refuse("%s: %m", words[3]);
     fprintf(out, "steps %lu\n", steps);
     if (told != STOPPED)
         fprintf(out, "ended %d\n", WIFEXITED(told) ? WEXITSTATUS(told) : 128 + WTERMSIG(told));
     else
         fprintf(out, "stopped\n");
     write_told(&text, out);
+    write_events(out);
     if (fclose(out))
-        refuse("%s: %s", words[3], strerror(errno));
+        refuse("%s: %m", words[3]);
     if (told == STOPPED && (ptrace(PTRACE_DETACH, process, NULL, NULL) || has_ended(process, &told)))
         kill(process, SIGKILL);
     return 0;

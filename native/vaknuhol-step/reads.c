@@ -1,10 +1,11 @@
 /* What an instruction reads as data, of the text. */
 #include <Zydis/Zydis.h>
-#include <errno.h>
 #include <stdlib.h>
 #include <string.h>
 #include <sys/ptrace.h>
 
+#include "process.h"
+#include "refusing.h"
 #include "step.h"
 
 enum { SLOTS = 1 << 16, MOST_OPERANDS = 4, LONGEST = 15 };
@@ -12,18 +13,19 @@ enum { SLOTS = 1 << 16, MOST_OPERANDS = 4, LONGEST = 15 };
 /* An instruction that was decoded, by its address. */
 struct known {
     uint64_t addr;
-    int reads; /* how many operands it reads in memory */
-    uint8_t length;
+    int reads;               /* how many operands it reads in memory */
+    uint8_t length, is_call; /* of the kernel */
     ZydisDecodedOperand operands[MOST_OPERANDS];
 };
 
 static struct known *slots;
 static ZydisDecoder decoder;
 
-static int read_code(pid_t process, uint64_t addr, uint8_t bytes[16]) {
-    for (int at = 0; at < 16; at += 8) {
+/* By words, as a tracer may read memory that no one else may. */
+static size_t read_code(pid_t process, uint64_t addr, uint8_t bytes[16]) {
+    for (size_t at = 0; at < 16; at += 8) {
         errno = 0;
-        long word = ptrace(PTRACE_PEEKTEXT, process, addr + (uint64_t)at, NULL);
+        long word = ptrace(PTRACE_PEEKTEXT, process, addr + at, NULL);
         if (errno)
             return at;
         memcpy(bytes + at, &word, 8);
@@ -35,35 +37,33 @@ static void decode_at(struct known *it, pid_t process, uint64_t addr) {
     ZydisDecodedInstruction insn;
     ZydisDecodedOperand operands[ZYDIS_MAX_OPERAND_COUNT];
     uint8_t bytes[16];
-    int count = read_code(process, addr, bytes);
+    size_t count = read_code(process, addr, bytes);
     it->addr = addr;
-    it->reads = 0;
-    if (!ZYAN_SUCCESS(ZydisDecoderDecodeFull(&decoder, bytes, (ZyanUSize)count, &insn, operands)) || insn.mnemonic == ZYDIS_MNEMONIC_NOP)
+    it->reads = it->is_call = 0;
+    if (!ZYAN_SUCCESS(ZydisDecoderDecodeFull(&decoder, bytes, count, &insn, operands)) || insn.mnemonic == ZYDIS_MNEMONIC_NOP)
         return;
     it->length = insn.length;
+    it->is_call = insn.mnemonic == ZYDIS_MNEMONIC_SYSCALL;
     for (int at = 0; at < insn.operand_count && it->reads < MOST_OPERANDS; at++)
-        if (operands[at].type == ZYDIS_OPERAND_TYPE_MEMORY && operands[at].mem.type == ZYDIS_MEMOP_TYPE_MEM &&
-            operands[at].actions & ZYDIS_OPERAND_ACTION_MASK_READ)
+        if (operands[at].type == ZYDIS_OPERAND_TYPE_MEMORY && operands[at].mem.type == ZYDIS_MEMOP_TYPE_MEM
+            && operands[at].actions & ZYDIS_OPERAND_ACTION_MASK_READ)
             it->operands[it->reads++] = operands[at];
 }
 
-static uint64_t value_of(ZydisRegister name, const struct known *it, const struct user_regs_struct *r) {
-    const unsigned long long values[] = { r->rax, r->rcx, r->rdx, r->rbx, r->rsp, r->rbp, r->rsi, r->rdi,
-                                          r->r8,  r->r9,  r->r10, r->r11, r->r12, r->r13, r->r14, r->r15 };
+static uint64_t value_of(ZydisRegister name, const struct known *it, struct user_regs_struct *r) {
     if (name == ZYDIS_REGISTER_RIP)
         return it->addr + it->length;
     if (ZydisRegisterGetClass(name) != ZYDIS_REGCLASS_GPR64)
         return 0; /* addresses of 32 bits and vectors of addresses aren't followed */
-    return values[ZydisRegisterGetId(name)];
+    return *register_of(r, (unsigned)ZydisRegisterGetId(name));
 }
 
-static uint64_t address_of(const ZydisDecodedOperand *operand, const struct known *it, const struct user_regs_struct *r) {
-    uint64_t addr = value_of(operand->mem.base, it, r) + value_of(operand->mem.index, it, r) * operand->mem.scale +
-                    (uint64_t)operand->mem.disp.value;
+static uint64_t address_of(const ZydisDecodedOperand *operand, const struct known *it, struct user_regs_struct *r) {
+    uint64_t addr = value_of(operand->mem.base, it, r) + value_of(operand->mem.index, it, r) * operand->mem.scale + (uint64_t)operand->mem.disp.value;
     return addr + (operand->mem.segment == ZYDIS_REGISTER_FS ? r->fs_base : operand->mem.segment == ZYDIS_REGISTER_GS ? r->gs_base : 0);
 }
 
-void mark_reads(struct text *text, pid_t process, const struct user_regs_struct *registers) {
+int mark_reads(struct text *text, pid_t process, struct user_regs_struct *registers) {
     if (!slots) {
         slots = calloc(SLOTS, sizeof *slots);
         if (!slots || !ZYAN_SUCCESS(ZydisDecoderInit(&decoder, ZYDIS_MACHINE_MODE_LONG_64, ZYDIS_STACK_WIDTH_64)))
@@ -78,4 +78,5 @@ void mark_reads(struct text *text, pid_t process, const struct user_regs_struct 
             if (byte >= text->lo && byte < text->hi && text->listed[byte - text->lo] & LISTED)
                 text->seen[byte - text->lo] |= SEEN_READ;
     }
+    return it->is_call;
 }

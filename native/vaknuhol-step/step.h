@@ -2,6 +2,7 @@
 #ifndef STEP_H
 #define STEP_H
 #include <stdint.h>
+#include <stdio.h>
 #include <sys/types.h>
 #include <sys/user.h>
 
@@ -19,8 +20,15 @@ struct text {
 /* Reads which bytes are listed (native/vaknuhol-list/list_file.h). */
 void read_text(struct text *text, const char *path);
 
-/* Marks the listed bytes that the next instruction of a stopped process reads as data. */
-void mark_reads(struct text *text, pid_t process, const struct user_regs_struct *registers);
+/* Marks the listed bytes that the next instruction of a stopped process reads as data; whether that instruction calls the kernel. */
+int mark_reads(struct text *text, pid_t process, struct user_regs_struct *registers);
 
-_Noreturn void refuse(const char *format, ...) __attribute__((format(printf, 1, 2)));
+/* What a stopped process is about to ask of the kernel. */
+void watch_call(pid_t process, const struct user_regs_struct *registers);
+
+/* Whether it steps itself, or has told the kernel of a restartable sequence. */
+void watch_state(pid_t process, const struct user_regs_struct *registers);
+
+/* A line of each that was seen (main.c). */
+void write_events(FILE *out);
 #endif

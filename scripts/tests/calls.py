@@ -44,6 +44,17 @@ def of_slots(slots):
     return f"import vaknuhol.recording.actions\nvaknuhol.recording.actions.SHARED_SLOTS = {slots}"
 
 
+# Python after which programs that are begun may not suspend filters on system calls (CAP_SYS_ADMIN), also root's.
+HELD_BY_FILTERS = "import ctypes; ctypes.CDLL(None).prctl(24, 21)  # PR_CAPBSET_DROP"
+
+
+def suspends_filters():
+    """Whether a program that is begun may do so: it has CAP_SYS_ADMIN, and no filter itself."""
+    with open("/proc/self/status", encoding="ascii") as file:
+        state = dict(line.split(":\t", 1) for line in file)
+    return bool(int(state["CapEff"], 16) >> 21 & 1) and int(state["Seccomp"]) == 0
+
+
 def path_of(program, action, ending):
     return f"{program}.vak/{program}.{action}.{ending}"
 

@@ -8,19 +8,23 @@ from collections.abc import Iterator
 
 import pytest
 from _pytest.terminal import TerminalReporter
-from filelock import FileLock
+from hypothesis import settings
 
-from tests.calls import SOURCES, TOP, run
+from tests.calls import SOURCES, TOP
 from tests.needs import left_out, need
 from tests.programs import Programs
 from tests.real_files import Cases
+from tests.sanitizing import sanitized_program
 from tests.surroundings import forget_test_name, settle
 from tests.tracing import can_trace
+from vaknuhol.native import NEEDS
 from vaknuhol.program.kernel import FEW, MOST, takes
 
 PROVED = f"{TOP}/crates/e9tool/out/e9tool"
 TOOLS = ("gcc", "g++", "gcov", "objdump", "readelf", "nm", "strip", "objcopy", "c++filt")
-SANITIZED = ("gcc", "-g", "-O1", "-fsanitize=address,undefined", "-fno-omit-frame-pointer", "-o")
+# Each run tries the same examples, leaves no file, and asks nothing of a busy machine
+settings.register_profile("suite", derandomize=True, database=None, deadline=None, max_examples=60)
+settings.load_profile("suite")
 
 
 def pytest_addoption(parser: pytest.Parser) -> None:
@@ -30,7 +34,7 @@ def pytest_addoption(parser: pytest.Parser) -> None:
         help="the program under test (the one that rt ci leaves)",
     )
     parser.addoption(
-        "--sanitize", action="store_true", help="vaknuhol-run with AddressSanitizer and UndefinedBehaviorSanitizer"
+        "--sanitize", action="store_true", help="the C programs with AddressSanitizer and UndefinedBehaviorSanitizer"
     )
 
 
@@ -91,17 +95,13 @@ def e9tool(request: pytest.FixtureRequest, shared: str) -> Iterator[str]:
 
 @pytest.fixture(scope="session", autouse=True)
 def sanitized(request: pytest.FixtureRequest, e9tool: str, shared: str) -> str:
-    """Where the sanitizers of vaknuhol-run write, if it is built with them; the command takes that one from then on. It
-    leaves memory to the kernel as it ends, so leaks aren't looked for."""
+    """Where the sanitizers of the C programs write, if these are built with them; the command takes those from then
+    on."""
     if not request.config.getoption("--sanitize"):
         return ""
-    runner, found = f"{shared}/vaknuhol-run", f"{shared}/found.{os.getpid()}"
-    with FileLock(f"{runner}.lock"):
-        if not os.path.isfile(runner):
-            run(*SANITIZED, runner, *glob.glob(f"{TOP}/native/vaknuhol-run/*.c"))
-    os.environ.update(
-        VAKNUHOL_RUN=runner, ASAN_OPTIONS=f"log_path={found}a:detect_leaks=0", UBSAN_OPTIONS=f"log_path={found}u"
-    )
+    found = f"{shared}/found.{os.getpid()}"
+    os.environ.update({name.upper().replace("-", "_"): sanitized_program(name, shared) for name in NEEDS})
+    os.environ.update(ASAN_OPTIONS=f"log_path={found}a:detect_leaks=0", UBSAN_OPTIONS=f"log_path={found}u")
     return found
 
 

@@ -1,11 +1,13 @@
 /* Threads that work without an end, until another one crashes as the first word says, or the program ends in another way.
-   usage: crashing [filtered | forked] HOW [EVENTS]
-   filtered: it begins again first, with a filter on system calls. forked: in a child, for which the first process waits; with EVENTS it stays then. With
-   `late`, and with `both`, which has two crashes, no thread works: the runner is stopped before, and goes on after so many calls of `work`. */
+   usage: crashing [filtered | apart | forked] HOW [EVENTS]
+   filtered: it begins again first, with a filter on system calls. apart: so it does, with segments of shared memory of its own. forked: in a child, for
+   which the first process waits; with EVENTS it stays then. With `late`, and with `both`, which has two crashes, no thread works: the runner is stopped
+   before, and goes on after so many calls of `work`. */
 #define _GNU_SOURCE
 #include <linux/filter.h>
 #include <linux/seccomp.h>
 #include <pthread.h>
+#include <sched.h>
 #include <setjmp.h>
 #include <signal.h>
 #include <stdio.h>
@@ -140,18 +142,20 @@ static void crash_late(long threads, long events) {
     pause();
 }
 
-/* The runner shares no memory with a process that has a filter. */
+/* The runner shares no memory with a process that has a filter which the runner may not suspend, nor with one that has a namespace of segments. */
 static int begin_again(char **words) {
     struct sock_filter allow = BPF_STMT(BPF_RET | BPF_K, SECCOMP_RET_ALLOW);
     struct sock_fprog filter = {1, &allow};
-    if (!prctl(PR_SET_NO_NEW_PRIVS, 1, 0, 0, 0) && !prctl(PR_SET_SECCOMP, SECCOMP_MODE_FILTER, &filter))
+    int is_apart = !strcmp(words[0], "apart");
+    if (is_apart ? !unshare(CLONE_NEWIPC) || !unshare(CLONE_NEWUSER | CLONE_NEWIPC)
+                 : !prctl(PR_SET_NO_NEW_PRIVS, 1, 0, 0, 0) && !prctl(PR_SET_SECCOMP, SECCOMP_MODE_FILTER, &filter))
         execv("/proc/self/exe", words);
     return 64;
 }
 
 int main(int count, char **words) {
     pthread_t thread;
-    if (count > 2 && !strcmp(words[1], "filtered"))
+    if (count > 2 && (!strcmp(words[1], "filtered") || !strcmp(words[1], "apart")))
         return begin_again(words + 1);
     if (count > 2 && !strcmp(words[1], "forked")) {
         words++;

@@ -1,7 +1,7 @@
 """What is not here is not tried, and what is not tried has not passed: a test fails then, by name, unless that is
 allowed.
 
-tests/needed_tools.txt has each tool that a test asks for, with the Debian package that has it.
+scripts/needed_tools.txt has each tool that a test asks for, with the Debian package that has it.
 """
 import os
 import shutil
@@ -9,10 +9,10 @@ from typing import NoReturn
 
 import pytest
 
-from tests.calls import TOP
+from tests.calls import SCRIPTS
 
 MAY = "VAKNUHOL_TESTS_MAY_SKIP"
-LIST = f"{TOP}/tests/needed_tools.txt"
+LIST = f"{SCRIPTS}/needed_tools.txt"
 
 
 def packages() -> dict[str, str]:

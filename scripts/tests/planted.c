@@ -2,14 +2,15 @@
    often, where it comes to an address in the code of `come`: by HLT, or by a jump to itself, up to a signal. The handler puts the code right,
    comes to `one`, and goes back. Printed is what it finds in the registers, which a patch doesn't change, and as errors, of the ring, what changed
    in it since the thread came to `come`.
-   usage: planted [filtered] HOW BEGIN OFFSET [RING SLOTS POSITION MEANWHILE]
-   filtered: it begins again first, with a filter on system calls. HOW: halted, spins, killed. BEGIN and OFFSET: where the code begins, and how far
-   the thread comes in it. RING, SLOTS: where the ring lies, and how many slots it has. POSITION: its first one. MEANWHILE: to what the first thread
-   comes while the second spins, by the letters o, t and c, there by a copy of the event. */
+   usage: planted [filtered | apart] HOW BEGIN OFFSET [RING SLOTS POSITION MEANWHILE]
+   filtered: it begins again first, with a filter on system calls. apart: so it does, with segments of shared memory of its own. HOW: halted, spins,
+   killed. BEGIN and OFFSET: where the code begins, and how far the thread comes in it. RING, SLOTS: where the ring lies, and how many slots it has.
+   POSITION: its first one. MEANWHILE: to what the first thread comes while the second spins, by the letters o, t and c, there by a copy of the event. */
 #define _GNU_SOURCE
 #include <linux/filter.h>
 #include <linux/seccomp.h>
 #include <pthread.h>
+#include <sched.h>
 #include <signal.h>
 #include <stdint.h>
 #include <stdio.h>
@@ -139,11 +140,13 @@ static void spin(const char *how, const char *meanwhile) {
     pthread_join(thread, NULL);
 }
 
-/* The runner shares no memory with a process that has a filter. */
+/* The runner shares no memory with a process that has a filter which the runner may not suspend, nor with one that has a namespace of segments. */
 static int begin_again(char **words) {
     struct sock_filter allow = BPF_STMT(BPF_RET | BPF_K, SECCOMP_RET_ALLOW);
     struct sock_fprog filter = {1, &allow};
-    if (!prctl(PR_SET_NO_NEW_PRIVS, 1, 0, 0, 0) && !prctl(PR_SET_SECCOMP, SECCOMP_MODE_FILTER, &filter))
+    int is_apart = !strcmp(words[0], "apart");
+    if (is_apart ? !unshare(CLONE_NEWIPC) || !unshare(CLONE_NEWUSER | CLONE_NEWIPC)
+                 : !prctl(PR_SET_NO_NEW_PRIVS, 1, 0, 0, 0) && !prctl(PR_SET_SECCOMP, SECCOMP_MODE_FILTER, &filter))
         execv("/proc/self/exe", words);
     return 64;
 }
@@ -153,7 +156,7 @@ int main(int count, char **words) {
     pthread_t thread;
     if (count < 4)
         return 64;
-    if (!strcmp(words[1], "filtered"))
+    if (!strcmp(words[1], "filtered") || !strcmp(words[1], "apart"))
         return begin_again(words + 1);
     begin = (uint8_t *)strtoul(words[2], NULL, 16), place = begin + atoi(words[3]);
     if (count > 6) {

@@ -2,7 +2,7 @@
 import pytest
 
 from tests.doubles import double
-from vaknuhol.program.function_names import spellings
+from vaknuhol.program.function_names import namer, spellings
 from vaknuhol.views.annotation import Block, Instruction, Part, Source
 from vaknuhol.views.annotation_text import text_of
 
@@ -36,7 +36,8 @@ def test_columns_are_kept_where_counts_are_long() -> None:
         ("scaled.isra.0.part.1.cold", "scaled.isra.0.part.1.cold", "scaled"),
         ("main.main", "main.main", "main.main"),
         ("_ZN4Tree3addEi", "Tree::add(int)", "Tree::add"),
-        ("_ZN5words3add17h0123456789abcdefE", "words::add::h0123456789abcdef", "words::add"),
+        ("_ZN5words3add17h0123456789abcdefE", "words::add", "words::add"),
+        ("_RINvCs5678_5words3addmE", "words::add::<u32>", "words::add"),
         ("__sums_MOD_ack", "__sums_MOD_ack", "ack"),
     ],
 )
@@ -46,3 +47,17 @@ def test_a_function_is_found_by_the_name_that_its_source_has(symbol: str, source
 
 def test_a_name_is_not_taken_for_a_part_of_another() -> None:
     assert spellings("main.parted", "main.parted") == {"main.parted"}
+
+
+@pytest.mark.parametrize(
+    "symbol, source",
+    [
+        ("_ZN5words5tally17h0123456789abcdefE", "words::tally"),
+        ("_RNvCs5678_5words5tally", "words::tally"),
+        ("_ZN4Tree3addEi", "Tree::add(int)"),
+        ("main", "main"),
+    ],
+)
+def test_names_are_as_the_source_has_them(symbol: str, source: str) -> None:
+    """Those of Rust, of both kinds, without the hashes that rustc adds."""
+    assert namer([symbol])(symbol) == source

@@ -101,6 +101,18 @@ def test_all_blocks_of_this_program_have_support(listing):
     assert len(with_support(blocks_of(listing), listing, action_of("count"))) == len(COUNTS)
 
 
+@pytest.mark.parametrize("action", ["count", "cover", "ring:256"])
+def test_for_threads_a_system_call_is_no_site(listing, labels, action, capsys):
+    """A thread that it begins would begin in its trampoline."""
+    blocks = blocks_of(listing)
+    kept = with_support(blocks, listing, action_of(action), for_threads=True)
+    assert [block.first for block in kept] == [labels[name] for name in COUNTS if name != "kernel"]
+    assert "1 block that may begin a thread (system calls) is not patched\n" in capsys.readouterr().err
+    alone = [block for block in blocks if block.first == labels["kernel"]]
+    with pytest.raises(Refusal, match="each of these blocks is a system call, so none is patched"):
+        with_support(alone, listing, action_of(action), for_threads=True)
+
+
 def test_the_best_site_holds_its_jump_and_is_no_branch(listing, labels):
     sites = {block.first: candidates(block, action_of("count")) for block in blocks_of(listing)}
     assert sites[labels["_start"]] == [

@@ -174,6 +174,8 @@ def test_blocks_in_several_files_have_the_same_counts_as_in_one(counted_tour):
     )
     files = -(-len(counts()) // 8)
     assert printed == "7 bytes\nsum 675\n" and f"the program runs {files} times" in shown and files > 2, shown
+    before = shown[: shown.index("vaknuhol: patched ")]
+    assert f"the program will run {files} times" in before and before.count("--within ") == files, shown
     assert alike(known("sum"), whole), "the parts have other counts than the whole"
     assert "sum of" not in shown and not [it for it in os.listdir() if it.startswith("sum.")]
     with open("input", "w", encoding="ascii") as file:

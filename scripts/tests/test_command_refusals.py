@@ -53,6 +53,7 @@ REFUSED = [
     (["report", "tour", LAST, "--json", "gone/a"], 2, "gone/a can't be written: No such file or directory"),
     (["report", "tour", "--per-run", "--lcov", "-"], 2, "--lcov: not allowed with argument --per-run"),
     (["report", "tour", "--per-run", "--table"], 2, "--table: not allowed with argument --per-run"),
+    (["report", "tour", "--per-run", "--calls"], 2, "--calls: not allowed with argument --per-run"),
     (["merge", "a", LAST, "tour.cc"], 2, "tour.cc is no record of run_and_record"),
     (["dump", "999999999"], 2, "there is no process 999999999"),
     (["dump", "gone"], 2, "gone: there is no such process, and no such core file"),

@@ -15,7 +15,7 @@ EXAMPLES = {
     "replay": r"premises: they hold at each step .+\nprocessor and model: they agree after .+\n"
     r"original and patched file .+: they look alike after .+\n",
 }
-MISSING = re.compile("install Debian's libzydis-dev|ptrace is not allowed|needs [a-z]+, which is not here")
+MISSING = re.compile("ptrace is not allowed|missing: .*|needs rt of the Rattle kit, which is not here")
 
 
 @pytest.mark.parametrize("name", EXAMPLES)

@@ -31,6 +31,7 @@ OUTPUTS = {
     ("report", "json"): (("report", "tiny", LAST, "--json", "OUT"), 0),
     ("report", "drcov"): (("report", "tiny", LAST, "--drcov", "OUT"), 0),
     ("report", "callgrind"): (("report", "tiny", LAST, "--callgrind", "OUT"), 0),
+    ("report", "folded"): (("report", "tiny", LAST, "--folded", "OUT"), 0),
     ("annotate", "html"): (("annotate", "tiny", "--record", LAST, "--html", "OUT"), 0),
     ("merge", "sum"): (("merge", "OUT", LAST, LAST), 0),
     ("unpatch", "original"): (("unpatch", "PATCHED", "OUT"), 0),

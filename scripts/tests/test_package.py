@@ -112,15 +112,30 @@ def test_the_copyright_says_that_no_licence_is_granted_yet(system):
         assert file.read().startswith("vaknuhol (")
 
 
-def test_programs_are_stripped(system):
-    programs = [
-        name
+def elf_programs(system):
+    """The paths of those that aren't scripts."""
+    return [
+        f"{system.written}/{name}"
         for name in system.files("usr/lib/vaknuhol/bin")
         if b"\x7fELF" in open(f"{system.written}/{name}", "rb").read(4)
     ]
-    assert len(programs) >= 5 and not [
-        it for it in programs if ".symtab" in run("readelf", "-SW", f"{system.written}/{it}")
-    ]
+
+
+def test_programs_are_stripped(system):
+    programs = elf_programs(system)
+    assert len(programs) >= 5 and not [it for it in programs if ".symtab" in run("readelf", "-SW", it)]
+
+
+def test_c_programs_are_hardened(system):
+    """With all that dpkg-buildflags knows, but for what needs a dynamic linker where a program is static."""
+    names = ["vaknuhol-judge", "vaknuhol-lines", "vaknuhol-list", "vaknuhol-record", "vaknuhol-run", "vaknuhol-step"]
+    programs = {os.path.basename(it): it for it in elf_programs(system) if "vaknuhol-" in os.path.basename(it)}
+    assert sorted(programs) == names
+    for name, path in programs.items():
+        assert "GNU_RELRO" in run("readelf", "-lW", path), name
+        if name != "vaknuhol-run":
+            assert "Flags: NOW PIE" in run("readelf", "-dW", path), name
+            assert "__stack_chk_fail" in run("readelf", "-W", "--dyn-syms", path), name
 
 
 def test_e9tool_tells_of_itself(system):

@@ -23,11 +23,11 @@ def refused(name, words, text, status, environment=None):
     assert not done.stdout or "chosen" in done.stdout, f"{name} {words}: {done.stdout}"
 
 
-STATIC = "link with gcc -static -no-pie"
+DYNAMIC = "dynamic is dynamic, so its libraries are loaded as it runs: link with gcc -static -no-pie"
 PATCH: list[tuple[list[str], str]] = [
     (["lines.c", "--jumps"], "lines.c is no ELF file"),
     (["gone", "--jumps"], "gone: No such file or directory"),
-    (["dynamic", "--jumps"], f"dynamic is position independent or dynamic: {STATIC}"),
+    (["dynamic", "--jumps"], DYNAMIC),
     ([PATCHED, "--jumps"], f"{PATCHED} has a segment below 0x20000, as a patched file has: name the original"),
     (
         ["lines", "--jumps", "--reserve", "0x401000-0x402000"],
@@ -89,7 +89,7 @@ PATCH: list[tuple[list[str], str]] = [
 RUN = [
     ([STARTS, "a", PATCHED], f"{STARTS} is no report of e9tool"),
     ([REPORT, "a", "./lines"], "./lines is the original: run the patched file, lines.vak/lines.count.patched"),
-    ([REPORT, "a", "./dynamic"], f"./dynamic is position independent or dynamic: {STATIC}"),
+    ([REPORT, "a", "./dynamic"], f"./{DYNAMIC}"),
     (
         [REPORT, "a", "stripped"],
         f"stripped is not the patched file that {REPORT} is of: run {PATCHED}, as it was written",

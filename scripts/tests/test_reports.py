@@ -218,12 +218,10 @@ def test_without_source_lines_the_pages_show_functions_and_their_instructions(to
     )
     call("report", "bare", "--html", "code")
     with open("code/index.html", encoding="utf-8") as file:
-        (link, name) = re.findall(r'<td class="number">7</td>.*<a href="([0-9a-f]{8}\.html)">(.+)</a>', file.read())[0]
+        (link, name) = re.findall(r' data-of="7">7</td>.*<a href="([0-9a-f]{8}\.html)">(.+)</a>', file.read())[0]
     with open(f"code/{link}", encoding="utf-8") as file:
-        lines = re.findall(
-            r'<span class="hit"><span class="count"> *([0-9]*)</span> +([0-9a-f]+)  (.+)</span>', file.read()
-        )
-    assert lines[0][:2] == ("7", f"{step.first:x}") and len(lines) > 1 and not lines[1][0], lines
-    assert f"{lines[0][1]}:\t{html.unescape(lines[0][2])}" in run(
-        "objdump", "-dw", "--no-show-raw-insn", "bare"
-    ), lines[0]
+        (block, *_) = re.findall(r'<span class="hit"><span class="count"> *([0-9]*)</span>((?s:.*?))</span>', file.read())
+    lines = re.findall(r"^ +([0-9a-f]+)  (.+)$", block[1], re.M)
+    assert block[0] == "7" and lines[0][0] == f"{step.first:x}" and len(lines) > 1, block
+    told = run("objdump", "-dw", "--no-show-raw-insn", "bare")
+    assert all(f"{address}:\t{html.unescape(text)}" in told for address, text in lines), lines

@@ -194,3 +194,11 @@ def test_each_site_counts_what_single_steps_of_the_original_see(counted) -> None
     executed = sum(1 for row in compared if row.count)
     assert not wrong, wrong
     assert executed > 1000 and 4 * len(compared) > 3 * len(rows), (executed, len(compared), len(rows))
+
+
+@pytest.mark.parametrize("words", ACTIONS.values(), ids=ACTIONS)
+def test_a_program_that_steps_itself_makes_as_many_steps(programs: Programs, words) -> None:
+    programs.bring("steps_itself", "steps_itself.c")
+    wanted = run("./steps_itself", "number")
+    call("wrap", *{word: None for word in (*words, "--own")}, "steps_itself", "-o", "stand-in")
+    assert run("timeout", "20", "./stand-in", "number") == wanted

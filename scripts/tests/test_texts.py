@@ -8,9 +8,10 @@ import pytest
 
 from tests.calls import patch, path_of, run
 from tests.programs import compile_text
-from vaknuhol.commands.fit import stepped
 from vaknuhol.program.listing import Listing
+from vaknuhol.program.stepped_run import SteppedRun
 from vaknuhol.recording.code_support import Support
+from vaknuhol.recording.kept_patches import folder_of
 
 # Each loops `work` over 7 down to 1 and ends with the sum's low seven bits; what lies from `none` up to `past` is no
 # code.
@@ -100,6 +101,11 @@ NEIGHBOURS = {
 ODD = {"behind_ud2": "    and $-2, %edi\n    or $1, %edi\n"}
 
 
+def stepped(program: str, steps: int) -> list[list[str]]:
+    """What a run under single steps tells, line by line."""
+    return SteppedRun(program, [], steps, folder_of(program)).lines
+
+
 def build_text(name):
     """The program, and a copy that is stripped of its symbols."""
     with open(f"{name}.s", "w", encoding="ascii") as file:
@@ -121,7 +127,7 @@ def listed_rightly(program, low, high):
     listing = Listing(program)
     wrong = [addr for addr in listing.addr if low <= addr < high]
     assert not wrong, f"{program}: {[hex(addr) for addr in wrong]} are listed, and no code"
-    told = stepped(program, [], 0)
+    told = stepped(program, 0)
     assert told[1] == ["ended", str(status_of(f"./{program}"))], told
     assert len(told) == 2 and int(told[0][1]) > 50, f"{program}: {told}"
     return len(listing.starts)
@@ -164,5 +170,5 @@ def test_single_steps_tell_how_a_run_ends(status):
     """A status of 0 is an end, too; a run of fewer steps is stopped."""
     name = f"ends_with_{status}"
     compile_text(name, f"{name}.s", f".globl _start\n_start: mov ${status}, %edi\nmov $60, %eax\nsyscall\n", "-nostdlib")
-    assert stepped(name, [], 0)[:2] == [["steps", "3"], ["ended", str(status)]]
-    assert stepped(name, [], 2)[:2] == [["steps", "2"], ["stopped"]]
+    assert stepped(name, 0)[:2] == [["steps", "3"], ["ended", str(status)]]
+    assert stepped(name, 2)[:2] == [["steps", "2"], ["stopped"]]

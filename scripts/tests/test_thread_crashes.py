@@ -6,11 +6,12 @@ import os
 import signal
 import struct
 import subprocess
+import sys
 from collections.abc import Callable
 
 import pytest
 
-from tests.calls import of_slots, run
+from tests.calls import HELD_BY_FILTERS, of_slots, run
 from tests.command import call, changed
 from tests.needs import left_out
 from tests.programs import Programs, inside
@@ -38,18 +39,20 @@ class Crashing:
             lines = (line.split() for line in run("nm", "--defined-only", "crashing").splitlines())
         self.symbols = sorted((int(at, 16), name) for at, kind, name in lines if kind in "tT")
 
-    def start(self, *how: str) -> subprocess.Popen[str]:
-        """The stand-in, as the first that leaves a record."""
+    def start(self, *how: str, first: str = "") -> subprocess.Popen[str]:
+        """The stand-in, as the first that leaves a record. What is done before is Python."""
         for path in paths_in(self.records):
             os.remove(path)
-        return subprocess.Popen([f"{self.folder}/stand-in", *how], stdout=subprocess.PIPE, text=True)
+        begin = f"import os, sys\n{first}\nos.execv(sys.argv[1], sys.argv[1:])"
+        words = [sys.executable, "-c", begin, f"{self.folder}/stand-in", *how]
+        return subprocess.Popen(words, stdout=subprocess.PIPE, text=True)
 
     def record(self) -> Record:
         (path,) = paths_in(self.records)
         return Record(path)
 
-    def run(self, *how: str) -> Record:
-        with self.start(*how):
+    def run(self, *how: str, first: str = "") -> Record:
+        with self.start(*how, first=first):
             pass
         return self.record()
 
@@ -58,9 +61,9 @@ class Crashing:
         assert None not in history.rows and len(history.rows) <= ASKED
         return [self.symbols[bisect.bisect(self.symbols, (row.first, "~")) - 1][1] for row in history.rows if row]
 
-    def crashed(self, number: int, *how: str) -> list[str]:
+    def crashed(self, number: int, *how: str, first: str = "") -> list[str]:
         """The functions of the last rows of the process, which a signal ended."""
-        history = self.run(*how).histories[-1]
+        history = self.run(*how, first=first).histories[-1]
         assert history.ended == f"signal {number}"
         return self.functions(history)
 
@@ -98,6 +101,12 @@ def test_so_it_is_in_a_function_to_which_the_others_come_too(patched, how):
     check_last(patched(), how, signal.SIGFPE, "share")
 
 
+def need_way(crashing: Crashing, way: str) -> None:
+    """That the program may begin again in this way."""
+    if subprocess.run([f"{crashing.folder}/crashing", way, "null"], check=False).returncode != -signal.SIGSEGV:
+        left_out(f"no process may be {way} here")
+
+
 ELSEWHERE = {
     "abort": (signal.SIGABRT, "give_up"),
     "raise": (signal.SIGSYS, "refuse"),
@@ -123,25 +132,28 @@ def test_a_signal_that_a_thread_sends_itself_is_a_crash(patched, how, choice):
     check_last(patched(choice), how, ELSEWHERE[how][0], "pthread_kill")
 
 
+@pytest.mark.parametrize("way", ["filtered", "apart"])
 @pytest.mark.parametrize(
     "how, number, function", [("null", signal.SIGSEGV, "fetch"), ("divide", signal.SIGFPE, "share")]
 )
-def test_so_it_is_where_the_memory_is_not_shared(patched, how, number, function):
-    """As of a process with a filter on system calls, which the runner hasn't."""
-    words = [f"{patched().folder}/crashing", "filtered", how]
-    if subprocess.run(words, check=False).returncode != -number:
-        left_out("no filter on system calls is allowed")
-    names = patched().crashed(number, "filtered", how)
+def test_so_it_is_where_the_memory_is_not_shared(patched, how, number, function, way):
+    """As of a process with a filter on system calls that the runner hasn't and may not suspend, and of one with another
+    namespace of segments."""
+    need_way(patched(), way)
+    names = patched().crashed(number, way, how, first=HELD_BY_FILTERS * (way == "filtered"))
     assert names[-1] == function, names
 
 
+@pytest.mark.parametrize("ways", [(), ("apart",)])
 @pytest.mark.parametrize("slots", [SHORT, LONG])
 @pytest.mark.parametrize("left", [None, ASKED, ASKED - 1, 1, 0, -LONG])
-def test_what_others_do_after_a_crash_is_not_shown(patched, left, slots):
+def test_what_others_do_after_a_crash_is_not_shown(patched, left, slots, ways):
     """What they have overwritten by then is gone, but for a few events up to the crash that are left, or none; in which
     block the thread stands the runner sees."""
     events, kept = (0, ASKED) if left is None else (slots - left, max(1, left))
-    names = patched(FEW, slots).crashed(signal.SIGSEGV, "late", str(events))
+    for way in ways:
+        need_way(patched(FEW, slots), way)
+    names = patched(FEW, slots).crashed(signal.SIGSEGV, *ways, "late", str(events))
     assert names == ["work"] * (kept - 1) + ["fetch"], names
 
 
@@ -166,6 +178,28 @@ def test_a_signal_from_outside_is_no_crash_of_a_thread(patched, number):
         it.send_signal(number)
     (history,) = crashing.record().histories
     assert history.ended == f"signal {number}" and len(history.rows) == ASKED
+
+
+def slow_down(program: int) -> None:
+    """The runner gets a processor when the threads of its program leave it one, which they have, too."""
+    with open(f"/proc/{program}/status", encoding="ascii") as file:
+        (runner,) = (int(line.split()[1]) for line in file if line.startswith("TracerPid:"))
+    for tid in (*map(int, os.listdir(f"/proc/{program}/task")), runner):
+        os.sched_setaffinity(tid, {min(os.sched_getaffinity(0))})
+    os.sched_setscheduler(runner, os.SCHED_IDLE, os.sched_param(0))
+
+
+def test_so_it_is_where_the_threads_go_round_the_ring_while_the_runner_copies_it(patched):
+    """By many calls, as the memory isn't shared, between which it waits for a processor."""
+    crashing = patched()
+    need_way(crashing, "apart")
+    for _ in range(RUNS):
+        with crashing.start("apart", "waits") as it:
+            assert it.stdout and it.stdout.readline() == "works\n"
+            slow_down(it.pid)
+            it.send_signal(signal.SIGQUIT)
+        history = crashing.record().histories[-1]
+        assert history.ended == f"signal {signal.SIGQUIT}" and len(history.rows) == ASKED
 
 
 def test_a_child_that_crashes_has_its_crash_in_the_record_while_its_parent_runs_on(patched):

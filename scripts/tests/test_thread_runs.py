@@ -1,25 +1,31 @@
 """Runs of programs with threads, stepped and judged by the premises of their theorem: some that keep them, and small
 programs each of which breaks one of them."""
-import os
 import re
-import shutil
 import subprocess
 
 import pytest
 
 from tests.calls import match, of_slots, run
+from tests.command import call
 from tests.programs import Programs
 from tests.replaying import NUMBER, build, replay
-from tests.test_thread_reports import change, mistaken
-from vaknuhol.native import program as native_program
 from vaknuhol.program.program_file import read_text
 
 SOURCE, SHORT, LONG = "thread_run.c", 256, 65536
-LENGTH = f"{NUMBER} steps of {NUMBER} threads, {NUMBER} events, {NUMBER} deliveries"
-HOLD = f"premises of threads: they hold at each step: {LENGTH}; "
+LENGTH = f"{NUMBER} steps of {NUMBER} threads?, {NUMBER} events, {NUMBER} deliveries"
+OF_FIRST = f"; the theorem speaks of the first {NUMBER}, before "
+WHOLE = "; the theorem speaks of all of them"
+SAME = "both runs get the same answers as far as memory tells"
+HELD = f"premises of threads: they hold at each step, and {SAME}: {LENGTH}"
+HOLD = f"{HELD}{WHOLE}; "
 ENDED = r"the record is right; there the program ends \(exit 7\)"
-BROKEN = rf"premises of threads: BROKEN: step {NUMBER}, of thread {NUMBER}, at {{here}}, {{what}} \({LENGTH}\)"
+BROKEN = rf"premises of threads: BROKEN: step {NUMBER}, of thread {NUMBER}, at {{here}}, {{what}} \({LENGTH}\){OF_FIRST}that step"
+DOUBTED = (
+    "premises of threads: the run MAY HAVE GONE ANOTHER WAY than the original's, which may get other answers: "
+    f"step {NUMBER}, of thread {NUMBER}, at {{here}}, asks the world{{what}}: {LENGTH}"
+)
 STALE = "reads [0-9a-f]+, a stale byte: an event saved rax{} there, and the program hasn't written it since"
+STALE_READ = STALE.format("(?: or flags)?")
 NUMBER_AT = 44  # where the number of a site stands in its event of a ring, of which `change` changes a bit, that of 8
 LISTED, NEW = "a byte of a listed instruction", "a new address, of the patch alone"
 BREAKING = {
@@ -46,7 +52,9 @@ def judged(*words: str, status: int = 0, slots: int = LONG) -> str:
 
 def check_kept(threads: int, deliveries: int, *words: str, slots: int = LONG) -> None:
     """The run meets the premises, with so many threads, and counts in their events."""
-    _, started, events, delivered = map(int, match(f"^{HOLD}{ENDED}$", judged(*words, slots=slots)).groups())
+    found = match(f"^{HOLD}{ENDED}$", judged(*words, slots=slots)).groups()
+    steps, started, events, delivered = map(int, found)
+    assert 10 < events < steps
     assert (started, delivered) == (threads, deliveries) and events > 20 * (threads - 1), words
 
 
@@ -74,12 +82,21 @@ def test_threads_that_share_a_short_ring_keep_the_premises(name, threads, delive
 
 @pytest.mark.parametrize("threads", [2, 4])
 @pytest.mark.parametrize("action, slots", [(("--count",), LONG), (("--ring", "300"), LONG), (("--ring", "9"), SHORT)])
-def test_threads_of_a_c_library_keep_the_premises(programs: Programs, threads, action, slots):
-    """Under a mutex, with a barrier, joined at the end."""
+def test_threads_of_a_c_library_may_get_another_answer(programs: Programs, threads, action, slots):
+    """Under a mutex, with a barrier, joined at the end. Before the first one begins glibc copies, by vectors, a mask of
+    signals on the stack that is longer than what was written of it."""
     name = f"locks_{threads}"
     programs.bring(name, "locks.c", "-pthread", f"-DTHREADS={threads}")
-    low = int(match("(?m)^([0-9a-f]+) t count$", run("nm", name))[1], 16)
-    check_kept(threads + 1, 0, *action, "--blocks", "--within", f"{low:x}-{low + 0x100:x}", f"./{name}", slots=slots)
+    symbols = run("nm", "-n", name)
+    low = int(match("(?m)^([0-9a-f]+) t count$", symbols)[1], 16)
+    copies = match("(?m)^([0-9a-f]+) T __libc_sigaction\n([0-9a-f]+) ", symbols).groups()
+    within = ["--blocks", "--within", f"{low:x}-{low + 0x100:x}"]
+    line = judged(*action, *within, f"./{name}", status=1, slots=slots)
+    read = DOUBTED.format(here="([0-9a-f]{8})", what=f" and {STALE_READ}(?:, as do {NUMBER} more)?")
+    found = match(f"^{read}; the theorem speaks of the first {NUMBER}, before that step; {ENDED}$", line)
+    assert int(copies[0], 16) <= int(found[3], 16) < int(copies[1], 16), line
+    assert int(found[9]) + 1 == int(found[1]) and int(found[7]) > 20 * threads, line
+    assert (found[2], int(found[6]), found[8]) == ("1", threads + 1, "0"), line
 
 
 @pytest.mark.parametrize("name, what", BREAKING.items(), ids=BREAKING)
@@ -114,58 +131,99 @@ def test_a_signal_without_a_handler_ends_the_run():
     assert "they hold at each step" in line and line.endswith("it gets signal 11, for which it has no handler"), line
 
 
+@pytest.mark.parametrize("name", ["VFORKS", "SPAWNS"])
+def test_a_run_is_judged_up_to_a_process_that_shares_its_memory(name):
+    """By vfork, or as posix_spawn does it: the process counts in the same record, and is no thread."""
+    line = judged("--count", build(name, SOURCE)[0], status=1)
+    ends = "the record is right; there it starts a process that shares its memory, which is no thread"
+    assert re.search(f"^{HOLD}{ends}$", line), line
+
+
 def test_a_long_run_is_judged_up_to_the_last_step():
     line = judged("--count", "--steps", "900", build("NONE", SOURCE)[0])
     assert match(f"^{HOLD}", line)[1] == "900" and line.endswith("is right; the record ends there: --steps"), line
 
 
-OTHERS = {
-    "count": (r"(?<=\nsite )([0-9a-f]+) ([0-9a-f]+) 0 32", r"\1 \2 1 32", ""),
-    "count where": (r"(?<=\nwhen 0) 0 0", " 1 0", " with the condition met"),
+DOUBTED_RUNS = {
+    "OUTPUTS": (f" by system call 1 and {STALE_READ}", ENDED),
+    "COMPARES": (f" and {STALE_READ}", ENDED.replace("7", "8")),
+    "COPIES": (f" and {STALE_READ}", ENDED),
+    "ASKS": (f" by system call 1 and {STALE_READ}, as do 33 more", ENDED),
+    "ASKS_LISTED": (f" and reads [0-9a-f]{{8}}, {LISTED}", ENDED),
+    "ASKS_NEW": (f" by system call 1 and reads 00020040, {NEW}", ENDED),
 }
 
 
-def judged_by(facts: str, program: str) -> str:
-    """What the judge says of the kept patched file by other facts."""
-    with open("facts", "w", encoding="ascii") as file:
-        file.write(facts)
-    words = ["result", program, "facts", "100000", "kept/patched"]
-    subprocess.run([native_program("vaknuhol-judge"), *words], check=True)
-    return read_text("result")
+@pytest.mark.parametrize("name, told", DOUBTED_RUNS.items(), ids=DOUBTED_RUNS)
+@pytest.mark.parametrize("action", ["count", "ring"])
+def test_a_run_that_may_have_gone_another_way_is_told(name, told, action):
+    """By the step that first asks the world and reads what the original's run may have otherwise."""
+    program, here = build(name, SOURCE)
+    line = judged(*ACTIONS[action], program, status=1)
+    where = here[-8:] if action == "count" and here else "[0-9a-f]{8}"
+    assert re.search(f"{DOUBTED.format(here=where, what=told[0])}{OF_FIRST}that step; {told[1]}$", line), line
 
 
-@pytest.mark.parametrize("action, others", OTHERS.items(), ids=OTHERS)
-def test_a_record_that_differs_from_the_steps_is_told(action, others):
-    """As where the judge takes a site for another one, or the condition."""
+@pytest.mark.parametrize("name", ["OUTPUTS", "COMPARES", "ASKS"])
+def test_where_events_cover_no_answer_is_another_one(name):
+    assert re.search(f"{HOLD}{ENDED}$", judged(build(name, SOURCE)[0]))
+
+
+@pytest.mark.parametrize("action", ["count", "cover where"])
+def test_calls_that_read_up_to_a_stale_byte_break_nothing(action):
+    """Of none of them more is taken for read than the kernel reads."""
+    check_kept(3, 0, *ACTIONS[action], build("ASKS_APART", SOURCE)[0])
+
+
+def test_what_was_told_shows_in_the_output():
+    """The original writes zeros where the patched file writes what an event saved."""
+    program, _ = build("OUTPUTS", SOURCE)
+    judged("--count", "--keep", "kept", program, status=1)
+    originals = {subprocess.run([program], capture_output=True, check=False).stdout for _ in range(3)}
+    patched = subprocess.run(["kept/patched"], capture_output=True, check=False).stdout
+    assert originals == {b"\1\0\0\0\1\0\0\0"} and patched == b"\1\0\0\0\1uuu"
+
+
+def test_a_call_of_which_it_is_not_known_what_it_reads_is_told():
+    status, lines, told = replay("--threads", "--count", build("UNKNOWN_CALL", SOURCE)[0])
+    assert status == 0 and re.search(f"^{HOLD}{ENDED}$", lines[0]), lines
+    assert "what these system calls read or write isn't known, so it wasn't judged: 157\n" in told
+
+
+def test_the_theorem_speaks_of_a_whole_run_in_which_threads_begin():
+    """They begin behind their calls, which are no sites."""
+    found = match(f"^{HOLD}{ENDED}$", judged("--count", build("NONE", SOURCE)[0]))
+    assert found[2] == "3"
+
+
+def test_no_system_call_is_a_site():
+    """By a site at one a thread would begin inside a trampoline."""
     program, _ = build("NONE", SOURCE)
-    judged(*ACTIONS[action], "--keep", "kept", program)
-    facts, times = re.subn(others[0], others[1], read_text("kept/facts"))
-    assert times == 1, facts
-    form = "\ncounters the record of the site at ([0-9a-f]+) is ([0-9]+), but ([0-9]+) came by it{}\n"
-    told = match(form.format(others[2]), judged_by(facts, program))
-    assert f"\nsite {int(told[1], 16):x} " in facts and told[2] != told[3], told
+    replay("--threads", "--count", "--blocks", "--keep", "kept", "--steps", "1", program)
+    calls = set(re.findall(r"(?m)^ +([0-9a-f]+):.*\tsyscall", run("objdump", "-d", program)))
+    (patched,) = call("count", program, "--threads", "--blocks", "--patch-only")[0].split()
+    for sites in ("kept/sites", patched.removesuffix("patched") + "sites"):
+        found = set(read_text(sites).split())
+        assert len(calls) > 3 and len(found) > 9 and not calls & found, sites
 
 
-@pytest.mark.parametrize("slots", [SHORT, LONG])
-def test_a_ring_that_differs_from_the_steps_is_told(slots):
-    """As where an event fills its slot with another number, or the judge sees no claim."""
-    program, _ = build("NONE", SOURCE)
-    judged(*ACTIONS["ring"], "--keep", "kept", program, slots=slots)
-    facts = read_text("kept/facts")
-    assert "\ncounters yes\n" in judged_by(facts, program)
-    unclaimed = facts.replace(f"\nring {slots} 34\n", f"\nring {slots} 33\n")
-    form = "\ncounters the position of the ring is ([0-9]+), but 0 slots were claimed\n"
-    assert int(match(form, judged_by(unclaimed, program))[1]) > 40
-    shutil.copy("kept/patched", "other")  # what was judged may be running yet, and can't be written
-    os.replace("other", "kept/patched")
-    for place in re.findall(r"(?m)^site [0-9a-f]+ ([0-9a-f]+) [0-9]+ 67$", facts):
-        change("kept/patched", int(place, 16) + NUMBER_AT)
-    form = "\ncounters slot [0-9]+ of the ring is ([0-9]+), but ([0-9]+) was written last\n"
-    told = match(form, judged_by(facts, program))
-    assert int(told[1]) == int(told[2]) ^ 8, told
+def test_a_thread_that_begins_inside_a_trampoline_is_told():
+    """The jump of the site before the call that begins it has room there alone, so the call is displaced, too."""
+    program, here = build("BEGINS_INSIDE", SOURCE)
+    assert here
+    within = f"{here[-8:]}-{int(here, 16) + 1:x}"
+    line = judged("--count", "--blocks", "--within", within, "--keep", "kept", program)
+    assert re.search(f"^{HELD}{OF_FIRST}a thread begins inside a trampoline; {ENDED}$", line), line
+    assert re.search(f"(?m)^tramp [0-9a-f]+ {int(here, 16) + 2:08x} plain$", read_text("kept/report"))
 
 
-def test_a_run_of_a_patch_for_one_thread_is_not_judged():
-    """By the premises of threads, where e9tool writes such a patch."""
-    status, lines, told = replay("--threads", "--count", build("NONE", SOURCE)[0], tool=mistaken(1))
-    assert status == 2 and not lines and "asked for a patch for threads, and wrote the report of one for" in told, told
+def test_the_theorem_speaks_of_a_whole_run_in_which_no_thread_begins():
+    assert re.search(f"^{HOLD}{ENDED}$", judged("--count", build("ALONE", SOURCE)[0]))
+
+
+def test_the_theorem_speaks_of_a_run_up_to_the_first_answer_that_may_be_another():
+    program, _ = build("OUTPUTS_ALONE", SOURCE)
+    what = f"; the theorem speaks of the first {NUMBER}, before that step; "
+    told = f" by system call 1 and {STALE_READ}"
+    found = match(DOUBTED.format(here="[0-9a-f]{8}", what=told) + what, judged("--count", program, status=1))
+    assert int(found[7]) + 1 == int(found[1]), found

@@ -7,7 +7,7 @@ from collections.abc import Iterator
 
 import pytest
 
-from tests.calls import of_slots, patch, path_of, record, run
+from tests.calls import HELD_BY_FILTERS, of_slots, patch, path_of, record, run, suspends_filters
 from tests.needs import left_out
 from tests.programs import Programs, inside
 from vaknuhol.recording.patch_report import Report
@@ -39,12 +39,16 @@ class Planted:
         assert self.report.patched.keys() == self.names.keys(), self.report.text
         (self.begin,) = (place for place, start, _ in self.report.trampolines() if start == self.addresses["come"])
 
-    def run(self, *how: str, offset: int, position: int = 0, meanwhile: str = "", status: int = WELL) -> str:
-        """What the patched program prints, on both outputs; its record stands in the folder."""
+    def run(
+        self, *how: str, offset: int, position: int = 0, meanwhile: str = "", status: int = WELL, first: str = ""
+    ) -> str:
+        """What the patched program prints, on both outputs; its record stands in the folder. What is done first is
+        Python."""
         data, _ = self.report.record_place()
         words = [f"{self.begin:x}", str(offset), f"{data:x}", str(self.slots), str(position), meanwhile]
         with inside(self.folder):
-            return record("planted", "threads-ring", *how, *words, status=(status,), code=self.code)
+            code = f"{self.code}\n{first}"
+            return record("planted", "threads-ring", *how, *words, status=(status,), code=code)
 
     def changes(self, told: str, stops: list[tuple[int, int]]) -> list[list[int]]:
         """Which words of the ring had changed at each stop. The handler found that the thread stood at `come`, with the
@@ -117,16 +121,39 @@ def test_a_fault_at_each_instruction_of_the_event_takes_it_back(offset, ring, po
     assert planted.rows() == of_halted()[-planted.slots:]
 
 
-@pytest.mark.parametrize("offset", POINTS)
-def test_where_the_memory_is_not_shared_the_slot_stays_empty(planted, offset):
-    """As of a process with a filter on system calls, which the runner hasn't: other threads might claim meanwhile."""
-    words = [f"{planted.folder}/planted", "filtered", "halted", f"{planted.addresses['come']:x}", "0"]
+def need_way(planted: Planted, way: str) -> None:
+    """That the program may begin again in this way."""
+    words = [f"{planted.folder}/planted", way, "halted", f"{planted.addresses['come']:x}", "0"]
     if subprocess.run(words, capture_output=True, check=False).returncode != WELL:
-        left_out("no filter on system calls is allowed")
-    hole = [""] * (offset >= CLAIMED)
-    changes = planted.changes(planted.run("filtered", "halted", offset=offset), STOPS)
-    assert changes == [[0, *[slot] * held] * len(hole) for slot, held in slots_of_halted(planted, 0, *hole)]
+        left_out(f"no process may be {way} here")
+
+
+def check_hole(planted: Planted, told: str, *hole: str) -> None:
+    """That after a run that is halted the slots of the events that are taken back are empty, in memory of its own."""
+    slots = slots_of_halted(planted, 0, *hole)
+    assert planted.changes(told, STOPS) == [[0, *[slot] * held] * len(hole) for slot, held in slots]
     assert planted.rows() == [event for event in of_halted(*hole)[-SHORT:] if event]
+
+
+@pytest.mark.parametrize("way", ["filtered", "apart"])
+@pytest.mark.parametrize("offset", POINTS)
+def test_where_the_memory_is_not_shared_the_slot_stays_empty(planted, offset, way):
+    """As of a process with a filter on system calls that the runner hasn't and may not suspend, and of one with
+    another namespace of segments: other threads might claim meanwhile."""
+    need_way(planted, way)
+    told = planted.run(way, "halted", offset=offset, first=HELD_BY_FILTERS * (way == "filtered"))
+    check_hole(planted, told, *[""] * (offset >= CLAIMED))
+
+
+@pytest.mark.parametrize("offset", POINTS)
+def test_a_runner_that_may_suspend_filters_shares_the_memory_of_a_process_that_has_one(planted, offset):
+    """So the event is taken back as of another process."""
+    need_way(planted, "filtered")
+    if not suspends_filters():
+        left_out("no filter may be suspended")
+    changes = planted.changes(planted.run("filtered", "halted", offset=offset), STOPS)
+    assert changes == [[slot] * (held and offset >= FILLED) for slot, held in slots_of_halted(planted, 0)]
+    assert planted.rows() == of_halted()[-SHORT:]
 
 
 @pytest.mark.parametrize("meanwhile", ["", "t", "otto"])

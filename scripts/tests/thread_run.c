@@ -1,8 +1,15 @@
 /* A program without a C library whose threads count under a lock, which scripts/tests/test_thread_runs.py lets the judge step. With a macro
    its last thread does, at the label `here`, what breaks a premise. */
 #include <stdint.h>
-#ifdef FOUR
+#ifdef OUTPUTS_ALONE
+#define ALONE
+#define OUTPUTS
+#endif
+
+#if defined FOUR
 #define THREADS 4
+#elif defined ALONE
+#define THREADS 0
 #else
 #define THREADS 2
 #endif
@@ -50,8 +57,73 @@ __attribute__((naked)) static void come_back(void) {
 }
 #endif
 
+/* Behind a jump that is patched, and to which another leads, the eight bytes below the red zone are stale, and hold letters; the program writes five of
+   them, as of a structure with padding. */
+#define STRUCTURE "movabs $0x7575757575757575, %%rax;" SITE SITE "movl $1, -136(%%rsp); movb $1, -132(%%rsp);"
+
+#if defined ASKS || defined ASKS_APART
+#ifdef ASKS
+#define PAST 1
+#else
+#define PAST 0
+#endif
+#define STALE 0x5a0000000000
+#define UP_TO(size) (STALE + PAST - (size))
+#define TEXT (STALE - 4)
+
+/* Calls that fail or change nothing, with arguments relative to eight stale bytes: each but the last three reads up to the first of them, or
+   up to the one before. */
+static long none[8], vector[2], message[7], strings[2], calls[][7] = {
+    { 1, -1, UP_TO(9), 9 }, { 18, -1, UP_TO(5), 5 }, { 20, -1, (long)vector, 1 }, { 19, -1, UP_TO(16), 1 },
+    { 46, -1, (long)message, 0 }, { 46, -1, UP_TO(48), 0 }, { 47, -1, UP_TO(48), 0 }, { 44, -1, 0, 0, 0, UP_TO(16), 16 },
+    { 257, -1, TEXT, 0 }, { 157, 15, TEXT }, { 59, (long)none, (long)strings, 0 }, { 59, (long)none, 0, UP_TO(8) },
+    { 35, UP_TO(16), 0 }, { 202, UP_TO(4), 0, -1 }, { 202, (long)none, 0, 1, UP_TO(16) }, { 202, (long)none, 5, 0, 0, UP_TO(4) },
+    { 43, -1, 0, UP_TO(4) }, { 51, -1, 0, UP_TO(4) }, { 55, -1, 1, 1, (long)none, UP_TO(4) }, { 54, -1, 1, 1, UP_TO(4), 4 },
+    { 14, 0, UP_TO(8), 0, 8 }, { 13, 10, UP_TO(32), 0, 8 }, { 7, UP_TO(6), 1, 0 }, { 233, -1, 1, 0, UP_TO(12) },
+    { 203, -1, 8, UP_TO(8) }, { 302, -1, 3, UP_TO(16), 0 }, { 131, UP_TO(24), 0 }, { 435, UP_TO(8), 8 },
+    { 16, -1, 0x5421, UP_TO(4) }, { 16, -1, 0x5402, UP_TO(36) }, { 72, -1, 6, UP_TO(24) }, { 23, 1, UP_TO(8), 0, 0, (long)none },
+    { 25, UP_TO(9), 9, 0, 0 }, { 222, 99, UP_TO(20), (long)none }, { 202, STALE, 1, 0 }, { 0, -1, STALE, 8 }, { 72, -1, 3, STALE },
+};
+
+static void ask(void) {
+    long stale;
+    __asm__ volatile("lea -136(%%rsp), %0" : "=r"(stale));
+    vector[0] = stale + PAST - 7, vector[1] = 7, message[2] = (long)vector, message[3] = 1, strings[0] = stale - 4;
+    for (unsigned at = 0; at < sizeof calls / sizeof *calls; at++) {
+        long *it = calls[at];
+        int has_text = it[2] == TEXT || it[2] == (long)strings;
+        for (int word = 1; word < 7; word++)
+            it[word] += it[word] >> 32 == STALE >> 32 || it[word] >> 32 == (STALE >> 32) - 1 ? stale - STALE : 0;
+        for (int byte = 1; byte <= 64; byte++)
+            *(volatile char *)(stale - byte) = has_text && (byte == 1 ? PAST : byte <= 4) ? 'a' : 0;
+        register long r10 __asm__("r10") = it[4], r8 __asm__("r8") = it[5], r9 __asm__("r9") = it[6];
+        long number = it[0];
+        __asm__ volatile(SITE "here: syscall" : "+a"(number) : "D"(it[1]), "S"(it[2]), "d"(it[3]), "r"(r10), "r"(r8), "r"(r9) : "rcx", "r11", "memory");
+    }
+}
+#endif
+
 static void breaks(void) {
-#if defined ENTERS
+#if defined ASKS || defined ASKS_APART
+    ask();
+#elif defined OUTPUTS
+    __asm__ volatile(STRUCTURE "lea -136(%%rsp), %%rsi; mov $1, %%eax; mov $1, %%edi; mov $8, %%edx; here: syscall"
+                     : : : "rax", "rcx", "rdx", "rsi", "rdi", "r11", "memory");
+#elif defined COMPARES
+    static const uint64_t known = 0x100000001;
+    int alike;
+    __asm__ volatile(STRUCTURE "here: movq -136(%%rsp), %%xmm0; movq %1, %%xmm1; pcmpeqb %%xmm1, %%xmm0; pmovmskb %%xmm0, %0"
+                     : "=a"(alike) : "m"(known) : "xmm0", "xmm1", "memory");
+    total += (alike & 255) != 255;
+#elif defined COPIES
+    __asm__ volatile(SITE "lea -130(%%rsp), %%rsi; mov %0, %%rdi; mov $1, %%ecx; here: rep movsb" : : "r"(&handled) : "rcx", "rsi", "rdi", "memory");
+#elif defined ASKS_LISTED
+    __asm__ volatile("here: movq enter(%%rip), %%xmm0" : : : "xmm0");
+#elif defined ASKS_NEW
+    call(1, -1, 0x20040, 1, 0);
+#elif defined UNKNOWN_CALL
+    call(157, 16, (long)place, 0, 0);
+#elif defined ENTERS
     __asm__ volatile("lea 1f+1(%%rip), %%rax; here: jmp *%%rax; 1: mov $0x90909090, %%eax" : : : "rax");
 #elif defined BELOW
     __asm__ volatile(SITE "here: mov -136(%%rsp), %%rax;" UNPATCHED : : : "rax");
@@ -82,6 +154,14 @@ static void breaks(void) {
     __asm__ volatile("mov %%rsp, %%rbx; mov $0x20100, %%esp; here: " SITE "mov %%rbx, %%rsp" : : : "rbx");
 #elif defined ENDING
     __asm__ volatile("jmp 2f; 1: ret; 2: call 3f; jmp 4f; 3: here: .byte 0xf2; jmp 1b; 4:");
+#elif defined VFORKS || defined SPAWNS
+#ifdef VFORKS
+    long child = 58;
+#else
+    long child = 56;
+#endif
+    __asm__ volatile("here: syscall; test %%eax, %%eax; jnz 1f; mov $60, %%eax; syscall; 1:"
+                     : "+a"(child) : "D"(0x4111l), "S"(0l), "d"(0l) : "rcx", "r11", "memory");
 #elif defined DIES
     __asm__ volatile("here: mov 16, %%eax" : : : "rax");
 #elif defined SIGNALS
@@ -118,17 +198,32 @@ __attribute__((noreturn, used)) static void enter(long number) {
         ;
 }
 
+/* The call that begins a thread. With BEGINS_INSIDE a jump in place of the two bytes before it has room in the call alone, which is displaced,
+   too: where both calls' bytes lead stands memory of the program. */
+#ifdef BEGINS_INSIDE
+static volatile char much[1 << 20];
+#define BEGIN "jmp here; here: mov %%eax, %%eax; syscall; .byte 0x00, 0xd2; xor %%edx, %%edx;"
+#else
+#define BEGIN "syscall;"
+#endif
+
 /* A thread with a stack of its own; the kernel clears `running` as it ends. */
-static void begin(long number) {
+__attribute__((noinline)) static void begin(long number) {
     uint64_t *top = stacks[number] + 1023;
     register long r10 __asm__("r10") = (long)&running[number], r8 __asm__("r8") = 0;
     long answer = 56;
+#ifdef BEGINS_INSIDE
+    much[number] = 1;
+#endif
     *--top = number, running[number] = 1;
-    __asm__ volatile("syscall; test %%eax, %%eax; jnz 1f; pop %%rdi; call enter; 1:"
+    __asm__ volatile(BEGIN "test %%eax, %%eax; jnz 1f; pop %%rdi; call enter; 1:"
                      : "+a"(answer) : "D"(0x250f00l), "S"(top), "d"(0l), "r"(r10), "r"(r8) : "rcx", "r11", "memory");
 }
 
 __attribute__((force_align_arg_pointer, noreturn)) void _start(void) {
+#ifdef ALONE
+    breaks();
+#endif
     for (int number = 0; number < THREADS; number++)
         begin(number);
     for (int number = 0; number < THREADS; number++)

@@ -91,6 +91,11 @@ class Words(argparse.ArgumentParser):
         like = nearest(word.partition("=")[0], self.options)
         return f"{word} is no option ({like}--help lists them); a file of such a name is written ./{word}"
 
+    def exit(self, status: int = 0, message: str | None = None) -> NoReturn:
+        """Behind --help and --version; a text that can't be written is refused."""
+        sys.stdout.flush()
+        super().exit(status, message)
+
     def error(self, message: str) -> NoReturn:
         raise Refusal(message)
 
@@ -152,6 +157,11 @@ def regular_expression(text: str) -> re.Pattern[str]:
         raise argparse.ArgumentTypeError(f"{text} is no regular expression: {error}") from None
 
 
+def drop_output() -> None:
+    """What is left of a text that can't be written goes nowhere: else Python would try it again as it ends."""
+    os.dup2(os.open(os.devnull, os.O_WRONLY), sys.stdout.fileno())
+
+
 def run_command(main: Callable[[], int | None], refused: int = 2) -> NoReturn:
     """Runs a script to its end; a refusal, an interrupt or a closed output ends it without a traceback."""
     signal.signal(signal.SIGTERM, lambda number, frame: sys.exit(128 + number))
@@ -166,10 +176,14 @@ def run_command(main: Callable[[], int | None], refused: int = 2) -> NoReturn:
     except KeyboardInterrupt:
         status = 128 + signal.SIGINT
     except BrokenPipeError:
-        os.dup2(os.open(os.devnull, os.O_WRONLY), sys.stdout.fileno())
+        drop_output()
         status = 128 + signal.SIGPIPE
     except OSError as error:
         progress("")
         refuse(f"{lasting(os.fsdecode(error.filename or 'a file'))}: {error.strerror}")
         status = refused
+        try:
+            sys.stdout.flush()
+        except OSError:
+            drop_output()
     sys.exit(status)

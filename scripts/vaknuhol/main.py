@@ -24,7 +24,7 @@ STATUSES = """exit status:
   cover, count, ring   the program's own, or 128 and the number of the signal that ended it; 125 if it is refused
   diff                 0 if the same blocks were executed, else 1; 2 if something is refused
   check                0 if each kept patched file is sound, else 1; 2 if something is refused
-  fit                  0 if there is no obstacle to patching, else 1; 2 if something is refused
+  fit                  0 if no obstacle to patching is seen, else 1; 2 if something is refused
   gen                  that of `e9tool gen`
   the others           0 if all is done, 2 if something is refused
 

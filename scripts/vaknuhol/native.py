@@ -2,6 +2,7 @@
 is compiled when it is first used, and again where its sources are newer."""
 import fcntl
 import os
+import shlex
 import shutil
 import subprocess
 from typing import NamedTuple
@@ -9,25 +10,26 @@ from typing import NamedTuple
 from vaknuhol.arguments import Refusal
 
 TOP = os.path.dirname(os.path.dirname(os.path.dirname(os.path.realpath(__file__))))
+GIVEN = ("CPPFLAGS", "CFLAGS", "LDFLAGS")  # more flags, as the package has them of dpkg-buildflags
 FLAGS = ("-std=gnu11", "-O2", "-Wall", "-Wextra", "-Werror")
 
 
 class Needs(NamedTuple):
     """What a program needs besides its own sources: arguments of the linker, the Debian package that has the headers,
-    and sources of another program."""
+    and sources of native/lib."""
     linked: tuple[str, ...]
     package: str
-    shared: tuple[str, ...] = ()
+    shared: tuple[str, ...]
 
 
+TRACING = ("asking", "classes", "file", "front", "process", "refusing", "tracee")
 NEEDS = {
-    "vaknuhol-list": Needs(("-lZydis",), "libzydis-dev"),
-    "vaknuhol-step": Needs(("-lZydis",), "libzydis-dev"),
-    "vaknuhol-record": Needs(("-lZydis",), "libzydis-dev", ("vaknuhol-list/classes", "vaknuhol-list/front")),
-    "vaknuhol-judge": Needs(("-lZydis",), "libzydis-dev", ("vaknuhol-list/classes", "vaknuhol-list/front",
-                                                          "vaknuhol-list/spelling", "vaknuhol-record/asking")),
-    "vaknuhol-lines": Needs(("-ldw", "-lelf"), "libdw-dev"),
-    "vaknuhol-run": Needs(("-static",), "libc6-dev"),
+    "vaknuhol-list": Needs(("-lZydis",), "libzydis-dev", ("classes", "file", "front", "refusing", "spelling")),
+    "vaknuhol-step": Needs(("-lZydis",), "libzydis-dev", ("file", "process", "refusing")),
+    "vaknuhol-record": Needs(("-lZydis",), "libzydis-dev", TRACING),
+    "vaknuhol-judge": Needs(("-lZydis",), "libzydis-dev", (*TRACING, "spelling")),
+    "vaknuhol-lines": Needs(("-ldw", "-lelf"), "libdw-dev", ("refusing",)),
+    "vaknuhol-run": Needs(("-static",), "libc6-dev", ("process",)),
 }
 
 
@@ -59,7 +61,7 @@ def built(name: str, folder: str) -> str:
     cache = cache_folder()
     os.makedirs(cache, exist_ok=True)
     path = os.path.join(cache, name)
-    shared = [os.path.join(os.path.dirname(folder), source + ending) for source in NEEDS[name].shared
+    shared = [os.path.join(os.path.dirname(folder), "lib", source + ending) for source in NEEDS[name].shared
               for ending in (".c", ".h")]
     sources = [*(os.path.join(folder, file) for file in sorted(os.listdir(folder))), *shared]
     with open(f"{path}.lock", "w", encoding="utf-8") as lock:
@@ -82,7 +84,8 @@ def compile_program(name: str, sources: list[str], path: str) -> None:
         raise Refusal(f"{name} is compiled when it is first used: install gcc")
     files = [source for source in sources if source.endswith(".c")]
     folders = [f"-I{folder}" for folder in sorted({os.path.dirname(source) for source in sources})]
-    done = subprocess.run([compiler, *FLAGS, *folders, "-o", f"{path}.part", *files, *NEEDS[name].linked],
+    given = [word for flags in GIVEN for word in shlex.split(os.environ.get(flags, ""))]
+    done = subprocess.run([compiler, *FLAGS, *given, *folders, "-o", f"{path}.part", *files, *NEEDS[name].linked],
                           capture_output=True, text=True, check=False)
     if done.returncode:
         first = next((line for line in done.stderr.splitlines() if "error" in line), "the compiler fails")

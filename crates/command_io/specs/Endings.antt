@@ -18,6 +18,8 @@ refusal_of (refusal.Meets error) = refusals.Meets error
 refusal_of (refusal.Rewrite error) = refusals.Rewrite error
 refusal_of (refusal.Undo error) = refusals.Undo error
 refusal_of (refusal.Load error) = refusals.Load error
+refusal_of (refusal.Settle error) = refusals.Settle error
+refusal_of (refusal.Unsettle error) = refusals.Unsettle error
 
 -- What is told came out; or memory ran out before, and nothing was printed.
 abbrev pub Delivers : Option Message → SinkState → SinkState → ℕ → Type 0

@@ -30,6 +30,10 @@ use Rattle.loader_form.specs.declared.error.LoadError.{LoadError}
 use Rattle.loader_form.specs.declared.error.LoadError.TheVariants as load
 use Rattle.rewrite_loader.specs.declared.error.LoaderError.{LoaderError}
 use Rattle.rewrite_loader.specs.declared.error.LoaderError.TheVariants as loader
+use Rattle.settle.specs.declared.error.SettleError.{SettleError}
+use Rattle.settle.specs.declared.error.SettleError.TheVariants as settle
+use Rattle.settle.specs.declared.error.UnsettleError.{UnsettleError}
+use Rattle.settle.specs.declared.error.UnsettleError.TheVariants as unsettle
 use Rattle.command_io.specs.declared.ends.Input.{Input}
 use Rattle.command_io.specs.declared.ends.Told.{Told}
 use Rattle.command_io.specs.declared.ends.Failure.{Failure}
@@ -216,3 +220,13 @@ load_failed error = Refused (refusals.Load error)
 abbrev pub loader_failed : List ℕ → LoaderError → Failed
 loader_failed out (loader.Rewrite error) = rewrite_failed out error
 loader_failed out (loader.Load error) = load_failed error
+
+-- What a settling's error is told as.
+abbrev pub settle_failed : SettleError → Failed
+settle_failed settle.Memory = NoMemory
+settle_failed error = Refused (refusals.Settle error)
+
+-- What an unsettling's error is told as.
+abbrev pub unsettle_failed : UnsettleError → Failed
+unsettle_failed unsettle.Memory = NoMemory
+unsettle_failed error = Refused (refusals.Unsettle error)

@@ -33,6 +33,10 @@ use Rattle.rewrite_core.specs.declared.rewrite.RewriteError.{RewriteError}
 use Rattle.rewrite_core.specs.declared.rewrite.RewriteError.TheVariants as rewrite
 use Rattle.unpatch.specs.declared.error.UnpatchError.{UnpatchError}
 use Rattle.unpatch.specs.declared.error.UnpatchError.TheVariants as undo
+use Rattle.settle.specs.declared.error.SettleError.{SettleError}
+use Rattle.settle.specs.declared.error.SettleError.TheVariants as settle
+use Rattle.settle.specs.declared.error.UnsettleError.{UnsettleError}
+use Rattle.settle.specs.declared.error.UnsettleError.TheVariants as unsettle
 use Rattle.command_io.specs.declared.ends.Input.{Input}
 use Rattle.command_io.specs.declared.ends.Input.TheVariants as input
 
@@ -58,6 +62,10 @@ pub data Refusal : Type 0 where
   Undo : (error : UnpatchError) → Refusal
   -- the stub of the loader form can't be laid
   Load : (error : LoadError) → Refusal
+  -- the program can't be settled
+  Settle : (error : SettleError) → Refusal
+  -- the file isn't a settled one
+  Unsettle : (error : UnsettleError) → Refusal
 
 -- The number of a refusal by the turns: a site that is no start, then no room for the private range.
 abbrev pub turn_number : TurnError → Option ℕ
@@ -80,6 +88,23 @@ undo_number undo.OriginOutside = Some 2
 undo_number (undo.BytesDiffer addr) = Some 3
 undo_number undo.Memory = None
 
+-- The number of a settling's refusal: that of a rule that any file keeps, or settling's own, of which the header's and the entries' come first.
+abbrev pub settle_number : SettleError → Option ℕ
+settle_number (settle.File error) = files.number_of error
+settle_number settle.NotDyn = Some 1
+settle_number (settle.TooManyEntries count) = Some 2
+settle_number (settle.SegmentOutside i) = Some 3
+settle_number (settle.BaseUnaligned align) = Some 4
+settle_number (settle.Settled error) = files.number_of error
+settle_number settle.TableNotLoaded = Some 5
+settle_number settle.EntryOutside = Some 6
+settle_number settle.Memory = None
+
+-- There is one reason why a program doesn't come back.
+abbrev pub unsettle_number : UnsettleError → Option ℕ
+unsettle_number unsettle.NotSettled = Some 1
+unsettle_number unsettle.Memory = None
+
 -- Each refusal has a number. Want of memory is none, and so has no number.
 abbrev pub number_of : Refusal → Option ℕ
 number_of (TooLong which) = Some 20
@@ -92,6 +117,8 @@ number_of (Meets error) = runners.number_of error
 number_of (Rewrite error) = rewrite_number error
 number_of (Undo error) = undo_number error
 number_of (Load error) = loads.number_of error
+number_of (Settle error) = settle_number error
+number_of (Unsettle error) = unsettle_number error
 
 -- The word of an input, as the usage line has it.
 abbrev pub input_word : Input → List ℕ
@@ -110,6 +137,13 @@ rewrite_word (rewrite.Turn error) = codes "PLAN"
 rewrite_word (rewrite.Emit error) = codes "EMIT"
 rewrite_word rewrite.Memory = []
 
+-- The word of what settling refuses: FILE, or the file as it would be settled.
+abbrev pub settle_word : SettleError → List ℕ
+settle_word (settle.File error) = codes "FILE"
+settle_word (settle.Settled error) = codes "SETTLED"
+settle_word settle.Memory = []
+settle_word other = codes "SETTLE"
+
 -- What is refused, in one word.
 abbrev pub word_of : Refusal → List ℕ
 word_of (TooLong which) = input_word which
@@ -122,6 +156,8 @@ word_of (Meets error) = codes "WORLD"
 word_of (Rewrite error) = rewrite_word error
 word_of (Undo error) = codes "UNPATCH"
 word_of (Load error) = codes "LOADER"
+word_of (Settle error) = settle_word error
+word_of (Unsettle error) = codes "UNSETTLE"
 
 -- The name of a list's error, by which it is printed.
 abbrev pub list_name : ListError → List ℕ
@@ -203,6 +239,23 @@ undo_name undo.OriginOutside = codes "OriginOutside"
 undo_name (undo.BytesDiffer addr) = codes "BytesDiffer"
 undo_name undo.Memory = []
 
+-- The name of a settling's error.
+abbrev pub settle_name : SettleError → List ℕ
+settle_name (settle.File error) = elf_name error
+settle_name settle.NotDyn = codes "NotDyn"
+settle_name (settle.TooManyEntries count) = codes "TooManyEntries"
+settle_name (settle.SegmentOutside i) = codes "SegmentOutside"
+settle_name (settle.BaseUnaligned align) = codes "BaseUnaligned"
+settle_name (settle.Settled error) = elf_name error
+settle_name settle.TableNotLoaded = codes "TableNotLoaded"
+settle_name settle.EntryOutside = codes "EntryOutside"
+settle_name settle.Memory = []
+
+-- The name of why a program doesn't come back.
+abbrev pub unsettle_name : UnsettleError → List ℕ
+unsettle_name unsettle.NotSettled = codes "NotSettled"
+unsettle_name unsettle.Memory = []
+
 -- The name of a refusal, by which it is printed.
 abbrev pub name_of : Refusal → List ℕ
 name_of (TooLong which) = codes "TooLong"
@@ -215,6 +268,8 @@ name_of (Meets error) = runner_name error
 name_of (Rewrite error) = rewrite_name error
 name_of (Undo error) = undo_name error
 name_of (Load error) = load_name error
+name_of (Settle error) = settle_name error
+name_of (Unsettle error) = unsettle_name error
 
 -- The line, or the most lines that a list may have.
 abbrev pub list_details : ListError → List ℕ
@@ -282,6 +337,18 @@ undo_details undo.NoOrigin = []
 undo_details undo.OriginOutside = []
 undo_details undo.Memory = []
 
+-- The index of an entry, the number of entries, or an alignment.
+abbrev pub settle_details : SettleError → List ℕ
+settle_details (settle.File error) = entry_details (files.told_entry error)
+settle_details settle.NotDyn = []
+settle_details (settle.TooManyEntries count) = codes " " ++ decimal count
+settle_details (settle.SegmentOutside i) = codes " " ++ decimal i
+settle_details (settle.BaseUnaligned align) = codes " " ++ hex16 align
+settle_details (settle.Settled error) = entry_details (files.told_entry error)
+settle_details settle.TableNotLoaded = []
+settle_details settle.EntryOutside = []
+settle_details settle.Memory = []
+
 -- The limit of a file's bytes, or what the error tells, each behind a blank.
 abbrev pub details_of : Refusal → List ℕ
 details_of (TooLong which) = codes " 268435456"
@@ -294,6 +361,8 @@ details_of (Meets error) = runner_details error
 details_of (Rewrite error) = rewrite_details error
 details_of (Undo error) = undo_details error
 details_of (Load error) = load_details error
+details_of (Settle error) = settle_details error
+details_of (Unsettle error) = []
 
 -- A number in decimal digits, where there is one.
 abbrev pub number_text : Option ℕ → List ℕ

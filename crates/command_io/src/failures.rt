@@ -1,6 +1,6 @@
 //! How what a lower call refuses ends a command.
 ghost use Rattle.std.specs.Prelude.{◌≡◌};
-ghost use Rattle.command_io.specs.Failing.{failed_of, list_failed, script_failed, report_failed, file_failed, start_failed, runner_failed, rewrite_failed, undo_failed, load_failed, loader_failed};
+ghost use Rattle.command_io.specs.Failing.{failed_of, list_failed, script_failed, report_failed, file_failed, start_failed, runner_failed, rewrite_failed, undo_failed, load_failed, loader_failed, settle_failed, unsettle_failed};
 
 use crate::ends::{Failure, Input};
 use crate::refusal::Refusal;
@@ -13,6 +13,7 @@ use loader_form::error::LoadError;
 use patch_report::error::ReportError;
 use rewrite_core::rewrite::RewriteError;
 use rewrite_loader::error::LoaderError;
+use settle::error::{SettleError, UnsettleError};
 use start_entries::refusal::StartError;
 use unpatch::error::UnpatchError;
 
@@ -114,5 +115,25 @@ pub fn loader_failure<'a>(error: LoaderError, out: &'a str) -> Failure<'a>
     match error {
         LoaderError::Rewrite(error) => rewrite_failure(error, out),
         LoaderError::Load(error) => load_failure(error),
+    }
+}
+
+/// A program that can't be settled.
+pub fn settle_failure<'a>(error: SettleError) -> Failure<'a>
+    ensures { failed_of result ≡ settle_failed error }
+{
+    match error {
+        SettleError::Memory => Failure::Memory,
+        error => Failure::Refused(Refusal::Settle(error)),
+    }
+}
+
+/// A file that isn't a settled one.
+pub fn unsettle_failure<'a>(error: UnsettleError) -> Failure<'a>
+    ensures { failed_of result ≡ unsettle_failed error }
+{
+    match error {
+        UnsettleError::Memory => Failure::Memory,
+        error => Failure::Refused(Refusal::Unsettle(error)),
     }
 }

@@ -1,6 +1,6 @@
 //! What is refused, with its number and its text.
 ghost use Rattle.std.specs.Prelude.{◌≡◌, IfOk, string_bytes};
-ghost use Rattle.command_io.specs.Refusals.{number_of, rewrite_number, turn_number, undo_number, input_word, word_of, rewrite_word, name_of, list_name, elf_name, start_name, turn_name, emit_name, script_name, report_name, runner_name, rewrite_name, undo_name, details_of, list_details, entry_details, start_details, turn_details, emit_details, script_details, report_details, runner_details, rewrite_details, undo_details, refusal_text, TellsNumber, load_name, load_details};
+ghost use Rattle.command_io.specs.Refusals.{number_of, rewrite_number, turn_number, undo_number, input_word, word_of, rewrite_word, name_of, list_name, elf_name, start_name, turn_name, emit_name, script_name, report_name, runner_name, rewrite_name, undo_name, details_of, list_details, entry_details, start_details, turn_details, emit_details, script_details, report_details, runner_details, rewrite_details, undo_details, refusal_text, TellsNumber, load_name, load_details, settle_number, settle_word, settle_name, settle_details, unsettle_number, unsettle_name};
 ghost use Rattle.command_io.specs.Endings.{refusal_of};
 
 use crate::ends::Input;
@@ -12,6 +12,7 @@ use list_text::refusal::ListError;
 use loader_form::error::LoadError;
 use patch_report::error::ReportError;
 use rewrite_core::rewrite::RewriteError;
+use settle::error::{SettleError, UnsettleError};
 use site_turns::error::TurnError;
 use start_entries::refusal::StartError;
 use std::alloc::{AllocError, Global};
@@ -40,6 +41,10 @@ pub enum Refusal {
     Undo(UnpatchError),
     /// The stub of the loader form can't be laid.
     Load(LoadError),
+    /// The program can't be settled.
+    Settle(SettleError),
+    /// The file isn't a settled one.
+    Unsettle(UnsettleError),
 }
 
 impl Refusal {
@@ -58,6 +63,8 @@ impl Refusal {
             Refusal::Rewrite(error) => rewrite_number(error),
             Refusal::Undo(error) => undo_number(error),
             Refusal::Load(error) => error.number(),
+            Refusal::Settle(error) => settle_number(error),
+            Refusal::Unsettle(error) => unsettle_number(error),
         }
     }
 
@@ -91,6 +98,8 @@ impl Refusal {
             Refusal::Rewrite(error) => rewrite_word(error),
             Refusal::Undo(_) => "UNPATCH",
             Refusal::Load(_) => "LOADER",
+            Refusal::Settle(error) => settle_word(error),
+            Refusal::Unsettle(_) => "UNSETTLE",
         }
     }
 
@@ -108,6 +117,8 @@ impl Refusal {
             Refusal::Rewrite(error) => rewrite_name(error),
             Refusal::Undo(error) => undo_name(error),
             Refusal::Load(error) => load_name(error),
+            Refusal::Settle(error) => settle_name(error),
+            Refusal::Unsettle(error) => unsettle_name(error),
         }
     }
 
@@ -126,6 +137,8 @@ impl Refusal {
             Refusal::Rewrite(error) => rewrite_details(alloc, error),
             Refusal::Undo(error) => undo_details(alloc, error),
             Refusal::Load(error) => load_details(alloc, error),
+            Refusal::Settle(error) => settle_details(alloc, error),
+            Refusal::Unsettle(_) => Ok(String::new(alloc)),
         }
     }
 }
@@ -163,6 +176,30 @@ fn undo_number(error: &UnpatchError) -> Option<u32>
     }
 }
 
+fn settle_number(error: &SettleError) -> Option<u32>
+    ensures { result ≡ settle_number error.now }
+{
+    match error {
+        SettleError::File(error) | SettleError::Settled(error) => error.number(),
+        SettleError::NotDyn => Some(1),
+        SettleError::TooManyEntries { .. } => Some(2),
+        SettleError::SegmentOutside { .. } => Some(3),
+        SettleError::BaseUnaligned { .. } => Some(4),
+        SettleError::TableNotLoaded => Some(5),
+        SettleError::EntryOutside => Some(6),
+        SettleError::Memory => None,
+    }
+}
+
+fn unsettle_number(error: &UnsettleError) -> Option<u32>
+    ensures { result ≡ unsettle_number error.now }
+{
+    match error {
+        UnsettleError::NotSettled => Some(1),
+        UnsettleError::Memory => None,
+    }
+}
+
 /// The name of an input as the command's form has it.
 fn input_word(which: Input) -> &'static str
     ensures { result.now ≡ input_word which }
@@ -186,6 +223,17 @@ fn rewrite_word(error: &RewriteError) -> &'static str
         RewriteError::Turn(_) => "PLAN",
         RewriteError::Emit(_) => "EMIT",
         RewriteError::Memory => "",
+    }
+}
+
+fn settle_word(error: &SettleError) -> &'static str
+    ensures { result.now ≡ settle_word error.now }
+{
+    match error {
+        SettleError::File(_) => "FILE",
+        SettleError::Settled(_) => "SETTLED",
+        SettleError::Memory => "",
+        _ => "SETTLE",
     }
 }
 
@@ -309,6 +357,30 @@ fn undo_name(error: &UnpatchError) -> &'static str
         UnpatchError::OriginOutside => "OriginOutside",
         UnpatchError::BytesDiffer { .. } => "BytesDiffer",
         UnpatchError::Memory => "",
+    }
+}
+
+fn settle_name(error: &SettleError) -> &'static str
+    ensures { result.now ≡ settle_name error.now }
+{
+    match error {
+        SettleError::File(error) | SettleError::Settled(error) => elf_name(error),
+        SettleError::NotDyn => "NotDyn",
+        SettleError::TooManyEntries { .. } => "TooManyEntries",
+        SettleError::SegmentOutside { .. } => "SegmentOutside",
+        SettleError::BaseUnaligned { .. } => "BaseUnaligned",
+        SettleError::TableNotLoaded => "TableNotLoaded",
+        SettleError::EntryOutside => "EntryOutside",
+        SettleError::Memory => "",
+    }
+}
+
+fn unsettle_name(error: &UnsettleError) -> &'static str
+    ensures { result.now ≡ unsettle_name error.now }
+{
+    match error {
+        UnsettleError::NotSettled => "NotSettled",
+        UnsettleError::Memory => "",
     }
 }
 
@@ -444,5 +516,28 @@ fn undo_details(alloc: Global, error: &UnpatchError) -> Result<String, AllocErro
         UnpatchError::NoOrigin | UnpatchError::OriginOutside | UnpatchError::Memory => Ok(
             String::new(alloc),
         ),
+    }
+}
+
+/// The index of an entry, the number of entries, or an alignment.
+#[tactic(auto, unfolding(image_step::specs::Spelling::hex16))]
+fn settle_details(alloc: Global, error: &SettleError) -> Result<String, AllocError>
+    ensures { IfOk result (λ text. string_bytes text ≡ settle_details error.now) }
+{
+    match error {
+        SettleError::File(error) | SettleError::Settled(error) => entry_details(
+            alloc,
+            error.entry(),
+        ),
+        SettleError::TooManyEntries { count } => format!(in alloc; " {count}"),
+        SettleError::SegmentOutside { entry } => format!(in alloc; " {entry}"),
+        SettleError::BaseUnaligned { align } => {
+            let align = hex::encode(alloc, align.to_be_bytes())?;
+            format!(in alloc; " {align}")
+        }
+        SettleError::NotDyn
+        | SettleError::TableNotLoaded
+        | SettleError::EntryOutside
+        | SettleError::Memory => Ok(String::new(alloc)),
     }
 }

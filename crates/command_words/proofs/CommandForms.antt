@@ -11,7 +11,7 @@ use Rattle.pun_base.specs.Actions.{IsAction}
 use Rattle.list_text.specs.Digits.{below, number_in}
 use Rattle.list_text.specs.Words.{action_of, count_of}
 use Rattle.list_text.proofs.ActionSpellings.{actions_are_spelled}
-use Rattle.command_words.specs.Words.{Names, ThreadNames, UnpatchNames, Command, Usage, Patch, Step, Gen, Load, Threads, ThreadsReported, ThreadsLoaded, Unpatch, is_plain, are_apart, patch_with, reserves_of, patch_of, check_of, most_steps, step_with, step_of, most_seed, most_blocks, nonzero, blocks_of, gen_with, gen_of, load_with, load_of, threads_with, reported_with, report_of, threads_by, threads_after, acting_with, asked, action_asked, threads_acting, threads_by_action, loaded_with, is_loader_form, threads_in_form, threads_of, unpatch_of, CommandRow, commands, under_name, form_of, command_of}
+use Rattle.command_words.specs.Words.{Names, ThreadNames, UnpatchNames, SettleNames, UnsettleNames, Command, Usage, Patch, Step, Gen, Load, Threads, ThreadsReported, ThreadsLoaded, Unpatch, Settle, Unsettle, is_plain, are_apart, patch_with, reserves_of, patch_of, check_of, most_steps, step_with, step_of, most_seed, most_blocks, nonzero, blocks_of, gen_with, gen_of, load_with, load_of, threads_with, reported_with, report_of, threads_by, threads_after, acting_with, asked, action_asked, threads_acting, threads_by_action, loaded_with, is_loader_form, threads_in_form, threads_of, unpatch_of, base_of, settle_with, settle_at, settle_after, settle_of, unsettle_of, CommandRow, commands, under_name, form_of, command_of}
 
 -- An action whose ring, if it keeps one, has 256 or 65,536 slots.
 abbrev pub HasThreadSlots : Action → Type 0
@@ -32,6 +32,8 @@ IsKnown (Threads n r) = (n.out ≡ n.file → ⊥) × (n.out ≡ n.starts → �
 IsKnown (ThreadsReported n a r) = (n.out ≡ n.report → ⊥) × IsThreadAction a
 IsKnown (ThreadsLoaded n a r) = (n.out ≡ n.report → ⊥) × IsThreadAction a
 IsKnown (Unpatch n) = (n.new ≡ n.patched → ⊥) × (n.new ≡ n.report → ⊥)
+IsKnown (Settle n base) = n.out ≡ n.file → ⊥
+IsKnown (Unsettle n) = n.new ≡ n.file → ⊥
 IsKnown other = Unit {0}
 
 -- ---- `patch` and `load`: their outputs are apart, and their action can be asked for
@@ -223,6 +225,36 @@ known_unpatch (patched ∷ report ∷ new ∷ []) =
     by_test n false false d e = (unlike false _ d refl, unlike false _ e refl)
 known_unpatch other = tt
 
+-- ---- so is that of `settle`, and that of `unsettle`
+
+known_settle : (words : List (List ℕ)) → IsKnown (settle_of words)
+known_settle (file ∷ out ∷ words) = after (record { file = file; out = out }) words
+  where
+    by_test : (n : SettleNames) (base : Option ℕ) (a : Bool) → Decides a (n.out ≡ n.file) → IsKnown (if not a then Settle n base else Usage)
+    by_test n base true d = tt
+    by_test n base false d = unlike false _ d refl
+
+    one : (n : SettleNames) (base : Option ℕ) → IsKnown (settle_with n base)
+    one n base = by_test n base (bytes_eq n.out n.file) (bytes_eq-Decides n.out n.file)
+
+    at : (n : SettleNames) (base : Option ℕ) → IsKnown (settle_at n base)
+    at n None = tt
+    at n (Some b) = one n (Some b)
+
+    after : (n : SettleNames) (ws : List (List ℕ)) → IsKnown (settle_after n ws)
+    after n [] = one n None
+    after n (w ∷ []) = at n (base_of w)
+    after n (w ∷ x ∷ ws) = tt
+known_settle other = tt
+
+known_unsettle : (words : List (List ℕ)) → IsKnown (unsettle_of words)
+known_unsettle (file ∷ new ∷ []) = by_test (record { file = file; new = new }) (bytes_eq new file) (bytes_eq-Decides new file)
+  where
+    by_test : (n : UnsettleNames) (a : Bool) → Decides a (n.new ≡ n.file) → IsKnown (if not a then Unsettle n else Usage)
+    by_test n true d = tt
+    by_test n false d = unlike false _ d refl
+known_unsettle other = tt
+
 -- ---- the same of any words
 
 known_check : (words : List (List ℕ)) → IsKnown (check_of words)
@@ -245,7 +277,7 @@ known_under (c ∷ cs) k word words = go (bytes_eq word c.0.name) (known_under c
 -- the words behind the program's name
 known_form : (words : List (List ℕ)) → IsKnown (form_of words)
 known_form [] = tt
-known_form (word ∷ words) = known_under commands (known_patch, (known_check, (known_step, (known_gen, (known_load, (known_threads, (known_unpatch, tt))))))) word words
+known_form (word ∷ words) = known_under commands (known_patch, (known_check, (known_step, (known_gen, (known_load, (known_threads, (known_unpatch, (known_settle, (known_unsettle, tt))))))))) word words
 
 -- by whether they are plain
 known_plain : (words : List (List ℕ)) (b : Bool) → IsKnown (if b then form_of words else Usage)

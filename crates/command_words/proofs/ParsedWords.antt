@@ -87,6 +87,20 @@ unpatch_takes : TakesAll false (shape_of_name (codes "unpatch")) (codes "unpatch
 unfolding walk_fault defaults_fault
 unpatch_takes = (refl, refl, refl, λ p. (refl, (refl, refl, refl, λ r. (refl, (refl, refl, refl, λ n. (refl, (refl, refl, refl, λ x rest. refl)))))))
 
+-- any words behind two words
+two_ranges : (f o : Text)
+    → TakesRanges (shape_of_name (codes "settle")) (word_names (codes "settle")) (behind (behind nothing_held (codes "FILE") f) (codes "OUT") o) 3 (f ∷ o ∷ [])
+unfolding walk_fault defaults_fault
+two_ranges f o = record { none = (refl, refl); first = (refl, λ x. refl); one = λ x. (refl, refl, λ w. refl); more = λ v vs x. (refl, refl, λ w. refl); found = λ x vs. refl }
+
+settle_takes : TakesAll true (shape_of_name (codes "settle")) (codes "settle")
+unfolding walk_fault defaults_fault
+settle_takes = (refl, refl, refl, λ f. (refl, (refl, refl, refl, λ o. (refl, two_ranges f o))))
+
+unsettle_takes : TakesAll false (shape_of_name (codes "unsettle")) (codes "unsettle")
+unfolding walk_fault defaults_fault
+unsettle_takes = (refl, refl, refl, λ f. (refl, (refl, refl, refl, λ n. (refl, (refl, refl, refl, λ x rest. refl)))))
+
 -- ---- the word that names the command
 
 -- the program as it is built
@@ -156,6 +170,14 @@ threads_is = record { stops = refl; free = refl; decides = λ rest. refl; finds 
 unpatch_is : IsName (codes "unpatch") (shape_of_name (codes "unpatch"))
 unfolding walked defaults_fault
 unpatch_is = record { stops = refl; free = refl; decides = λ rest. refl; finds = λ rest. refl }
+
+settle_is : IsName (codes "settle") (shape_of_name (codes "settle"))
+unfolding walked defaults_fault
+settle_is = record { stops = refl; free = refl; decides = λ rest. refl; finds = λ rest. refl }
+
+unsettle_is : IsName (codes "unsettle") (shape_of_name (codes "unsettle"))
+unfolding walked defaults_fault
+unsettle_is = record { stops = refl; free = refl; decides = λ rest. refl; finds = λ rest. refl }
 
 -- the walk stops at the name
 named_walk : (name : Text) (s : Shape) → IsName name s → (rest : List Text)
@@ -246,7 +268,13 @@ all_read = (
             behind_name true (codes "threads") (shape_of_name (codes "threads")) threads_is threads_takes,
             (
               behind_name false (codes "unpatch") (shape_of_name (codes "unpatch")) unpatch_is unpatch_takes,
-              tt,
+              (
+                behind_name true (codes "settle") (shape_of_name (codes "settle")) settle_is settle_takes,
+                (
+                  behind_name false (codes "unsettle") (shape_of_name (codes "unsettle")) unsettle_is unsettle_takes,
+                  tt,
+                ),
+              ),
             ),
           ),
         ),

@@ -1,5 +1,5 @@
 -- What `clap` is told of the commands' forms, and the command that it finds. Contracts of private functions alone cite it.
-use Rattle.std.specs.Prelude.{◌≡◌, Bool, true, false, if◌then◌else◌, List, [], ◌∷◌, fold, Option, Some, None, codes, unwrap_or}
+use Rattle.std.specs.Prelude.{◌≡◌, Bool, true, false, ◌||◌, if◌then◌else◌, List, [], ◌∷◌, fold, Option, Some, None, codes, unwrap_or}
 use Rattle.clap.specs.Walk.{Row, Rule, Text, first_of, all_of}
 use Rattle.clap.specs.Simple.{App, Shape, app_of, new_app, new_rule, new_shape, with_rule, with_subcommand}
 use Rattle.clap.specs.declared.builder.command.Command.{Command as Clap}
@@ -36,13 +36,13 @@ IsForm a c = (app_of c ≡ a) × IsLocal c
 abbrev pub word_names : Text → List Text
 word_names command = words_under synopses command
 
--- The command with any RESERVE behind its words, where it takes them.
-abbrev pub with_reserves : Bool → App → App
-with_reserves reserves app = if reserves then with_words app (codes "RESERVE") else app
+-- The command with later words behind its words, each under the name RESERVE, where it takes them.
+abbrev pub with_later : Bool → App → App
+with_later later app = if later then with_words app (codes "RESERVE") else app
 
 -- A command with its words.
 abbrev pub form_app : Synopsis → App
-form_app s = with_reserves s.reserves (fold with_word (new_app s.name) s.words)
+form_app s = with_later (s.reserves || s.base) (fold with_word (new_app s.name) s.words)
 
 -- The program with one command more.
 abbrev pub with_form : App → Synopsis → App

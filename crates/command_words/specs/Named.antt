@@ -9,12 +9,14 @@ use Rattle.command_words.specs.declared.words.CheckNames.{CheckNames}
 use Rattle.command_words.specs.declared.words.StepNames.{StepNames}
 use Rattle.command_words.specs.declared.words.ThreadNames.{ThreadNames}
 use Rattle.command_words.specs.declared.words.UnpatchNames.{UnpatchNames}
+use Rattle.command_words.specs.declared.words.SettleNames.{SettleNames}
+use Rattle.command_words.specs.declared.words.UnsettleNames.{UnsettleNames}
 use Rattle.command_words.specs.declared.words.Command.{Command}
 use Rattle.command_words.specs.declared.words.Command.TheVariants as command
 
 -- How a command is asked for.
 abbrev pub synopsis_of : Synopsis → synopses.Synopsis
-synopsis_of s = record { name = s.name.now; words = map (λ w. w.now) s.words.now; reserves = s.reserves }
+synopsis_of s = record { name = s.name.now; words = map (λ w. w.now) s.words.now; reserves = s.reserves; base = s.base }
 
 -- The names of `patch`, `load` and `threads` with a report.
 abbrev pub names_of : Names → words.Names
@@ -36,6 +38,14 @@ thread_names_of n = record { file = n.file.now; starts = n.starts.now; sites = n
 abbrev pub unpatch_names_of : UnpatchNames → words.UnpatchNames
 unpatch_names_of n = record { patched = n.patched.now; report = n.report.now; new = n.new.now }
 
+-- Those of `settle`.
+abbrev pub settle_names_of : SettleNames → words.SettleNames
+settle_names_of n = record { file = n.file.now; out = n.out.now }
+
+-- Those of `unsettle`.
+abbrev pub unsettle_names_of : UnsettleNames → words.UnsettleNames
+unsettle_names_of n = record { file = n.file.now; new = n.new.now }
+
 -- The command.
 abbrev pub command_view : Command → words.Command
 command_view command.Usage = words.Usage
@@ -48,3 +58,5 @@ command_view (command.Threads names reserves) = words.Threads (thread_names_of n
 command_view (command.ThreadsReported names action reserves) = words.ThreadsReported (names_of names) action (map ends reserves.items)
 command_view (command.ThreadsLoaded names action reserves) = words.ThreadsLoaded (names_of names) action (map ends reserves.items)
 command_view (command.Unpatch names) = words.Unpatch (unpatch_names_of names)
+command_view (command.Settle names base) = words.Settle (settle_names_of names) base
+command_view (command.Unsettle names) = words.Unsettle (unsettle_names_of names)

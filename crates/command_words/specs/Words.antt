@@ -1,9 +1,10 @@
 -- What the words of the command line ask for. Theorems cite it.
-use Rattle.std.specs.Prelude.{ℕ, ◌==◌, Bool, true, false, not, ◌&&◌, ◌||◌, nat_le, if◌then◌else◌, List, [], ◌∷◌, length, take, drop, map, Option, Some, None, codes}
+use Rattle.std.specs.Prelude.{ℕ, ◌^◌, ◌==◌, Bool, true, false, not, ◌&&◌, ◌||◌, nat_le, if◌then◌else◌, List, [], ◌∷◌, length, take, drop, map, Option, Some, None, codes}
 use Rattle.std.specs.List.{list_all}
 use Rattle.std.specs.Str.{bytes_eq}
 use Rattle.pun_base.specs.declared.action.Action.{Action}
 use Rattle.pun_base.specs.declared.action.Action.TheVariants.{Cover, Count, Ring, When}
+use Rattle.list_text.specs.Digits.{below, number_in}
 use Rattle.list_text.specs.Words.{action_of, range_of, count_of}
 use Rattle.command_words.specs.Synopses.{Synopsis, usage_of}
 
@@ -41,6 +42,16 @@ pub record UnpatchNames : Type 0 where
   pub report : List ℕ
   pub new : List ℕ
 
+-- The names that `settle` is given.
+pub record SettleNames : Type 0 where
+  pub file : List ℕ
+  pub out : List ℕ
+
+-- The names that `unsettle` is given.
+pub record UnsettleNames : Type 0 where
+  pub file : List ℕ
+  pub new : List ℕ
+
 -- What the words of the command line ask for.
 pub data Command : Type 0 where
   -- how the commands are used: the words are of no command's form
@@ -62,6 +73,10 @@ pub data Command : Type 0 where
   ThreadsLoaded : (names : Names) (action : Action) (reserves : List (ℕ × ℕ)) → Command
   -- give back the original of a patched file
   Unpatch : (names : UnpatchNames) → Command
+  -- move a position independent program to this base, or to the highest
+  Settle : (names : SettleNames) (base : Option ℕ) → Command
+  -- give back the program that was moved
+  Unsettle : (names : UnsettleNames) → Command
 
 -- A word that isn't empty and doesn't begin with `-` (45).
 abbrev pub is_plain : List ℕ → Bool
@@ -269,6 +284,44 @@ abbrev pub unpatch_of : List (List ℕ) → Command
 unpatch_of (patched ∷ report ∷ new ∷ []) = unpatch_with (record { patched = patched; report = report; new = new })
 unpatch_of other = Usage
 
+-- A number below 2^32, by its hexadecimal digits.
+abbrev pub hex_word : List ℕ → Option ℕ
+hex_word [] = None
+hex_word (c ∷ cs) = below (2 ^ 32) (number_in 16 (c ∷ cs))
+
+-- The base that a word asks for: the word is `base:` with such a number after it.
+abbrev pub base_of : List ℕ → Option ℕ
+base_of word = if bytes_eq (take 5 word) (codes "base:") then hex_word (drop 5 word) else None
+
+-- Settling with these names, where OUT differs from FILE.
+abbrev pub settle_with : SettleNames → Option ℕ → Command
+settle_with n base = if differ n.out n.file then Settle n base else Usage
+
+-- Settling at a base that is told, where there is one.
+abbrev pub settle_at : SettleNames → Option ℕ → Command
+settle_at n None = Usage
+settle_at n (Some base) = settle_with n (Some base)
+
+-- The words behind OUT: none, or the base.
+abbrev pub settle_after : SettleNames → List (List ℕ) → Command
+settle_after n [] = settle_with n None
+settle_after n (word ∷ []) = settle_at n (base_of word)
+settle_after n other = Usage
+
+-- The words behind `settle`: FILE OUT, and then the base that is asked for or none.
+abbrev pub settle_of : List (List ℕ) → Command
+settle_of (file ∷ out ∷ words) = settle_after (record { file = file; out = out }) words
+settle_of other = Usage
+
+-- The program again with these names, where NEW differs from FILE.
+abbrev pub unsettle_with : UnsettleNames → Command
+unsettle_with n = if differ n.new n.file then Unsettle n else Usage
+
+-- The words behind `unsettle`: FILE NEW.
+abbrev pub unsettle_of : List (List ℕ) → Command
+unsettle_of (file ∷ new ∷ []) = unsettle_with (record { file = file; new = new })
+unsettle_of other = Usage
+
 -- A row of the table of commands: how a command is asked for, and the command that the words behind its name are of.
 abbrev pub CommandRow : Type 0
 CommandRow = Synopsis × (List (List ℕ) → Command)
@@ -280,13 +333,15 @@ patch_words = codes "FILE" ∷ codes "STARTS" ∷ codes "SITES" ∷ codes "ACTIO
 -- The commands.
 abbrev pub commands : List CommandRow
 commands =
-    (record { name = codes "patch"; words = patch_words; reserves = true }, patch_of)
-    ∷ (record { name = codes "check"; words = codes "FILE" ∷ codes "OUT" ∷ codes "STARTS" ∷ codes "REPORT" ∷ []; reserves = false }, check_of)
-    ∷ (record { name = codes "step"; words = codes "FILE" ∷ codes "STARTS" ∷ codes "WORLD" ∷ codes "N" ∷ []; reserves = false }, step_of)
-    ∷ (record { name = codes "gen"; words = codes "SEED" ∷ codes "BLOCKS" ∷ []; reserves = false }, gen_of)
-    ∷ (record { name = codes "load"; words = patch_words; reserves = true }, load_of)
-    ∷ (record { name = codes "threads"; words = codes "FILE" ∷ codes "STARTS" ∷ codes "SITES" ∷ codes "OUT" ∷ []; reserves = true }, threads_of)
-    ∷ (record { name = codes "unpatch"; words = codes "PATCHED" ∷ codes "REPORT" ∷ codes "NEW" ∷ []; reserves = false }, unpatch_of) ∷ []
+    (record { name = codes "patch"; words = patch_words; reserves = true; base = false }, patch_of)
+    ∷ (record { name = codes "check"; words = codes "FILE" ∷ codes "OUT" ∷ codes "STARTS" ∷ codes "REPORT" ∷ []; reserves = false; base = false }, check_of)
+    ∷ (record { name = codes "step"; words = codes "FILE" ∷ codes "STARTS" ∷ codes "WORLD" ∷ codes "N" ∷ []; reserves = false; base = false }, step_of)
+    ∷ (record { name = codes "gen"; words = codes "SEED" ∷ codes "BLOCKS" ∷ []; reserves = false; base = false }, gen_of)
+    ∷ (record { name = codes "load"; words = patch_words; reserves = true; base = false }, load_of)
+    ∷ (record { name = codes "threads"; words = codes "FILE" ∷ codes "STARTS" ∷ codes "SITES" ∷ codes "OUT" ∷ []; reserves = true; base = false }, threads_of)
+    ∷ (record { name = codes "unpatch"; words = codes "PATCHED" ∷ codes "REPORT" ∷ codes "NEW" ∷ []; reserves = false; base = false }, unpatch_of)
+    ∷ (record { name = codes "settle"; words = codes "FILE" ∷ codes "OUT" ∷ []; reserves = false; base = true }, settle_of)
+    ∷ (record { name = codes "unsettle"; words = codes "FILE" ∷ codes "NEW" ∷ []; reserves = false; base = false }, unsettle_of) ∷ []
 
 -- How the commands are asked for.
 abbrev pub synopses : List Synopsis

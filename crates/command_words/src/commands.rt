@@ -1,16 +1,21 @@
 //! The command that its name and the words behind it are of.
 ghost use Rattle.std.specs.Prelude.{◌≡◌, ◌∷◌, IfOk, map, option_map};
 ghost use Rattle.pun_base.specs.Ranges.{ends};
-ghost use Rattle.command_words.specs.Words.{patch_of, patch_with, check_of, step_of, gen_of, gen_with, blocks_of, load_with, threads_of, threads_in_form, threads_by_action, threads_after, threads_with, reported_with, unpatch_of, unpatch_with, form_of};
+ghost use Rattle.command_words.specs.Words.{patch_of, patch_with, check_of, step_of, gen_of, gen_with, blocks_of, load_with, threads_of, threads_in_form, threads_by_action, threads_after, threads_with, reported_with, unpatch_of, unpatch_with, hex_word, settle_with, settle_at, settle_after, settle_of, unsettle_with, unsettle_of, form_of};
+ghost use Rattle.command_words.specs.Words.{base_of as base_asked};
 ghost use Rattle.command_words.specs.Words.{are_apart as apart, is_apart as stands_apart};
 ghost use Rattle.command_words.specs.Words.{has_own_out as owns_out};
 ghost use Rattle.command_words.specs.Words.{report_of as report_name};
 ghost use Rattle.command_words.specs.Words.{is_loader_form as asks_for_loader, loaded_with as as_loaded};
 ghost use Rattle.command_words.specs.Words.{is_asked as can_be_asked, action_asked as action_told, acting_with as as_acting};
-ghost use Rattle.command_words.specs.Named.{names_of, thread_names_of, unpatch_names_of, command_view};
+ghost use Rattle.command_words.specs.Named.{names_of, thread_names_of, unpatch_names_of, settle_names_of, unsettle_names_of, command_view};
 
 use crate::reserves::read_reserves;
-use crate::words::{CheckNames, Command, Names, StepNames, ThreadNames, UnpatchNames, is_name};
+use crate::words::{
+    CheckNames, Command, Names, SettleNames, StepNames, ThreadNames, UnpatchNames, UnsettleNames,
+    is_name,
+};
+use list_text::digits::read_number;
 use list_text::words::{read_action, read_count};
 use pun_base::action::Action;
 use pun_base::range::Range;
@@ -18,6 +23,9 @@ use std::alloc::{AllocError, Global};
 
 /// The most steps.
 const MOST_STEPS: u64 = 10_000_000;
+
+/// The highest base that a word tells.
+const MOST_BASE: u64 = 0xFFFF_FFFF;
 
 /// The most blocks of a guest.
 const MOST_BLOCKS: u64 = 20_000;
@@ -39,6 +47,8 @@ pub fn read_command<'a>(
         "load" => Ok(load_with(read_patch(alloc, words)?)),
         "threads" => read_threads(alloc, words),
         "unpatch" => Ok(read_unpatch(words)),
+        "settle" => Ok(read_settle(words)),
+        "unsettle" => Ok(read_unsettle(words)),
         _ => Ok(Command::Usage),
     }
 }
@@ -422,4 +432,88 @@ fn is_apart(names: &UnpatchNames<'_>) -> bool
     ensures { result ≡ stands_apart (unpatch_names_of names.now) }
 {
     names.new != names.patched && names.new != names.report
+}
+
+/// The settling that is asked for: FILE OUT, and then `base:HEX` or nothing.
+fn read_settle<'a>(words: &[&'a str]) -> Command<'a>
+    ensures { command_view result ≡ settle_of (map (λ w. w.now) words.now) }
+{
+    let [file, out, words @ ..] = words else {
+        return Command::Usage;
+    };
+    settle_after(SettleNames { file, out }, words)
+}
+
+/// A settling with these names, and the words behind OUT.
+fn settle_after<'a>(names: SettleNames<'a>, words: &[&'a str]) -> Command<'a>
+    ensures { command_view result
+        ≡ settle_after (settle_names_of names.entry) (map (λ w. w.now) words.now) }
+{
+    match words {
+        [] => settle_with(names, None),
+        [word] => settle_at(names, base_of(word)),
+        _ => Command::Usage,
+    }
+}
+
+/// The base that a word asks for: the word is `base:` with a number below 2^32 after it, in hexadecimal digits.
+fn base_of(word: &str) -> Option<u32>
+    ensures { result ≡ base_asked word.now }
+{
+    read_base(word.strip_prefix("base:")?.as_bytes())
+}
+
+/// The number that hexadecimal digits tell, of which there are some, where it is below 2^32.
+fn read_base(digits: &[u8]) -> Option<u32>
+    ensures { result ≡ hex_word digits.now }
+{
+    if digits.is_empty() {
+        return None;
+    }
+    match read_number(digits, 16, MOST_BASE) {
+        Some(base) => Some(base as u32),
+        None => None,
+    }
+}
+
+/// A settling at a base that is told, where there is one.
+fn settle_at<'a>(names: SettleNames<'a>, base: Option<u32>) -> Command<'a>
+    ensures { command_view result ≡ settle_at (settle_names_of names.entry) base }
+{
+    match base {
+        Some(base) => settle_with(names, Some(base)),
+        None => Command::Usage,
+    }
+}
+
+/// A settling with these names, where OUT differs from FILE.
+fn settle_with<'a>(names: SettleNames<'a>, base: Option<u32>) -> Command<'a>
+    ensures { command_view result ≡ settle_with (settle_names_of names.entry) base }
+{
+    if names.out != names.file {
+        Command::Settle { names, base }
+    } else {
+        Command::Usage
+    }
+}
+
+/// The program that is asked for: FILE NEW.
+fn read_unsettle<'a>(words: &[&'a str]) -> Command<'a>
+    ensures { command_view result ≡ unsettle_of (map (λ w. w.now) words.now) }
+{
+    let [file, new] = words else {
+        return Command::Usage;
+    };
+    unsettle_with(UnsettleNames { file, new })
+}
+
+/// The program again with these names, where NEW differs from FILE.
+fn unsettle_with<'a>(names: UnsettleNames<'a>) -> Command<'a>
+    ensures { command_view result ≡ unsettle_with (unsettle_names_of names.entry) }
+{
+    if names.new != names.file {
+        Command::Unsettle(names)
+    } else {
+        Command::Usage
+    }
 }

@@ -48,7 +48,7 @@ fn form<'a>(alloc: Global, command: &Synopsis) -> Result<clap::Command<'a>, Allo
         clap::Command::new(alloc, command.name),
         command.words,
     )?;
-    if command.reserves {
+    if command.reserves || command.base {
         words.arg(later_words(alloc, "RESERVE"))
     } else {
         Ok(words)

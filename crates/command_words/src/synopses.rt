@@ -3,7 +3,7 @@ ghost use Rattle.std.specs.Prelude.{◌≡◌, IfOk, map, string_bytes};
 ghost use Rattle.command_words.specs.Named.{synopsis_of};
 ghost use Rattle.command_words.specs.Words.{usage_text};
 ghost use Rattle.command_words.specs.Synopses.{synopsis_text, reserves_text, usage_of};
-ghost use Rattle.command_words.specs.Synopses.{words_under as names_under, spaced as words_spaced};
+ghost use Rattle.command_words.specs.Synopses.{base_text as base_line, words_under as names_under, spaced as words_spaced};
 
 use std::alloc::{AllocError, Global};
 
@@ -14,6 +14,8 @@ pub struct Synopsis {
     pub words: &'static [&'static str],
     /// Whether any RESERVE may stand behind them.
     pub reserves: bool,
+    /// Whether a base may stand behind them.
+    pub base: bool,
 }
 
 /// The commands.
@@ -22,36 +24,55 @@ pub const COMMANDS: &[Synopsis] = &[
         name: "patch",
         words: &["FILE", "STARTS", "SITES", "ACTION", "OUT", "REPORT"],
         reserves: true,
+        base: false,
     },
     Synopsis {
         name: "check",
         words: &["FILE", "OUT", "STARTS", "REPORT"],
         reserves: false,
+        base: false,
     },
     Synopsis {
         name: "step",
         words: &["FILE", "STARTS", "WORLD", "N"],
         reserves: false,
+        base: false,
     },
     Synopsis {
         name: "gen",
         words: &["SEED", "BLOCKS"],
         reserves: false,
+        base: false,
     },
     Synopsis {
         name: "load",
         words: &["FILE", "STARTS", "SITES", "ACTION", "OUT", "REPORT"],
         reserves: true,
+        base: false,
     },
     Synopsis {
         name: "threads",
         words: &["FILE", "STARTS", "SITES", "OUT"],
         reserves: true,
+        base: false,
     },
     Synopsis {
         name: "unpatch",
         words: &["PATCHED", "REPORT", "NEW"],
         reserves: false,
+        base: false,
+    },
+    Synopsis {
+        name: "settle",
+        words: &["FILE", "OUT"],
+        reserves: false,
+        base: true,
+    },
+    Synopsis {
+        name: "unsettle",
+        words: &["FILE", "NEW"],
+        reserves: false,
+        base: false,
     },
 ];
 
@@ -91,7 +112,7 @@ fn usage_from(alloc: Global, before: &str, commands: &[Synopsis]) -> Result<Stri
     format!(in alloc; "{before}{text}{rest}")
 }
 
-/// A command as the usage tells it: its name, its words, and whether any RESERVE may stand behind them.
+/// A command as the usage tells it: its name, its words, and whether any RESERVE, or a base, may stand behind them.
 fn text_of(alloc: Global, command: &Synopsis) -> Result<String, AllocError>
     ensures { IfOk result (λ text. string_bytes text
         ≡ synopsis_text (synopsis_of command.now)) }
@@ -99,7 +120,8 @@ fn text_of(alloc: Global, command: &Synopsis) -> Result<String, AllocError>
     let name = command.name;
     let words = spaced(alloc, command.words)?;
     let reserves = reserves_of(command.reserves);
-    format!(in alloc; "{name}{words}{reserves}")
+    let base = base_text(command.base);
+    format!(in alloc; "{name}{words}{reserves}{base}")
 }
 
 /// What the usage tells of any RESERVE.
@@ -107,6 +129,13 @@ fn reserves_of(reserves: bool) -> &'static str
     ensures { result.now ≡ reserves_text reserves }
 {
     if reserves { " [RESERVE]..." } else { "" }
+}
+
+/// What the usage tells of a base.
+fn base_text(base: bool) -> &'static str
+    ensures { result.now ≡ base_line base }
+{
+    if base { " [base:HEX]" } else { "" }
 }
 
 /// Words, each behind a space.

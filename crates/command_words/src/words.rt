@@ -54,6 +54,20 @@ pub struct UnpatchNames<'a> {
     pub new: &'a str,
 }
 
+/// The names that `settle` is given.
+#[derive(Clone, Copy)]
+pub struct SettleNames<'a> {
+    pub file: &'a str,
+    pub out: &'a str,
+}
+
+/// The names that `unsettle` is given.
+#[derive(Clone, Copy)]
+pub struct UnsettleNames<'a> {
+    pub file: &'a str,
+    pub new: &'a str,
+}
+
 /// What the words of the command line ask for.
 #[derive(Drop)]
 pub enum Command<'a> {
@@ -101,6 +115,13 @@ pub enum Command<'a> {
     },
     /// Give back the original of a patched file.
     Unpatch(UnpatchNames<'a>),
+    /// Move a position independent program to a base, or to the highest.
+    Settle {
+        names: SettleNames<'a>,
+        base: Option<u32>,
+    },
+    /// Give back the program that was moved.
+    Unsettle(UnsettleNames<'a>),
 }
 
 /// The command that the words are of. They begin with the program's name.

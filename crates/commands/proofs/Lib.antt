@@ -6,4 +6,5 @@ pub mod LoadReversal
 pub mod ReversedThreads
 pub mod InspectingRuns
 pub mod GenRuns
+pub mod SettleRuns
 pub mod LostWords

@@ -1,7 +1,7 @@
 -- Memory ran out before the words were read: any command may end so.
 use Rattle.std.proofs.Common.{◌≡◌, ℕ, inr, List, Err, refl, arith}
 use Rattle.pun_base.specs.Shown.{DeskState, SinkState}
-use Rattle.command_words.specs.Words.{Command, Usage, Patch, Check, Step, Gen, Load, Threads, ThreadsReported, ThreadsLoaded, Unpatch, command_of}
+use Rattle.command_words.specs.Words.{Command, Usage, Patch, Check, Step, Gen, Load, Threads, ThreadsReported, ThreadsLoaded, Unpatch, Settle, Unsettle, command_of}
 use Rattle.command_io.specs.Inputs.{Inputs, OnlyReads}
 use Rattle.command_io.specs.Inspecting.{Accepting, Refusing, Telling, Inspects}
 use Rattle.inspect_commands.specs.CheckAnswers.{check_inputs, CheckAccepts, CheckRefuses, CheckTells, IsCheckStatus}
@@ -16,11 +16,15 @@ use Rattle.patch_commands.specs.Answers.{form_writing, patch_writing, Patches}
 use Rattle.patch_commands.specs.LoadAnswers.{with_stub, Loads}
 use Rattle.patch_commands.specs.ThreadsAnswers.{for_threads, for_threads_with_stub, thread_patching, threads_writing, PatchesThreads, PatchesReported, LoadsThreads}
 use Rattle.patch_commands.specs.UnpatchAnswers.{unpatch_writing}
+use Rattle.command_io.specs.Writing.{Writes}
+use Rattle.settle_commands.specs.SettleAnswers.{settle_writing}
+use Rattle.settle_commands.specs.UnsettleAnswers.{unsettle_writing}
 use Rattle.commands.specs.Reversal.{Unpatches}
 use Rattle.command_words.proofs.CommandForms.{known_of}
 use Rattle.commands.proofs.PatchRuns.{form_ended, lost, patch_ended}
 use Rattle.commands.proofs.ThreadsRuns.{threads_ended}
 use Rattle.commands.proofs.PatchReversal.{unpatch_ended}
+use Rattle.commands.proofs.SettleRuns.{settle_ended, unsettle_ended}
 
 only_none : (s : DeskState) → OnlyReads s s
 only_none s = record { held = refl; writing = refl; writes = refl; later = omega arith; sure = λ h. h }
@@ -55,3 +59,5 @@ words_lost words (ThreadsLoaded n action reserves) s k e =
     lost (form_writing (for_threads_with_stub action) p) (LoadsThreads action p)
     (form_ended (for_threads_with_stub action) p (known_of words (ThreadsLoaded n action reserves) e).0) s k
 words_lost words (Unpatch n) s k e = lost (unpatch_writing n) (Unpatches n) (unpatch_ended n) s k
+words_lost words (Settle n base) s k e = lost (settle_writing n base) (Writes (settle_writing n base)) (settle_ended n base) s k
+words_lost words (Unsettle n) s k e = lost (unsettle_writing n) (Writes (unsettle_writing n)) (unsettle_ended n) s k

@@ -16,8 +16,8 @@ use Rattle.elf_emit.specs.FrameLaws.{PairsByRecursion}
 use Rattle.elf_emit.proofs.StayingSegments.{all_map, all_both, or_false}
 use Rattle.patch_report.specs.Values.{WriteValue, RowValue, ReportValue, write_value, row_value, written}
 use Rattle.patch_report.specs.Runs.{runs, runs_of, in_run}
-use Rattle.image_check.specs.Rules.{holds_byte}
-use Rattle.image_check.proofs.CountedElements.{count_cons, by_count}
+use Rattle.sound_images.specs.Rules.{holds_byte}
+use Rattle.sound_images.proofs.CountedElements.{count_cons, by_count}
 use Rattle.site_turns.specs.States.{Scene}
 use Rattle.site_turns.specs.Folded.{Done, Tells as TellsAt, done_by}
 use Rattle.site_turns.specs.PlannedState.{PlannedState}

@@ -2,7 +2,7 @@
 -- k and l what the sink shows.
 use Rattle.std.specs.Prelude.{◌≡◌, ℕ, ◌≤◌, ◌⊎◌}
 use Rattle.pun_base.specs.Shown.{DeskState, SinkState, Rose}
-use Rattle.command_words.specs.Words.{Command, Usage, Patch, Check, Step, Gen, Load, Threads, ThreadsReported, ThreadsLoaded, Unpatch}
+use Rattle.command_words.specs.Words.{Command, Usage, Patch, Check, Step, Gen, Load, Threads, ThreadsReported, ThreadsLoaded, Unpatch, Settle, Unsettle}
 use Rattle.patch_commands.specs.Answers.{IsUsage, Patches}
 use Rattle.patch_commands.specs.LoadAnswers.{Loads}
 use Rattle.patch_commands.specs.ThreadsAnswers.{thread_patching, PatchesThreads, PatchesReported, LoadsThreads}
@@ -10,6 +10,9 @@ use Rattle.command_io.specs.Verdict.{patching}
 use Rattle.inspect_commands.specs.CheckAnswers.{Checks}
 use Rattle.inspect_commands.specs.StepAnswers.{Steps}
 use Rattle.inspect_commands.specs.GenAnswers.{Generates}
+use Rattle.command_io.specs.Writing.{Writes}
+use Rattle.settle_commands.specs.SettleAnswers.{settle_writing}
+use Rattle.settle_commands.specs.UnsettleAnswers.{unsettle_writing}
 use Rattle.commands.specs.Reversal.{Unpatches}
 
 -- Which command it is.
@@ -63,3 +66,5 @@ Does (Load names action reserves) s t k l status = Loads (patching names action 
 Does (Threads names reserves) s t k l status = PatchesThreads (thread_patching names reserves) s t k l status
 Does (ThreadsReported names action reserves) s t k l status = PatchesReported action (patching names action reserves) s t k l status
 Does (ThreadsLoaded names action reserves) s t k l status = LoadsThreads action (patching names action reserves) s t k l status
+Does (Settle names base) s t k l status = Writes (settle_writing names base) s t k l status
+Does (Unsettle names) s t k l status = Writes (unsettle_writing names) s t k l status

@@ -16,6 +16,7 @@ use patch_commands::patching::Form;
 use patch_commands::{threads_command, unpatch_command};
 use pun_base::desk::Desk;
 use pun_base::sink::Sink;
+use settle_commands::{settle_command, unsettle_command};
 use std::alloc::{AllocError, Global};
 
 /// Does what the words say, and answers the status.
@@ -96,6 +97,16 @@ pub fn run<D: Desk, K: Sink>(alloc: Global, words: &[String], desk: &mut D, out:
             out,
         ),
         Ok(Command::Unpatch(names)) => tell(alloc, unpatch_command::undo(alloc, &names, desk), out),
+        Ok(Command::Settle { names, base }) => tell(
+            alloc,
+            settle_command::settle_file(alloc, &names, base, desk),
+            out,
+        ),
+        Ok(Command::Unsettle(names)) => tell(
+            alloc,
+            unsettle_command::unsettle_file(alloc, &names, desk),
+            out,
+        ),
         Err(AllocError) => status::OUT_OF_MEMORY,
     }
 }

@@ -1,6 +1,6 @@
 //! Conditional actions: when a condition holds of registers, and the code of an event that is recorded where it does.
 //!
-//! Stands on `relocate_insn`; `trampoline` stands on it.
+//! Stands on `relocate_insn`; `event_steps` and `trampoline` stand on it.
 #![tactic(auto)]
 
 mod comparing;

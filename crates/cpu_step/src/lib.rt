@@ -1,6 +1,6 @@
 //! How a processor steps: one step over a state, by an instruction's meaning or by the world's answer.
 //!
-//! Stands on `insn_form`; `image_step` and `guest_gen` stand on it.
+//! Stands on `insn_form`; `image_step`, `loader_form` and `guest_gen` stand on it.
 #![tactic(auto)]
 
 mod answering;

@@ -1,7 +1,7 @@
 //! Patches static x86-64 executables, checks what was patched, shows runs, and tries all this on guests of its own, from the
 //! command line.
 //!
-//! Stands on `commands`; it is the program, with the files, the standard output and the words of the system.
+//! Stands on `commands` and `real_files`; it is the program, with the words of the system, its files and its standard output.
 #![tactic(auto)]
 
 ghost use Rattle.std.specs.Prelude.{◌≡◌, None, IfOk, IfErr, OnErr, map, string_bytes};
@@ -9,25 +9,18 @@ ghost use Rattle.std.specs.IoError.{error_kind};
 ghost use Rattle.command_words.specs.Words.{command_of};
 ghost use Rattle.commands.specs.Commands.{HasCause, Does};
 
-mod file_desk;
-mod known_files;
-mod standard_output;
-mod streams;
-#[cfg(test)]
-mod tests;
-
 use command_io::status;
 use commands::run::run;
-use file_desk::FileDesk;
 use pun_base::desk::Desk;
 use pun_base::sink::Sink;
-use standard_output::StdSink;
+use real_files::file_desk::FileDesk;
+use real_files::standard_output::StdSink;
+use real_files::streams::is_out_of_memory;
 use std::alloc::Global;
 use std::io::ErrorKind;
 use std::process::ExitCode;
 use std::rt::Env;
 use std::{env, io};
-use streams::is_out_of_memory;
 
 /// The program's words, beginning with its name. It has no clause: the library's call for them tells nothing of what the system gave.
 fn collect_words<R: Env + AllocGlobal>(rt: &R) -> io::Result<Vec<String>> {

@@ -1,6 +1,3 @@
 //! The tests, by what they ask.
-mod elf_files;
-mod emitted_files;
-mod emitted_pages;
+mod numbers;
 mod starts;
-mod undone_files;

@@ -32,8 +32,8 @@ use Rattle.trampoline.proofs.TrampolineRuns.{kept_length}
 use Rattle.start_entries.specs.Finding.{entry_at}
 use Rattle.start_list.specs.Forms.{work_by, work_length}
 use Rattle.start_entries.specs.Standing.{IsEntry, AreEntries}
-use Rattle.image_check.specs.Reports.{Line, tramps_of, row_lines, lines}
-use Rattle.image_check.specs.Rules.{Case}
+use Rattle.sound_images.specs.Reports.{Line, tramps_of, row_lines, lines}
+use Rattle.sound_images.specs.Rules.{Case}
 use Rattle.site_turns.specs.States.{Scene, report_of}
 use Rattle.site_turns.specs.Folded.{size_from}
 use Rattle.site_turns.specs.Loaded.{case_of}

@@ -16,11 +16,11 @@ use Rattle.insn_form.proofs.UniqueSteps.{one_run}
 use Rattle.start_entries.specs.Entries.{entries_of}
 use Rattle.start_entries.specs.declared.entry.StartEntry.{StartEntry}
 use Rattle.cpu_step.specs.declared.stop.Stop.{Stop}
-use Rattle.image_step.specs.Listed.{is_start}
-use Rattle.image_step.specs.Quiet.{IsQuiet}
+use Rattle.image_runs.specs.Listed.{is_start}
+use Rattle.image_runs.specs.Quiet.{IsQuiet}
 use Rattle.image_step.specs.Running.{Ends}
-use Rattle.image_step.specs.Starting.{start_machine, regions_memory}
-use Rattle.image_check.specs.Rewriting.{shown}
+use Rattle.image_runs.specs.Starting.{start_machine, regions_memory}
+use Rattle.sound_images.specs.Rewriting.{shown}
 use Rattle.rewrite_core.specs.Judging.{Job, Judged}
 use Rattle.rewrite_core.specs.Rewrites.{file_of}
 use Rattle.rewrite_core.proofs.OneVerdict.{judged_once}

@@ -16,7 +16,7 @@ use Rattle.relocate_insn.proofs.FixedCode.{SameCode, run_code}
 use Rattle.trampoline.proofs.JoinedRuns.{run_perms}
 use Rattle.guest_gen.specs.Instructions.{text_start, data_start}
 use Rattle.guest_gen.specs.Starting.{start_memory}
-use Rattle.image_check.proofs.LoadedCode.{same_none}
+use Rattle.sound_images.proofs.LoadedCode.{same_none}
 
 -- ---- what stands at an address
 

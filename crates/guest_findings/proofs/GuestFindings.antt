@@ -5,9 +5,10 @@ use Rattle.elf_read.specs.Entries.{segments}
 use Rattle.insn_form.specs.Machine.{Machine}
 use Rattle.insn_form.specs.Runs.{last_of}
 use Rattle.patch_report.specs.Values.{ReportValue}
-use Rattle.image_step.specs.Starting.{start_machine}
-use Rattle.image_check.specs.Rules.{Case, IsSound}
-use Rattle.image_check.specs.Verdict.{case_of, IsVerdict}
+use Rattle.image_runs.specs.Starting.{start_machine}
+use Rattle.sound_images.specs.Rules.{Case, IsSound}
+use Rattle.sound_images.specs.Cases.{case_of}
+use Rattle.image_check.specs.Verdict.{IsVerdict}
 use Rattle.image_check.specs.declared.verdict.Verdict.{Verdict}
 use Rattle.image_check.specs.declared.verdict.Verdict.TheVariants.{Yes, No}
 use Rattle.rewrite_core.specs.Judging.{Job}

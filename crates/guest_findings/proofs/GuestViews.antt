@@ -7,9 +7,9 @@ use Rattle.elf_read.specs.Image.{image_of}
 use Rattle.insn_form.specs.Machine.{Machine}
 use Rattle.insn_form.specs.Runs.{last_of}
 use Rattle.start_entries.proofs.ImageEntries.{built_are_entries}
-use Rattle.image_step.specs.Starting.{start_machine}
-use Rattle.image_check.specs.Rewriting.{Rewriting, shown}
-use Rattle.image_check.specs.Soundness.{rewriting_of}
+use Rattle.image_runs.specs.Starting.{start_machine}
+use Rattle.sound_images.specs.Rewriting.{Rewriting, shown}
+use Rattle.sound_images.specs.Soundness.{rewriting_of}
 use Rattle.guest_gen.specs.Files.{guest_file}
 use Rattle.guest_gen.specs.Instructions.{data_start}
 use Rattle.guest_gen.specs.Starting.{start_memory}

@@ -23,17 +23,17 @@ use Rattle.start_entries.specs.declared.entry.StartEntry.{StartEntry}
 use Rattle.start_entries.specs.Entries.{entries_of}
 use Rattle.start_entries.specs.Standing.{AreEntries}
 use Rattle.cpu_step.specs.declared.stop.Stop.{Stop}
-use Rattle.image_step.specs.Listed.{is_start, is_listed_byte}
-use Rattle.image_step.specs.Quiet.{IsQuiet, IsStartPair}
+use Rattle.image_runs.specs.Listed.{is_start, is_listed_byte}
+use Rattle.image_runs.specs.Quiet.{IsQuiet, IsStartPair}
 use Rattle.image_step.specs.Running.{Ends}
-use Rattle.image_step.specs.Starting.{start_machine, regions_memory}
-use Rattle.image_check.specs.Rewriting.{Rewriting, shown}
-use Rattle.image_check.specs.Soundness.{rewriting_of}
-use Rattle.image_check.proofs.SoundFacts.{holds}
-use Rattle.image_check.proofs.HeadlineRuns.{known_start}
-use Rattle.image_check.proofs.PlainItems.{headline_case}
-use Rattle.image_check.proofs.RelatedStates.{hidden_at, allowed_some}
-use Rattle.image_check.proofs.StartPairs.{started}
+use Rattle.image_runs.specs.Starting.{start_machine, regions_memory}
+use Rattle.sound_images.specs.Rewriting.{Rewriting, shown}
+use Rattle.sound_images.specs.Soundness.{rewriting_of}
+use Rattle.sound_images.proofs.SoundFacts.{holds}
+use Rattle.sound_images.proofs.HeadlineRuns.{known_start}
+use Rattle.sound_images.proofs.PlainItems.{headline_case}
+use Rattle.sound_images.proofs.RelatedStates.{hidden_at, allowed_some}
+use Rattle.sound_images.proofs.StartPairs.{started}
 use Rattle.guest_gen.specs.Instructions.{data_start}
 use Rattle.guest_gen.specs.Worlds.{IsGuestScript, SetsNothing, start_regs}
 use Rattle.rewrite_core.specs.Followed.{IsFollowed, case_for}

@@ -9,7 +9,7 @@ use Rattle.insn_form.specs.Runs.{nowhere, IsRun, last_of}
 use Rattle.insn_form.specs.Step.{Step}
 use Rattle.insn_form.proofs.UniqueSteps.{one_run}
 use Rattle.patch_report.proofs.ListPlaces.{count_cons}
-use Rattle.image_step.specs.Listed.{is_start}
+use Rattle.image_runs.specs.Listed.{is_start}
 use Rattle.guest_findings.specs.Findings.{outside_count, RunsUntil}
 
 -- ---- fronts

@@ -8,9 +8,9 @@ use Rattle.start_entries.specs.declared.entry.StartEntry.{StartEntry}
 use Rattle.start_entries.specs.Entries.{entries_of}
 use Rattle.start_entries.specs.Finding.{addresses}
 use Rattle.start_entries.proofs.StartsSoFar.{addresses-entries}
-use Rattle.image_step.specs.Listed.{is_start}
+use Rattle.image_runs.specs.Listed.{is_start}
 use Rattle.image_step.specs.Running.{Goes, machine_in}
-use Rattle.image_step.specs.Starting.{start_machine}
+use Rattle.image_runs.specs.Starting.{start_machine}
 use Rattle.image_step.specs.declared.runner.Runner.{Runner}
 use Rattle.image_step.specs.declared.runner.RunEnd.{RunEnd}
 use Rattle.guest_gen.specs.Views.{GuestParts}

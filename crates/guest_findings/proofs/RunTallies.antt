@@ -4,8 +4,8 @@ use Rattle.insn_form.specs.Machine.{Machine}
 use Rattle.insn_form.specs.Step.{Step}
 use Rattle.start_entries.specs.declared.entry.StartEntry.{StartEntry}
 use Rattle.start_entries.specs.Entries.{entries_of}
-use Rattle.image_step.specs.Listed.{is_start}
-use Rattle.image_step.specs.Quiet.{IsQuiet}
+use Rattle.image_runs.specs.Listed.{is_start}
+use Rattle.image_runs.specs.Quiet.{IsQuiet}
 use Rattle.image_step.specs.Running.{Goes}
 use Rattle.image_step.specs.declared.runner.Runner.{Runner}
 use Rattle.image_step.specs.declared.runner.RunEnd.{RunEnd}

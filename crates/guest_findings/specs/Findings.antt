@@ -11,12 +11,13 @@ use Rattle.insn_form.specs.Step.{Step}
 use Rattle.start_entries.specs.Entries.{entries_of}
 use Rattle.start_entries.specs.declared.entry.StartEntry.{StartEntry}
 use Rattle.patch_report.specs.Values.{ReportValue, RowValue}
-use Rattle.image_step.specs.Listed.{is_start}
-use Rattle.image_step.specs.Starting.{start_machine}
-use Rattle.image_check.specs.Rules.{Case}
-use Rattle.image_check.specs.Rewriting.{Rewriting, shown}
-use Rattle.image_check.specs.Soundness.{rewriting_of}
-use Rattle.image_check.specs.Verdict.{case_of, IsVerdict}
+use Rattle.image_runs.specs.Listed.{is_start}
+use Rattle.image_runs.specs.Starting.{start_machine}
+use Rattle.sound_images.specs.Rules.{Case}
+use Rattle.sound_images.specs.Rewriting.{Rewriting, shown}
+use Rattle.sound_images.specs.Soundness.{rewriting_of}
+use Rattle.sound_images.specs.Cases.{case_of}
+use Rattle.image_check.specs.Verdict.{IsVerdict}
 use Rattle.image_check.specs.declared.verdict.Verdict.{Verdict}
 use Rattle.image_check.specs.declared.verdict.Verdict.TheVariants.{Yes}
 use Rattle.rewrite_core.specs.declared.rewrite.RewriteError.{RewriteError}

@@ -13,8 +13,9 @@ use Rattle.start_entries.specs.Entries.{entries_of}
 use Rattle.patch_report.specs.Values.{ReportValue}
 use Rattle.image_step.specs.declared.runner.Runner.{Runner}
 use Rattle.image_step.specs.Running.{Shows, machine_in}
-use Rattle.image_step.specs.Starting.{start_machine}
-use Rattle.image_check.specs.Verdict.{case_of, IsVerdict}
+use Rattle.image_runs.specs.Starting.{start_machine}
+use Rattle.sound_images.specs.Cases.{case_of}
+use Rattle.image_check.specs.Verdict.{IsVerdict}
 use Rattle.rewrite_core.specs.declared.rewrite.RewriteError.{RewriteError}
 use Rattle.rewrite_core.specs.Asked.{Asked}
 use Rattle.rewrite_core.specs.Judging.{Job, HasStarts, Judges}

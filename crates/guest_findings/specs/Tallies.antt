@@ -8,10 +8,10 @@ use Rattle.insn_form.specs.Step.{Step}
 use Rattle.start_entries.specs.Entries.{entries_of}
 use Rattle.image_step.specs.declared.runner.Runner.{Runner}
 use Rattle.image_step.specs.declared.runner.RunEnd.{RunEnd}
-use Rattle.image_step.specs.Listed.{is_start}
-use Rattle.image_step.specs.Quiet.{IsQuiet}
+use Rattle.image_runs.specs.Listed.{is_start}
+use Rattle.image_runs.specs.Quiet.{IsQuiet}
 use Rattle.image_step.specs.Running.{Ends, machine_in}
-use Rattle.image_step.specs.Starting.{start_machine}
+use Rattle.image_runs.specs.Starting.{start_machine}
 
 -- What is told of a run: how many steps it has, why it has no more where it has fewer than were asked for, whether it is
 -- quiet, how many of its states stand at a listed start, and its last state.

@@ -7,7 +7,7 @@ ghost use Rattle.start_entries.specs.Entries.{entries_of};
 ghost use Rattle.start_entries.specs.Laws.{IsBuilt};
 ghost use Rattle.start_entries.specs.Refusals.{first_refusal};
 ghost use Rattle.image_step.specs.Running.{Shows};
-ghost use Rattle.image_step.specs.Starting.{start_machine};
+ghost use Rattle.image_runs.specs.Starting.{start_machine};
 
 use cpu_state::script::Script;
 use elf_read::elf::{Elf, read_elf, read_written};

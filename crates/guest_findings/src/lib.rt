@@ -1,6 +1,6 @@
 //! The tally of a run, and what is found of a guest that is patched and run beside its patched file.
 //!
-//! Stands on `command_words`, `rewrite_core` and `guest_gen`; `inspect_commands` stands on it.
+//! Stands on `command_words`, `rewrite_core`, `image_check`, `image_step` and `guest_gen`; `inspect_commands` stands on it.
 #![tactic(auto)]
 
 mod accepted_files;

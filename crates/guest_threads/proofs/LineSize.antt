@@ -16,7 +16,7 @@ use Rattle.start_entries.specs.Finding.{entry_at}
 use Rattle.start_entries.specs.Standing.{AreEntries}
 use Rattle.start_list.specs.Forms as forms
 use Rattle.patch_report.proofs.ListPlaces.{In, all_in}
-use Rattle.image_check.specs.Reports.{Line}
+use Rattle.sound_images.specs.Reports.{Line}
 use Rattle.site_turns.specs.Modes.{thread_event_size, thread_event_of}
 use Rattle.site_turns.specs.States.{Scene, State}
 use Rattle.site_turns.specs.Folded.{Done, done_by, size_from, code_size, in_code}

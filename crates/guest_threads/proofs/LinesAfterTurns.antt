@@ -12,7 +12,7 @@ use Rattle.patch_report.proofs.ListPlaces.{In, all_in, all_from, some_is}
 use Rattle.start_entries.specs.declared.entry.StartEntry.{StartEntry}
 use Rattle.start_entries.specs.Leading.{Leads}
 use Rattle.start_entries.specs.Standing.{AreEntries}
-use Rattle.image_check.specs.Reports.{Line, row_lines}
+use Rattle.sound_images.specs.Reports.{Line, row_lines}
 use Rattle.site_turns.specs.States.{Scene, State, memory_at, first_state}
 use Rattle.site_turns.specs.Choices.{Choice, IsTurns, state_after}
 use Rattle.site_turns.specs.Folded.{done_by}
@@ -28,7 +28,8 @@ use Rattle.site_turns.proofs.TurnFold.{turns_keep, turns_tell}
 use Rattle.guest_threads.specs.FromTurns.{IsForThreads, IsThreadLine, HaveRoom, TurnsForThreads, MarksHaveRoom}
 use Rattle.site_turns.specs.Modes.{can_in_threads}
 use Rattle.thread_runs.specs.Building.{kind_of}
-use Rattle.thread_runs.specs.ThreadCode.{Marks, mark_at, mark_len}
+use Rattle.thread_runs.specs.ThreadCode.{Marks}
+use Rattle.trampoline.specs.EventLists.{mark_at, mark_len}
 
 module _ (g : Scene) (sites : List StartEntry) (choices : List Choice) (A : AreEntries g.image g.entries) (T : IsForThreads g) (s : AreSites g sites)
     (h : IsTurns g five (first_state g) sites choices) where

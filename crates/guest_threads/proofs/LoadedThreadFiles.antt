@@ -21,8 +21,8 @@ use Rattle.start_entries.specs.declared.entry.StartEntry.{StartEntry}
 use Rattle.start_entries.specs.Finding.{entry_at}
 use Rattle.start_entries.specs.Standing.{AreEntries}
 use Rattle.start_entries.proofs.ImageEntries.{built_are_entries}
-use Rattle.image_check.specs.Reports.{Line}
-use Rattle.image_check.specs.Rules.{displaced_from}
+use Rattle.sound_images.specs.Reports.{Line}
+use Rattle.sound_images.specs.Rules.{displaced_from}
 use Rattle.scheme_search.proofs.OneJumpBytes.{within_parts}
 use Rattle.site_turns.specs.Modes.{IsShared}
 use Rattle.site_turns.specs.PrivateRange.{taken_first}

@@ -15,8 +15,8 @@ use Rattle.relocate_insn.specs.declared.relocation.NotRelocatable.{NotRelocatabl
 use Rattle.start_entries.specs.declared.entry.StartEntry.{StartEntry}
 use Rattle.start_entries.specs.Finding.{entry_at}
 use Rattle.start_entries.specs.Laws.{IsBuilt}
-use Rattle.image_check.specs.Reports.{Line}
-use Rattle.image_check.proofs.CodeAtStarts.{IsReadAt, read_at, found_address}
+use Rattle.sound_images.specs.Reports.{Line}
+use Rattle.sound_images.proofs.ReadInstructions.{IsReadAt, read_at, found_address}
 use Rattle.trampoline.specs.Atomic.{thread_len, back, can_by}
 use Rattle.site_turns.specs.Modes.{can_in_threads, thread_event_of}
 use Rattle.site_turns.specs.StartInsns.{form_from, form_at, IsInsnAt}

@@ -10,10 +10,11 @@ use Rattle.pun_base.specs.declared.action.Base.TheVariants.{Cover, Count}
 use Rattle.start_entries.specs.declared.entry.StartEntry.{StartEntry}
 use Rattle.start_entries.specs.Finding.{entry_at}
 use Rattle.patch_report.proofs.ListPlaces.{In, any_at, contains_at, place_of, finds, in_flat, from_flat, all_in, some_is}
-use Rattle.image_check.specs.Reports.{Line}
+use Rattle.sound_images.specs.Reports.{Line}
 use Rattle.site_turns.specs.Modes.{thread_event_of}
 use Rattle.thread_runs.specs.Building.{kind_of, event_of}
-use Rattle.thread_runs.specs.ThreadCode.{Kind, Marks, mark_at, mark_len}
+use Rattle.thread_runs.specs.ThreadCode.{Kind, Marks}
+use Rattle.trampoline.specs.EventLists.{mark_at, mark_len}
 use Rattle.thread_runs.specs.Threading.{ThreadSite}
 use Rattle.guest_threads.specs.FromTurns.{site_with, site_of, HaveRoom}
 

@@ -23,9 +23,9 @@ use Rattle.patch_report.proofs.ListPlaces.{In, all_in, all_from, in_map, contain
 use Rattle.start_entries.specs.declared.entry.StartEntry.{StartEntry}
 use Rattle.start_entries.specs.Finding.{entry_at}
 use Rattle.start_entries.specs.Standing.{AreEntries}
-use Rattle.image_check.specs.Reports.{Line, row_lines, runs_of}
-use Rattle.image_check.specs.Rules.{displaced_from}
-use Rattle.image_check.proofs.CodeAtStarts.{found_address}
+use Rattle.sound_images.specs.Reports.{Line, row_lines, runs_of}
+use Rattle.sound_images.specs.Rules.{displaced_from}
+use Rattle.sound_images.proofs.ReadInstructions.{found_address}
 use Rattle.site_turns.specs.Folded.{code_size, done_by}
 use Rattle.site_turns.specs.Jobs.{patch_of}
 use Rattle.site_turns.specs.Modes.{thread_rules, IsShared}

@@ -16,9 +16,9 @@ use Rattle.start_entries.specs.Leading.{JumpsTo, Leads}
 use Rattle.start_entries.specs.Standing.{AreEntries}
 use Rattle.start_entries.proofs.ExecutedEntries.{spelling_some}
 use Rattle.patch_report.proofs.ListPlaces.{In, found, counted_twice, all_in}
-use Rattle.image_check.specs.Reports.{Line}
-use Rattle.image_check.proofs.FixedJumps.{any_found}
-use Rattle.image_check.proofs.LoadedCode.{loaded_fixed}
+use Rattle.sound_images.specs.Reports.{Line}
+use Rattle.sound_images.proofs.FoundElements.{any_found}
+use Rattle.sound_images.proofs.LoadedCode.{loaded_fixed}
 use Rattle.site_turns.specs.States.{Scene, State, memory_at}
 use Rattle.site_turns.specs.Folded.{Done, done_by, in_runs, starts_at, in_code, IsKept, IsFolded}
 use Rattle.site_turns.specs.Laws.{EventsAreNumbered}

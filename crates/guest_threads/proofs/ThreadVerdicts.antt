@@ -7,7 +7,7 @@ use Rattle.page_group.specs.Grouping.{GroupsState}
 use Rattle.address_space.specs.declared.extent.Extent.{Extent}
 use Rattle.address_space.specs.Free.{extent_of}
 use Rattle.patch_report.specs.Values.{RowValue, written as report_written}
-use Rattle.image_check.specs.Reports.{Line, row_lines}
+use Rattle.sound_images.specs.Reports.{Line, row_lines}
 use Rattle.site_turns.specs.Modes.{thread_rules}
 use Rattle.site_turns.specs.PlannedState.{PlannedState}
 use Rattle.site_turns.specs.Planning.{Request, Turns, AreTurnsUnder, AreCodesBy, end_under}

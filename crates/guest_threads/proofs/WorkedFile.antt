@@ -53,7 +53,7 @@ use Rattle.start_entries.specs.SharedBytes.{is_shared, marked}
 use Rattle.start_entries.specs.Standing.{AreEntries}
 use Rattle.start_list.specs.TurnViews.{TurnView}
 use Rattle.scheme_search.proofs.OneJumpBytes.{within_true, within_parts, written_is, punned_is}
-use Rattle.image_check.proofs.WorkedImage.{only}
+use Rattle.sound_images.proofs.WorkedImage.{only}
 use Rattle.site_turns.specs.Choices.{Choice, Apply}
 use Rattle.site_turns.specs.Jobs.{AreTurnsOf}
 use Rattle.site_turns.specs.Laws.{five}

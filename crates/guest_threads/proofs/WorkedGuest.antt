@@ -24,8 +24,8 @@ use Rattle.relocate_insn.specs.Worked.{is_between}
 use Rattle.relocate_insn.proofs.PieceSteps.{jump_fields, jump_is}
 use Rattle.relocate_insn.proofs.WorkedStates.{small_zeros}
 use Rattle.trampoline.specs.Worked.{jump_to_itself}
-use Rattle.image_check.specs.Reports.{row_lines}
-use Rattle.image_check.proofs.WorkedImage.{inside, between, spread_out}
+use Rattle.sound_images.specs.Reports.{row_lines}
+use Rattle.sound_images.proofs.WorkedImage.{inside, between, spread_out}
 use Rattle.patch_report.proofs.ListPlaces.{some_is}
 use Rattle.site_turns.proofs.CodeSizes.{one_standing}
 use Rattle.thread_runs.specs.Event.Point.{At0, At1, At2, At3, At4, At5, At6}
@@ -36,7 +36,7 @@ use Rattle.thread_runs.specs.Guest.{machine_of}
 use Rattle.thread_runs.specs.Premises.{IsQuietAt, StandAtStarts, touches_none, reads_nothing_of, IsProper, IsProperRun}
 use Rattle.thread_runs.specs.Theorem.{AreStartGuests, CanGo}
 use Rattle.thread_runs.specs.ThreadCode.{Marks, saved_from, saved_len}
-use Rattle.thread_runs.specs.ThreadSteps.{thread_task, ThreadStepsBy}
+use Rattle.event_steps.specs.ThreadSteps.{thread_task, ThreadStepsBy}
 use Rattle.thread_runs.specs.Threading.{Threading, is_hidden, is_new, in_event, saves, has_saved, is_saved_by}
 use Rattle.thread_runs.specs.Watching.{Watched, Watch, stale_after, is_effect, watched_after, Watches}
 use Rattle.guest_threads.specs.WorkedFile.{row_text, row_entry, row_value, row_threading}

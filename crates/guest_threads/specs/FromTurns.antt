@@ -19,7 +19,7 @@ use Rattle.start_entries.specs.Finding.{entry_at}
 use Rattle.start_entries.specs.Leading.{Leads}
 use Rattle.start_entries.specs.Standing.{AreEntries}
 use Rattle.start_entries.specs.Laws.{AreStarts}
-use Rattle.image_check.specs.Reports.{Line}
+use Rattle.sound_images.specs.Reports.{Line}
 use Rattle.site_turns.specs.PrivateRange.{taken_first, IsPrivate}
 use Rattle.site_turns.specs.States.{Scene, State, memory_at, first_state}
 use Rattle.site_turns.specs.Choices.{Choice, IsTurns, state_after}
@@ -27,7 +27,8 @@ use Rattle.site_turns.specs.Laws.{five, AreSites, EventsAreNumbered}
 use Rattle.site_turns.specs.Folded.{done_by, in_code, IsFolded}
 use Rattle.site_turns.specs.Loaded.{AreShown}
 use Rattle.site_turns.specs.Jobs.{patch_of, AreTurnsOf}
-use Rattle.thread_runs.specs.ThreadCode.{Kind, Marks, Keeps, mark_at, mark_len, slot_at, code_if}
+use Rattle.thread_runs.specs.ThreadCode.{Kind, Marks, Keeps, slot_at, code_if}
+use Rattle.trampoline.specs.EventLists.{mark_at, mark_len}
 use Rattle.site_turns.specs.Modes.{can_in_threads, IsShared, thread_event_size, thread_event_of}
 use Rattle.thread_runs.specs.Theorem.{AreFollowed, GetOut}
 use Rattle.thread_runs.specs.Building.{kind_of, event_of, when_of}

@@ -11,7 +11,7 @@ use Rattle.elf_read.specs.Refusals.{refusal}
 use Rattle.start_entries.specs.declared.entry.StartEntry.{StartEntry}
 use Rattle.start_entries.specs.Finding.{entry_at}
 use Rattle.start_entries.specs.Laws.{IsBuilt}
-use Rattle.image_check.specs.Reports.{Line}
+use Rattle.sound_images.specs.Reports.{Line}
 use Rattle.site_turns.specs.Modes.{thread_rules, IsShared, can_in_threads}
 use Rattle.site_turns.specs.PlannedState.{PlannedState}
 use Rattle.site_turns.specs.Planning.{Request, Turns, lines_of, AreCodesBy, IsTurned}

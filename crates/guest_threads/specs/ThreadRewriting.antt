@@ -15,7 +15,7 @@ use Rattle.elf_emit.specs.Layout.{layout}
 use Rattle.patch_report.specs.Grammar.{IsReport}
 use Rattle.patch_report.specs.Values.{RowValue, ReportValue, row_value, written as report_written}
 use Rattle.start_entries.specs.Entries.{entries_of}
-use Rattle.image_check.specs.Reports.{row_lines}
+use Rattle.sound_images.specs.Reports.{row_lines}
 use Rattle.site_turns.specs.Modes.{thread_rules}
 use Rattle.site_turns.specs.PlannedState.{PlannedState}
 use Rattle.site_turns.specs.Planning.{Request, Turns, end_under}

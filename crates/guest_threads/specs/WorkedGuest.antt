@@ -6,13 +6,13 @@ use Rattle.cpu_state.specs.declared.state.Core.{Core}
 use Rattle.cpu_state.specs.Bytes.{number_at}
 use Rattle.relocate_insn.specs.Worked.{spread}
 use Rattle.start_entries.specs.Standing.{AreEntries}
-use Rattle.thread_runs.specs.ThreadCode.{counter_at}
+use Rattle.trampoline.specs.EventLists.{counter_at}
 use Rattle.thread_runs.specs.Guest.{Thread, Guest}
 use Rattle.thread_runs.specs.Threading.{Threading, IsThreadSound}
 use Rattle.thread_runs.specs.Watching.{Watched, Watch, watch_of}
 use Rattle.thread_runs.specs.Premises.{IsProperRun}
 use Rattle.thread_runs.specs.Theorem.{AreStartGuests, CanGo, last_watch}
-use Rattle.image_step.specs.declared.delivery.Delivery.{Delivery}
+use Rattle.image_runs.specs.declared.delivery.Delivery.{Delivery}
 use Rattle.thread_runs.specs.GuestDeliveries.{Goes, Takes}
 use Rattle.thread_runs.specs.WatchedDeliveries.{WatchWith, watch_with, IsProperRunWith, last_with}
 use Rattle.guest_threads.specs.WorkedFile.{row_threading}

@@ -16,8 +16,8 @@ use Rattle.elf_read.proofs.AcceptedFiles.{is_accepted}
 use Rattle.elf_read.proofs.HoldingSegments.{image_at}
 use Rattle.elf_read.proofs.SegmentSearch.{covers_parts}
 use Rattle.image_check.specs.declared.rule.Rule.TheVariants as rule
-use Rattle.image_check.specs.Reports.{is_written}
-use Rattle.image_check.specs.Rules.{Case, differs}
+use Rattle.sound_images.specs.Reports.{is_written}
+use Rattle.sound_images.specs.Rules.{Case, differs}
 use Rattle.image_check.specs.Stretches.{HasFrom, HoldsTo, IsSameAt}
 use Rattle.image_check.proofs.FileParts.{found_all, found_in}
 

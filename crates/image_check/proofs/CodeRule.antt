@@ -14,10 +14,10 @@ use Rattle.image_check.specs.CodeParts.{code_span, ArePlaced, IsPlaced, in_code,
 use Rattle.image_check.specs.declared.rule.Rule.TheVariants as rule
 use Rattle.image_check.specs.declared.span.Span.{Span}
 use Rattle.image_check.specs.Parts.{Covers, in_span, line_of}
-use Rattle.image_check.specs.Reports.{Line, on_page}
+use Rattle.sound_images.specs.Reports.{Line, on_page}
 use Rattle.image_check.specs.Stretches.{CoversFirst, CodeBroken}
-use Rattle.image_check.specs.Rules.{Case, HasCode, LiesIn, HoldsCode, CodeFails}
-use Rattle.image_check.proofs.CountedElements.{by_count, count_cons}
+use Rattle.sound_images.specs.Rules.{Case, HasCode, LiesIn, HoldsCode, CodeFails}
+use Rattle.sound_images.proofs.CountedElements.{by_count, count_cons}
 use Rattle.image_check.proofs.NearCounts.{any_moved}
 use Rattle.image_check.proofs.NearCode.{code_moved}
 

@@ -6,8 +6,8 @@ use Rattle.elf_read.proofs.PlainFronts.{is_false}
 use Rattle.image_check.specs.declared.flat.ReportLine.{ReportLine}
 use Rattle.image_check.specs.Parts.{line_of}
 use Rattle.image_check.specs.Jumps.{LineFails, AnyLineFails}
-use Rattle.image_check.specs.Reports.{Line}
-use Rattle.image_check.specs.Rules.{Case}
+use Rattle.sound_images.specs.Reports.{Line}
+use Rattle.sound_images.specs.Rules.{Case}
 
 -- the last reason to fail, where the others don't hold
 pub last_reason : (P Q L : Type 0) (E : Type 0) (b : Bool) → E → (P → ⊥) → (Q → ⊥) → IsTrue b ↔ L → IsTrue (not b) ↔ (E × (P ⊎ Q ⊎ (L → ⊥)))

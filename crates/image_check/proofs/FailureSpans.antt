@@ -15,8 +15,8 @@ use Rattle.image_check.specs.declared.span.Span.{Span}
 use Rattle.image_check.specs.Parts.{Covers, FindsFirst, any_row_bad, least_bad, option_spans, in_span, in_spans, line_of, run_span, single_span}
 use Rattle.image_check.specs.Jumps.{LineFails}
 use Rattle.image_check.specs.Stretches.{CoversFirst, LineBroken, RunBroken}
-use Rattle.image_check.specs.Reports.{Line, lines, in_run, runs}
-use Rattle.image_check.specs.Rules.{Case, RowFails, SiteFails}
+use Rattle.sound_images.specs.Reports.{Line, lines, in_run, runs}
+use Rattle.sound_images.specs.Rules.{Case, RowFails, SiteFails}
 use Rattle.image_check.proofs.RuleTests.{write_is}
 use Rattle.image_check.proofs.NearCounts.{any_moved}
 use Rattle.image_check.specs.Verdict.{IsLeastOf}

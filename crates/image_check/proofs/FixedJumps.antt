@@ -1,7 +1,6 @@
 -- Code that stays, and the one jump that can stand there.
 use Rattle.std.proofs.Common.{◌≡◌, inl, inr, ◌↔◌, ℕ, zero, suc, ◌+◌, ◌<◌, ◌≤◌, Bool, true, false, cond, IsTrue, List, [], ◌∷◌, ◌++◌, length, drop, Option, Some, None, is_some, append_assoc, append-nil, refl, sym, ap, ◌∙◌, subst, arith}
-use Rattle.std.specs.Prelude.{◌==◌, ◌&&◌, ◌||◌, not, bit_and, ℤ, Ok}
-use Rattle.std.specs.List.{list_any, find}
+use Rattle.std.specs.Prelude.{◌==◌, ◌&&◌, not, bit_and, ℤ, Ok}
 use Rattle.std.proofs.lemmas.Bool.{eqb-true, eq-eqb}
 use Rattle.pun_base.specs.Memory.{Cell, Bytes}
 use Rattle.length_decode.specs.declared.instruction_parts.Parts.{Parts}
@@ -50,16 +49,6 @@ not_unknown s p e h = cc
 -- what is too short isn't known
 pub not_short : (s : Shape) (p : Parts) → s ≡ Short → s ≡ Known p → ⊥
 not_short s p e h = cc
-
--- something is found in a list where the first passes or something is found in the rest
-found_by : {X : Type 0} (b : Bool) (x : X) (r : Bool) (o : Option X) → r ≡ is_some o → (b || r) ≡ is_some (cond b (Some x) o)
-found_by true x r o e = refl
-found_by false x r o e = e
-
--- something passes a test exactly where a search finds something
-pub any_found : {X : Type 0} (p : X → Bool) (xs : List X) → list_any p xs ≡ is_some (find p xs)
-any_found p [] = refl
-any_found p (x ∷ xs) = found_by (p x) x (list_any p xs) (find p xs) (any_found p xs)
 
 -- a byte whose permissions are those of code that isn't writable is that byte
 fixed_cell : (p q : Bool) (b n : ℕ) → not p ≡ true → not q ≡ false → n ≡ b → cond (not p && q) (Some n) None ≡ Some b

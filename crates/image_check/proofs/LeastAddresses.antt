@@ -7,7 +7,7 @@ use Rattle.elf_read.proofs.PlainFronts.{is_false}
 use Rattle.image_check.specs.declared.rule.Rule.{Rule}
 use Rattle.image_check.specs.declared.span.Span.{Span}
 use Rattle.image_check.specs.Parts.{Covers, FindsFirst, HaveAll, FailsIn, FailsAmong, in_span, in_spans, lesser_of}
-use Rattle.image_check.specs.Rules.{Case}
+use Rattle.sound_images.specs.Rules.{Case}
 use Rattle.image_check.specs.Verdict.{FailsBy, IsLeastOf}
 
 -- a set is two together

@@ -8,8 +8,8 @@ use Rattle.pun_base.specs.Memory.{Cell}
 use Rattle.image_check.specs.declared.placed_code.PlacedCode.{PlacedCode}
 use Rattle.image_check.specs.CodeParts.{in_code, breaks_code, wrong_code}
 use Rattle.image_check.specs.Nearness.{IsNear}
-use Rattle.image_check.specs.Reports.{on_page}
-use Rattle.image_check.specs.Rules.{Case}
+use Rattle.sound_images.specs.Reports.{on_page}
+use Rattle.sound_images.specs.Rules.{Case}
 use Rattle.image_check.proofs.NearCounts.{any_near, any_moved, count_moved}
 
 -- code that holds an address is near it

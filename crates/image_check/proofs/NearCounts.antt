@@ -11,8 +11,8 @@ use Rattle.pun_base.specs.declared.plan.Write.{Write}
 use Rattle.patch_report.specs.Grammar.{AscendFrom}
 use Rattle.patch_report.specs.Values.{write_value}
 use Rattle.image_check.specs.Nearness.{IsNear}
-use Rattle.image_check.specs.Reports.{in_run}
-use Rattle.image_check.proofs.CountedElements.{by_count, count_cons}
+use Rattle.sound_images.specs.Reports.{in_run}
+use Rattle.sound_images.proofs.CountedElements.{by_count, count_cons}
 
 -- nothing is counted where nothing passes
 none_counted : {X : Type 0} (p : X → Bool) (xs : List X) → ((k : ℕ) (d : X) → k < length xs → p (get_or xs k d) ≡ false) → count_by p xs ≡ 0

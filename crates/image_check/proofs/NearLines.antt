@@ -7,8 +7,8 @@ use Rattle.image_check.specs.declared.flat.ReportLine.{ReportLine}
 use Rattle.image_check.specs.Jumps.{AnyLineFails}
 use Rattle.image_check.specs.Nearness.{IsNear}
 use Rattle.image_check.specs.Parts.{line_of}
-use Rattle.image_check.specs.Reports.{Line, lines}
-use Rattle.image_check.specs.Rules.{Case, EntryFails}
+use Rattle.sound_images.specs.Reports.{Line, lines}
+use Rattle.sound_images.specs.Rules.{Case, EntryFails}
 use Rattle.image_check.proofs.EntryRule.{to_contained, from_contained}
 use Rattle.image_check.proofs.NearCounts.{any_near}
 use Rattle.image_check.proofs.SharedPages.{any_map}

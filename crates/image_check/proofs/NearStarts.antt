@@ -13,8 +13,8 @@ use Rattle.image_check.specs.Jumps.{IsShort}
 use Rattle.image_check.specs.Nearness.{IsNear}
 use Rattle.image_check.specs.Parts.{displaced_among, belongs_among}
 use Rattle.start_entries.specs.SharedBytes.{has_byte}
-use Rattle.image_check.specs.Reports.{starts_line}
-use Rattle.image_check.proofs.CountedElements.{count_cons}
+use Rattle.sound_images.specs.Reports.{starts_line}
+use Rattle.sound_images.proofs.CountedElements.{count_cons}
 use Rattle.image_check.proofs.NearCounts.{any_near}
 
 -- an entry at an address begins at or less than 15 bytes below it

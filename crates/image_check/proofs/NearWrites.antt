@@ -5,8 +5,8 @@ use Rattle.std.proofs.lemmas.Bool.{and_parts}
 use Rattle.pun_base.specs.declared.plan.Write.{Write}
 use Rattle.patch_report.specs.Values.{write_value}
 use Rattle.image_check.specs.Nearness.{IsNear}
-use Rattle.image_check.specs.Reports.{in_run, runs}
-use Rattle.image_check.specs.Rules.{Case, mistells}
+use Rattle.sound_images.specs.Reports.{in_run, runs}
+use Rattle.sound_images.specs.Rules.{Case, mistells}
 use Rattle.image_check.proofs.NearCounts.{any_near, run_held}
 
 -- a run that tells a wrong byte there is near

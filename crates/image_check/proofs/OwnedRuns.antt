@@ -13,10 +13,10 @@ use Rattle.start_entries.specs.declared.entry.StartEntry.{StartEntry}
 use Rattle.start_entries.specs.Finding.{addresses}
 use Rattle.start_entries.specs.SharedBytes.{has_byte}
 use Rattle.start_entries.proofs.AscendingEntries.{entries_rise}
-use Rattle.image_check.specs.Reports.{in_run, runs, is_written, starts_line, times_written}
-use Rattle.image_check.specs.Rules.{Case, holds_byte, mistells, times_owned, belongs}
+use Rattle.sound_images.specs.Reports.{in_run, runs, is_written, starts_line, times_written}
+use Rattle.sound_images.specs.Rules.{Case, holds_byte, mistells, times_owned, belongs}
 use Rattle.image_check.specs.Stretches.{RunBroken, AreAlone, IsAloneAt, IsOwnedBy, IsToldRun, run_end}
-use Rattle.image_check.proofs.CountedElements.{by_count}
+use Rattle.sound_images.proofs.CountedElements.{by_count}
 use Rattle.image_check.proofs.NearCounts.{any_moved, count_map, count_moved}
 use Rattle.image_check.proofs.SharedPages.{any_map}
 use Rattle.image_check.proofs.SkippedSpans.{counted_once}

@@ -16,8 +16,8 @@ use Rattle.elf_read.proofs.AcceptedFiles.{is_accepted}
 use Rattle.image_check.specs.declared.rule.Rule.TheVariants as rule
 use Rattle.image_check.specs.declared.span.Span.{Span}
 use Rattle.image_check.specs.Parts.{FindsFirst, in_span, in_spans, single_span, first_page, last_page, page_first, page_last, segment_pages, report_pages, fixed_spans, private_span, edge_spans, kind_spans, range_spans, on_page_of, shares, wrong_range}
-use Rattle.image_check.specs.Reports.{in_private, on_page}
-use Rattle.image_check.specs.Rules.{Case, is_unexpected, RangeFails}
+use Rattle.sound_images.specs.Reports.{in_private, on_page}
+use Rattle.sound_images.specs.Rules.{Case, is_unexpected, RangeFails}
 use Rattle.image_check.proofs.RuleTests.{range_is}
 use Rattle.image_check.proofs.SegmentKinds.{kind_of, some_on, file_kind, private_cell}
 use Rattle.image_check.proofs.ZeroTails.{neither_of, neither_first, none_mapped, outside, reach_down, zero_looked_at}

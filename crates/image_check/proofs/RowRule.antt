@@ -7,8 +7,8 @@ use Rattle.patch_report.specs.Values.{BodyValue, RowValue}
 use Rattle.patch_report.proofs.ListPlaces.{some_is}
 use Rattle.start_entries.specs.Finding.{entry_at}
 use Rattle.image_check.specs.Parts.{row_is_bad, any_row_bad, is_too_short}
-use Rattle.image_check.specs.Reports.{private_len, tramps_of}
-use Rattle.image_check.specs.Rules.{Case, RowFails, is_own, is_below, row_before}
+use Rattle.sound_images.specs.Reports.{private_len, tramps_of}
+use Rattle.sound_images.specs.Rules.{Case, RowFails, is_own, is_below, row_before}
 
 -- where not all of three tests pass, one of them fails
 bad_cases : (a b d : Bool) → (not a || (not b || not d)) ≡ true → (a ≡ false) ⊎ (b ≡ false) ⊎ (d ≡ false)

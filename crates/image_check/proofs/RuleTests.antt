@@ -8,8 +8,8 @@ use Rattle.pun_base.specs.Memory.{Cell}
 use Rattle.elf_read.specs.Image.{image_of}
 use Rattle.elf_read.specs.Refusals.{refusal}
 use Rattle.image_check.specs.Parts.{wrong_write, wrong_range, shares}
-use Rattle.image_check.specs.Reports.{runs, times_written, in_private, on_page}
-use Rattle.image_check.specs.Rules.{Case, mistells, belongs, is_unexpected, WriteFails, RangeFails, SharesPage}
+use Rattle.sound_images.specs.Reports.{runs, times_written, in_private, on_page}
+use Rattle.sound_images.specs.Rules.{Case, mistells, belongs, is_unexpected, WriteFails, RangeFails, SharesPage}
 use Rattle.image_check.proofs.SharedPages.{shares_page, page_shares}
 
 -- a test that equals another is true exactly where that one is

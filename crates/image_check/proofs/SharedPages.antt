@@ -14,7 +14,7 @@ use Rattle.elf_read.specs.Image.{image, image_of, chunk_of, holds, cell_in}
 use Rattle.elf_read.specs.Refusals.{refusal}
 use Rattle.elf_read.proofs.AcceptedFiles.{is_accepted}
 use Rattle.image_check.specs.Parts.{on_page_of, shares}
-use Rattle.image_check.specs.Rules.{SharesPage}
+use Rattle.sound_images.specs.Rules.{SharesPage}
 
 -- a test of what a list is mapped to
 pub any_map : {X Y : Type 0} (p : Y → Bool) (f : X → Y) (xs : List X) → list_any p (map f xs) ≡ list_any (λ x. p (f x)) xs

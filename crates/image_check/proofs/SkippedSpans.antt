@@ -12,8 +12,8 @@ use Rattle.image_check.specs.declared.placed_code.PlacedCode.{PlacedCode}
 use Rattle.image_check.specs.declared.span.Span.{Span}
 use Rattle.image_check.specs.CodeParts.{in_code, holds_code, breaks_code, code_span}
 use Rattle.image_check.specs.Parts.{in_span, in_spans, single_span, line_of, unless}
-use Rattle.image_check.specs.Reports.{on_page}
-use Rattle.image_check.specs.Rules.{Case}
+use Rattle.sound_images.specs.Reports.{on_page}
+use Rattle.sound_images.specs.Rules.{Case}
 use Rattle.image_check.specs.Stretches.{HasFrom, CoversFirst, EndBelow, BeginFrom, CodeBroken, LineBroken, IsHeldCode, code_end}
 use Rattle.image_check.proofs.CodeRule.{two_places, held_back, code_in_span}
 use Rattle.image_check.specs.declared.flat.ReportLine.{ReportLine}

@@ -9,10 +9,10 @@ use Rattle.image_check.specs.declared.verdict.Verdict.TheVariants.{Yes, No}
 use Rattle.start_entries.specs.Standing.{AreEntries}
 use Rattle.patch_report.specs.Grammar.{IsTold}
 use Rattle.image_check.specs.Parts.{earlier_of, rule_number}
-use Rattle.image_check.specs.Rules.{Case, Fails}
-use Rattle.image_check.specs.Soundness.{IsCaseFollowed}
+use Rattle.sound_images.specs.Rules.{Case, Fails}
+use Rattle.sound_images.specs.Soundness.{IsCaseFollowed}
 use Rattle.image_check.specs.Verdict.{FailsBy, IsLeastOf, IsVerdict}
-use Rattle.image_check.proofs.StartPairs.{sound_followed}
+use Rattle.sound_images.proofs.StartPairs.{sound_followed}
 
 -- a rule fails by its number
 by_rule : (c : Case) (r : Rule) (x : ℕ) → FailsBy c r x → Fails c (rule_number r) x

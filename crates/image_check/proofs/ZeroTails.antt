@@ -17,8 +17,8 @@ use Rattle.elf_read.proofs.AcceptedFiles.{is_accepted}
 use Rattle.image_check.specs.declared.rule.Rule.TheVariants as rule
 use Rattle.image_check.specs.declared.span.Span.{Span}
 use Rattle.image_check.specs.Parts.{FindsFirst, in_span, in_spans, single_span, backed_span, end_span, file_spans, byte_spans}
-use Rattle.image_check.specs.Reports.{is_written}
-use Rattle.image_check.specs.Rules.{Case, differs, ByteFails}
+use Rattle.sound_images.specs.Reports.{is_written}
+use Rattle.sound_images.specs.Rules.{Case, differs, ByteFails}
 use Rattle.image_check.proofs.SharedPages.{any_map}
 
 -- where not either of two tests passes, neither does

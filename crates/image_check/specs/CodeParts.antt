@@ -12,8 +12,8 @@ use Rattle.image_check.specs.declared.placed_code.PlacedCode.{PlacedCode}
 use Rattle.image_check.specs.declared.span.Span.{Span}
 use Rattle.image_check.specs.Jumps.{IsShort}
 use Rattle.image_check.specs.Parts.{line_of}
-use Rattle.image_check.specs.Reports.{Line, lines, on_page}
-use Rattle.image_check.specs.Rules.{Case, HasCode}
+use Rattle.sound_images.specs.Reports.{Line, lines, on_page}
+use Rattle.sound_images.specs.Rules.{Case, HasCode}
 
 -- The bytes are the one code that a trampoline has, or no byte where it has none.
 pub record IsCodeOf (c : Case) (l : Line) (code : List ℕ) : Type 0 where

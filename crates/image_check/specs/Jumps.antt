@@ -15,8 +15,8 @@ use Rattle.start_entries.specs.declared.entry.StartEntry.{StartEntry}
 use Rattle.start_entries.specs.Leading.{Leads}
 use Rattle.image_check.specs.declared.flat.ReportLine.{ReportLine}
 use Rattle.image_check.specs.Parts.{line_of}
-use Rattle.image_check.specs.Reports.{Line, times_started}
-use Rattle.image_check.specs.Rules.{Case, displaced_at}
+use Rattle.sound_images.specs.Reports.{Line, times_started}
+use Rattle.sound_images.specs.Rules.{Case, displaced_at}
 
 -- A byte that is executable and not writable.
 abbrev pub fixed_byte : Option Cell → Option ℕ

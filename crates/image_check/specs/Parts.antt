@@ -17,8 +17,8 @@ use Rattle.image_check.specs.declared.rule.Rule.TheVariants as rule
 use Rattle.image_check.specs.declared.verdict.Verdict.{Verdict}
 use Rattle.image_check.specs.declared.verdict.Verdict.TheVariants.{Yes, No}
 use Rattle.image_check.specs.declared.span.Span.{Span}
-use Rattle.image_check.specs.Reports.{Line, lines, runs, is_written, times_written, starts_line, in_private, on_page, private_len, tramps_of}
-use Rattle.image_check.specs.Rules.{Case, mistells, belongs, is_unexpected, is_own, is_below}
+use Rattle.sound_images.specs.Reports.{Line, lines, runs, is_written, times_written, starts_line, in_private, on_page, private_len, tramps_of}
+use Rattle.sound_images.specs.Rules.{Case, mistells, belongs, is_unexpected, is_own, is_below}
 use Rattle.image_check.specs.Verdict.{FailsBy}
 
 -- The cell of a loaded byte.

@@ -15,8 +15,8 @@ use Rattle.image_check.specs.declared.span.Span.{Span}
 use Rattle.image_check.specs.CodeParts.{in_code, wrong_code}
 use Rattle.image_check.specs.Jumps.{LineFails}
 use Rattle.image_check.specs.Parts.{in_spans, line_of, wrong_write}
-use Rattle.image_check.specs.Reports.{in_run, is_written, on_page, starts_line}
-use Rattle.image_check.specs.Rules.{Case, holds_byte}
+use Rattle.sound_images.specs.Reports.{in_run, is_written, on_page, starts_line}
+use Rattle.sound_images.specs.Rules.{Case, holds_byte}
 use Rattle.image_check.specs.Verdict.{FailsBy}
 
 -- From an address on memory has these bytes, with these permissions.

@@ -1,14 +1,13 @@
 -- What a checker is given, the least address at which something holds, and when a verdict is true. Theorems cite it.
 use Rattle.std.specs.Prelude.{ℕ, ◌≤◌, List, Option, Some, None}
-use Rattle.elf_read.specs.Image.{image_of}
-use Rattle.elf_read.specs.Entries.{entry_of}
 use Rattle.start_entries.specs.declared.entry.StartEntry.{StartEntry}
 use Rattle.patch_report.specs.Values.{BodyValue}
 use Rattle.image_check.specs.declared.rule.Rule.{Rule}
 use Rattle.image_check.specs.declared.rule.Rule.TheVariants as rule
 use Rattle.image_check.specs.declared.verdict.Verdict.{Verdict}
 use Rattle.image_check.specs.declared.verdict.Verdict.TheVariants.{Yes, No}
-use Rattle.image_check.specs.Rules.{Case, IsSound, IsFirstFailure, ByteFails, WriteFails, EntryFails, CodeFails, RangeFails, SiteFails}
+use Rattle.sound_images.specs.Cases.{case_of}
+use Rattle.sound_images.specs.Rules.{Case, IsSound, IsFirstFailure, ByteFails, WriteFails, EntryFails, CodeFails, RangeFails, SiteFails}
 
 -- The files' bytes, the listed starts of the original, and the report.
 pub record Given : Type 0 where
@@ -16,18 +15,6 @@ pub record Given : Type 0 where
   pub patched : List ℕ
   pub listed : List StartEntry
   pub report : BodyValue
-
--- The case that the bytes of two files, the listed starts and the report make.
-abbrev pub case_of : List ℕ → List ℕ → List StartEntry → BodyValue → Case
-case_of original patched listed report =
-    record {
-      original = image_of original;
-      patched = image_of patched;
-      entry = entry_of original;
-      patched_entry = entry_of patched;
-      listed = listed;
-      report = report;
-    }
 
 -- The case that what is given makes.
 abbrev pub case_in : Given → Case

@@ -4,10 +4,10 @@ ghost use Rattle.elf_read.specs.declared.segment.Segment.{Segment};
 ghost use Rattle.elf_read.specs.Accepted.{Ascends};
 ghost use Rattle.elf_read.specs.Find.{segment_holding};
 ghost use Rattle.elf_read.specs.Image.{image_of};
-ghost use Rattle.image_check.specs.Reports.{is_written};
-ghost use Rattle.image_check.specs.Rules.{differs};
+ghost use Rattle.sound_images.specs.Reports.{is_written};
+ghost use Rattle.sound_images.specs.Rules.{differs};
 ghost use Rattle.image_check.specs.Stretches.{HoldsTo, IsSameAt};
-ghost use Rattle.image_check.specs.Verdict.{case_of};
+ghost use Rattle.sound_images.specs.Cases.{case_of};
 ghost use Rattle.image_check.specs.declared.rule.Rule.TheVariants.{Byte};
 ghost use Rattle.start_entries.specs.declared.entry.StartEntry.{StartEntry};
 

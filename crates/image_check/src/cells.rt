@@ -2,7 +2,7 @@
 ghost use Rattle.std.specs.Prelude.{◌≡◌, option_map};
 ghost use Rattle.elf_read.specs.Image.{image_of};
 ghost use Rattle.image_check.specs.Parts.{cell_of};
-ghost use Rattle.image_check.specs.Rules as rules;
+ghost use Rattle.sound_images.specs.Rules as rules;
 
 use elf_read::elf::Elf;
 

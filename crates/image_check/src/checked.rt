@@ -1,6 +1,7 @@
 //! A patched file with everything that the rules ask.
 ghost use Rattle.std.specs.Prelude.{◌≡◌, ◌↔◌, ◌≤◌, IsTrue, IfOk};
-ghost use Rattle.image_check.specs.Verdict.{case_of, case_in, FailsBy, IsLeastOf};
+ghost use Rattle.sound_images.specs.Cases.{case_of};
+ghost use Rattle.image_check.specs.Verdict.{case_in, FailsBy, IsLeastOf};
 ghost use Rattle.image_check.specs.Parts.{FailsIn, FailsAmong, FindsFirst};
 ghost use Rattle.image_check.specs.Stretches.{HoldsTo};
 ghost use Rattle.start_entries.specs.Laws.{IsBuilt};
@@ -37,7 +38,8 @@ pub struct Checked<'a> {
 
 impl<'a> Model for Checked<'a> {
     ghost use Rattle.image_check.specs.CodeParts.{IsReady};
-    ghost use Rattle.image_check.specs.Verdict.{Given, case_of};
+    ghost use Rattle.sound_images.specs.Cases.{case_of};
+    ghost use Rattle.image_check.specs.Verdict.{Given};
 
     ghost Value = { Given };
 

@@ -6,7 +6,7 @@ ghost use Rattle.start_entries.specs.declared.entry.StartEntry.{StartEntry};
 ghost use Rattle.image_check.specs.CodeParts as parts;
 ghost use Rattle.image_check.specs.Parts.{cell_of};
 ghost use Rattle.image_check.specs.Stretches.{CoversFirst, CodeBroken, EndBelow, IsHeldCode, code_end};
-ghost use Rattle.image_check.specs.Verdict.{case_of};
+ghost use Rattle.sound_images.specs.Cases.{case_of};
 
 use crate::cells::{LoadedByte, loaded_at};
 use crate::flat::FlatReport;

@@ -4,9 +4,9 @@ ghost use Rattle.std.specs.List.{AllByRecursion};
 ghost use Rattle.start_entries.specs.Listed.{IsSpelledEntry};
 ghost use Rattle.image_check.specs.Jumps.{LineFails, AnyLineFails};
 ghost use Rattle.image_check.specs.Parts.{line_of};
-ghost use Rattle.image_check.specs.Rules.{EntryFails, displaced_at};
+ghost use Rattle.sound_images.specs.Rules.{EntryFails, displaced_at};
 ghost use Rattle.image_check.specs.Stretches.{CoversFirst, LineBroken};
-ghost use Rattle.image_check.specs.Verdict.{case_of};
+ghost use Rattle.sound_images.specs.Cases.{case_of};
 
 use crate::flat::{FlatReport, ReportLine};
 use crate::jumps::leads;

@@ -5,7 +5,7 @@ ghost use Rattle.std.specs.List.Sorted.{IsPermutation, IsNonDecreasingBy};
 ghost use Rattle.patch_report.specs.Values.{write_value, row_value};
 ghost use Rattle.image_check.specs.Nearness.{IsNear};
 ghost use Rattle.image_check.specs.Parts.{line_of};
-ghost use Rattle.image_check.specs.Reports as reports;
+ghost use Rattle.sound_images.specs.Reports as reports;
 
 use crate::near::near;
 use patch_report::report::Report;
@@ -46,7 +46,7 @@ impl<'a> Model for FlatReport<'a> {
 }
 
 /// Appends the trampolines of a row.
-#[tactic(auto, using(crate::proofs::OutcomeTramps::tramps_told))]
+#[tactic(auto, using(sound_images::proofs::OutcomeTramps::tramps_told))]
 fn push_lines(lines: &mut Vec<ReportLine>, row: &ReportRow) -> Result<(), AllocError>
     ensures { OnOk result (map line_of lines.new.items
         ≡ map line_of lines.old.items ++ reports.row_lines (row_value row.now)) }
@@ -194,7 +194,7 @@ impl<'a> FlatReport<'a> {
     }
 
     /// Whether an address is in a run.
-    #[tactic(auto, using(crate::proofs::CountedElements::written_by_count))]
+    #[tactic(auto, using(sound_images::proofs::CountedElements::written_by_count))]
     pub(crate) fn is_written(&self, addr: u64) -> bool
         ensures { result ≡ reports.is_written self.now addr }
     {
@@ -221,7 +221,7 @@ impl<'a> FlatReport<'a> {
     }
 
     /// Whether an address is the start of a trampoline.
-    #[tactic(auto, using(crate::proofs::CountedElements::started_by_count))]
+    #[tactic(auto, using(sound_images::proofs::CountedElements::started_by_count))]
     pub(crate) fn starts_line(&self, addr: u64) -> bool
         ensures { result ≡ reports.starts_line self.now addr }
     {

@@ -1,6 +1,6 @@
 //! The checker of patched images.
 //!
-//! Stands on `trampoline`, `image_step`, `start_entries` and `patch_report`; `site_turns` and `thread_runs` stand on it.
+//! Stands on `sound_images`; `thread_check` and `guest_findings` stand on it.
 #![tactic(auto)]
 
 mod byte_rule;
@@ -11,7 +11,6 @@ mod cutting;
 mod entry_rule;
 pub mod flat;
 pub mod jumps;
-pub mod laws;
 mod lesser;
 mod near;
 pub mod placed;

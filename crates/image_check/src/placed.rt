@@ -6,8 +6,8 @@ ghost use Rattle.start_entries.specs.Laws.{IsBuilt};
 ghost use Rattle.patch_report.specs.Grammar.{IsTold};
 ghost use Rattle.image_check.specs.CodeParts.{IsCodeOf, IsLow, ArePlaced};
 ghost use Rattle.image_check.specs.Parts.{line_of};
-ghost use Rattle.image_check.specs.Reports as reports;
-ghost use Rattle.image_check.specs.Verdict.{case_of};
+ghost use Rattle.sound_images.specs.Reports as reports;
+ghost use Rattle.sound_images.specs.Cases.{case_of};
 
 use crate::flat::{FlatReport, ReportLine};
 use crate::placed_code::PlacedCode;

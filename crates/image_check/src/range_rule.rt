@@ -4,8 +4,8 @@ ghost use Rattle.std.specs.List.{list_any};
 ghost use Rattle.start_entries.specs.declared.entry.StartEntry.{StartEntry};
 ghost use Rattle.elf_read.specs.Refusals.{refusal};
 ghost use Rattle.image_check.specs.Parts.{cell_of, wrong_range, on_page_of, shares};
-ghost use Rattle.image_check.specs.Rules as rules;
-ghost use Rattle.image_check.specs.Verdict.{case_of};
+ghost use Rattle.sound_images.specs.Rules as rules;
+ghost use Rattle.sound_images.specs.Cases.{case_of};
 
 use crate::cells::{LoadedByte, loaded_at};
 use crate::flat::FlatReport;

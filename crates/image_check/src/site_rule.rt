@@ -5,9 +5,9 @@ ghost use Rattle.pun_base.specs.Limits.{most_sites};
 ghost use Rattle.elf_read.specs.Entries.{entry_of};
 ghost use Rattle.patch_report.specs.Values.{row_value};
 ghost use Rattle.image_check.specs.Parts.{row_is_bad, any_row_bad, least_bad, is_too_short};
-ghost use Rattle.image_check.specs.Rules as rules;
-ghost use Rattle.image_check.specs.Rules.{SiteFails};
-ghost use Rattle.image_check.specs.Verdict.{case_of};
+ghost use Rattle.sound_images.specs.Rules as rules;
+ghost use Rattle.sound_images.specs.Rules.{SiteFails};
+ghost use Rattle.sound_images.specs.Cases.{case_of};
 
 use crate::lesser::lesser;
 use elf_read::elf::Elf;
@@ -46,7 +46,7 @@ fn is_below(site: u32, before: Option<&ReportRow>) -> bool
 
 /// Whether a row that comes after another one is bad: its site isn't listed or isn't below the one
 /// before, or its trampolines aren't the site's.
-#[tactic(auto, using(crate::proofs::OutcomeTramps::tramps_told))]
+#[tactic(auto, using(sound_images::proofs::OutcomeTramps::tramps_told))]
 fn is_bad(row: &ReportRow, before: Option<&ReportRow>, starts: &Starts) -> bool
     ensures { result ≡ row_is_bad starts.now (option_map (λ r. row_value r.now) before.entry)
         (row_value row.now) }

@@ -3,8 +3,9 @@ ghost use Rattle.std.specs.Prelude.{◌≡◌, IfOk};
 ghost use Rattle.start_entries.specs.Laws.{IsBuilt};
 ghost use Rattle.image_check.specs.Parts.{earlier_of, rule_number};
 ghost use Rattle.image_check.specs.declared.verdict.Verdict.TheVariants.{Yes};
-ghost use Rattle.image_check.specs.Soundness.{IsCaseFollowed};
-ghost use Rattle.image_check.specs.Verdict.{case_of, IsVerdict};
+ghost use Rattle.sound_images.specs.Soundness.{IsCaseFollowed};
+ghost use Rattle.sound_images.specs.Cases.{case_of};
+ghost use Rattle.image_check.specs.Verdict.{IsVerdict};
 
 use crate::checked::Checked;
 use crate::rule::Rule;

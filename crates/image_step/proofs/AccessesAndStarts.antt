@@ -9,7 +9,7 @@ use Rattle.cpu_state.specs.Bytes.{advanced, avoids}
 use Rattle.start_entries.specs.declared.entry.StartEntry.{StartEntry}
 use Rattle.start_entries.specs.Finding.{addresses, entry_at}
 use Rattle.start_entries.proofs.AscendingEntries.{first_below, increasing_rest}
-use Rattle.image_step.specs.Listed.{is_known_start, is_start}
+use Rattle.image_runs.specs.Listed.{is_known_start, is_start}
 
 -- Where the set has no byte at an address, all are avoided exactly where those behind it are.
 pub avoid_more : (set : ℕ → Bool) (at n k : ℕ) (whole : Bool) → k < n → set at ≡ false → avoids set at (n - k) ≡ whole → avoids set ((at + 1) % 2 ^ 64) (n - (k + 1)) ≡ whole

@@ -7,12 +7,12 @@ use Rattle.std.proofs.lemmas.List.{take_more}
 use Rattle.start_entries.specs.declared.entry.StartEntry.{StartEntry}
 use Rattle.insn_form.specs.Machine.{Machine}
 use Rattle.cpu_step.specs.declared.stop.Stop.{Stop}
-use Rattle.image_step.specs.declared.delivery.Delivery.{Delivery}
+use Rattle.image_runs.specs.declared.delivery.Delivery.{Delivery}
 use Rattle.image_step.specs.declared.delivery.Due.{Due}
 use Rattle.image_step.specs.declared.delivery.Halted.{Halted}
 use Rattle.image_step.specs.declared.delivery.Halted.TheVariants.{NoStep, NoFit}
 use Rattle.image_step.specs.declared.runner.Runner.{Runner}
-use Rattle.image_step.specs.Deliveries.{Item, Stepped, Taken, delivered, stepped_at}
+use Rattle.image_runs.specs.Deliveries.{Item, Stepped, Taken, delivered, stepped_at}
 use Rattle.image_step.specs.Fitting.{IsUnfit}
 use Rattle.image_step.specs.Running.{Ends, machine_in}
 use Rattle.image_step.specs.Scheduled.{Delivers, EndsBy, GoesOn, GoesUpTo, ShowsWith, are_below, halted_by, numbered, rise}

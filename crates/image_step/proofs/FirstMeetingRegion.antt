@@ -8,7 +8,7 @@ use Rattle.cpu_state.specs.Adding.{lower}
 use Rattle.cpu_state.specs.Script.{are_regions, ascend, body_size, is_bounded, is_permission}
 use Rattle.elf_read.specs.declared.segment.Segment.{Segment}
 use Rattle.elf_read.specs.Entries.{loads, segments}
-use Rattle.image_step.specs.Starting.{least_meeting, least_met_of, meets_image}
+use Rattle.image_runs.specs.Starting.{least_meeting, least_met_of, meets_image}
 use Rattle.image_step.proofs.Entries.{left_from}
 
 -- What is left of regions ascends, and has the least one that meets.

@@ -17,7 +17,7 @@ use Rattle.start_entries.specs.SharedBytes.{marked}
 use Rattle.start_entries.specs.Finding.{addresses}
 use Rattle.start_entries.proofs.EntrySearch.{non_decreasing, nowhere}
 use Rattle.start_entries.proofs.WindowLengths.{window_short}
-use Rattle.image_step.specs.Listed.{BeginBelow, HaveNone, IsParted, are_short, is_listed_byte}
+use Rattle.image_runs.specs.Listed.{BeginBelow, HaveNone, IsParted, are_short, is_listed_byte}
 
 -- ---- entries have at most 15 bytes
 

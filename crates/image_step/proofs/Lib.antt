@@ -8,15 +8,12 @@ pub mod DraftLines
 pub mod TakenLines
 pub mod TextSoFar
 pub mod Entries
-pub mod MoreItems
 pub mod Steps
 pub mod OpenBytes
 pub mod DueDeliveries
 pub mod FirstMeetingRegion
-pub mod MemorySoFar
 pub mod AccessesAndStarts
 pub mod RunnerSteps
-pub mod RegionsOutsideImages
 pub mod InstructionByteSearch
 pub mod Languages
 pub mod ScenarioLines

@@ -9,9 +9,10 @@ use Rattle.cpu_state.specs.Processor.{IsProcessorCore}
 use Rattle.insn_form.specs.Machine.{Machine, avoids_writes}
 use Rattle.insn_form.specs.Plan.{lacking_writes, or_first}
 use Rattle.start_entries.specs.declared.entry.StartEntry.{StartEntry}
-use Rattle.image_step.specs.Deliveries.{Delivery}
+use Rattle.image_runs.specs.declared.delivery.Delivery.{Delivery}
+use Rattle.image_runs.specs.Deliveries.{}
 use Rattle.image_step.specs.Fitting.{FitsWhereOpen, IsUnfit, addresses_from, first_refused, is_open, unfit_at, written}
-use Rattle.image_step.specs.Listed.{is_listed_byte, is_start}
+use Rattle.image_runs.specs.Listed.{is_listed_byte, is_start}
 use Rattle.image_step.proofs.Entries.{left_from}
 
 -- The first of two lists is the first one's, or else the second one's.

@@ -10,11 +10,12 @@ use Rattle.cpu_step.specs.declared.stop.Stop.{Stop}
 use Rattle.image_step.specs.declared.delivery.Due.{Due}
 use Rattle.image_step.specs.declared.runner.RunEnd.{RunEnd}
 use Rattle.image_step.specs.declared.runner.Runner.{Runner}
-use Rattle.image_step.specs.Listed.{is_start}
-use Rattle.image_step.specs.Deliveries.{Delivery, delivered, Item, Stepped, Taken, end_of, Fits, IsRunWith, IsQuietWith, stepped_at}
+use Rattle.image_runs.specs.Listed.{is_start}
+use Rattle.image_runs.specs.declared.delivery.Delivery.{Delivery}
+use Rattle.image_runs.specs.Deliveries.{delivered, Item, Stepped, Taken, end_of, Fits, IsRunWith, IsQuietWith, stepped_at}
 use Rattle.image_step.specs.Running.{Advances, Ends, Goes, IsStopped, Shows, machine_in}
 use Rattle.image_step.specs.Scheduled.{Delivers, GoesOn, ShowsWith, numbered}
-use Rattle.image_step.proofs.MoreItems.{QuietMore, counted, counted_step, counted_taken, end_more, items_more, plain_end, plain_length, plain_quiet, plain_run, plain_states, quiet_step, quiet_taken, stepped_step, stepped_taken, unquiet_step}
+use Rattle.image_runs.proofs.MoreItems.{QuietMore, counted, counted_step, counted_taken, end_more, items_more, plain_end, plain_length, plain_quiet, plain_run, plain_states, quiet_step, quiet_taken, stepped_step, stepped_taken, unquiet_step}
 
 -- What is shown with one more step.
 shows_step : (b c : Runner) (s : Machine) (is : List Item) → c.starts ≡ b.starts → Advances b c None → ShowsWith b s is → ShowsWith c s (is ++ Stepped (machine_in c) ∷ [])

@@ -7,8 +7,9 @@ use Rattle.cpu_state.specs.Processor.{IsProcessorCore}
 use Rattle.insn_form.specs.Machine.{Machine}
 use Rattle.insn_form.specs.Plan.{or_first}
 use Rattle.start_entries.specs.declared.entry.StartEntry.{StartEntry}
-use Rattle.image_step.specs.Listed.{is_start, is_listed_byte}
-use Rattle.image_step.specs.Deliveries.{Delivery, Fits}
+use Rattle.image_runs.specs.Listed.{is_start, is_listed_byte}
+use Rattle.image_runs.specs.declared.delivery.Delivery.{Delivery}
+use Rattle.image_runs.specs.Deliveries.{Fits}
 
 -- The first of these addresses that a test refuses.
 abbrev pub first_refused : (ℕ → Bool) → List ℕ → Option ℕ

@@ -7,11 +7,7 @@ pub mod Reading
 pub mod Taking
 pub mod Views
 pub mod Laws
-pub mod Listed
-pub mod Quiet
-pub mod Deliveries
 pub mod Fitting
-pub mod Starting
 pub mod Running
 pub mod Scheduled
 pub mod ScenarioText

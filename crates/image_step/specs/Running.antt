@@ -10,9 +10,9 @@ use Rattle.image_step.specs.declared.runner.Runner.{Runner}
 use Rattle.image_step.specs.declared.runner.RunEnd.{RunEnd}
 use Rattle.image_step.specs.declared.runner_error.RunnerError.{RunnerError}
 use Rattle.image_step.specs.declared.runner_error.RunnerError.TheVariants as errors
-use Rattle.image_step.specs.Listed.{is_start, is_known_start, is_listed_byte}
-use Rattle.image_step.specs.Quiet.{IsQuiet}
-use Rattle.image_step.specs.Starting.{least_met_of}
+use Rattle.image_runs.specs.Listed.{is_start, is_known_start, is_listed_byte}
+use Rattle.image_runs.specs.Quiet.{IsQuiet}
+use Rattle.image_runs.specs.Starting.{least_met_of}
 
 -- A region that meets the image has number 2; that memory runs out has none.
 abbrev pub number_of : RunnerError → Option ℕ

@@ -4,15 +4,15 @@ use Rattle.start_entries.specs.declared.entry.StartEntry.{StartEntry}
 use Rattle.insn_form.specs.Machine.{Machine}
 use Rattle.insn_form.specs.Step.{Step}
 use Rattle.cpu_step.specs.declared.stop.Stop.{Stop}
-use Rattle.image_step.specs.declared.delivery.Delivery.{Delivery}
+use Rattle.image_runs.specs.declared.delivery.Delivery.{Delivery}
 use Rattle.image_step.specs.declared.delivery.Due.{Due}
 use Rattle.image_step.specs.declared.delivery.Halted.{Halted}
 use Rattle.image_step.specs.declared.delivery.Halted.TheVariants.{NoStep, NoFit}
 use Rattle.image_step.specs.declared.delivery.Unfit.{Unfit}
 use Rattle.image_step.specs.declared.runner.Runner.{Runner}
-use Rattle.image_step.specs.Deliveries.{Item, Stepped, Taken, delivered, end_of, stepped_at, Fits, IsRunWith, IsQuietWith}
+use Rattle.image_runs.specs.Deliveries.{Item, Stepped, Taken, delivered, end_of, stepped_at, Fits, IsRunWith, IsQuietWith}
 use Rattle.image_step.specs.Fitting.{IsUnfit}
-use Rattle.image_step.specs.Listed.{is_start}
+use Rattle.image_runs.specs.Listed.{is_start}
 use Rattle.image_step.specs.Running.{IsStopped, Shows, machine_in}
 
 -- A runner shows a run with deliveries: where it leads, how many steps it has, how many of the states at which a step was

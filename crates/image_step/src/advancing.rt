@@ -5,7 +5,7 @@ ghost use Rattle.start_entries.specs.Entries.{entries_of};
 ghost use Rattle.insn_form.specs.Machine.{Machine};
 ghost use Rattle.image_step.specs.Scheduled.{GoesOn};
 ghost use Rattle.image_step.specs.Running.{Advances, Ends, Goes, Meets, Shows, machine_in};
-ghost use Rattle.image_step.specs.Starting.{start_machine};
+ghost use Rattle.image_runs.specs.Starting.{start_machine};
 
 use crate::quieting::{leaves_listed, stand};
 use crate::runner::{RunEnd, Runner};

@@ -4,13 +4,14 @@ ghost use Rattle.cpu_state.specs.Processor.{IsProcessorCore};
 ghost use Rattle.image_step.specs.declared.delivery.Due.{Due as DueState};
 ghost use Rattle.image_step.specs.Scheduled.{Delivers, EndsBy, GoesOn, GoesUpTo, are_below, halted_by, rise};
 
-use crate::delivery::{Delivery, Due, DueEnd, Halted, Unfit};
+use crate::delivery::{Due, DueEnd, Halted, Unfit};
 use crate::fitting::unfit_at;
 use crate::quieting::stand;
 use crate::runner::Runner;
 use cpu_state::state::Core;
 use cpu_step::placing::place;
 use cpu_step::stop::Stop;
+use image_runs::delivery::Delivery;
 
 /// Registers, flags and bases of a delivery.
 fn core_of(delivery: &Delivery) -> Core

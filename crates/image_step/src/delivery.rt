@@ -1,15 +1,6 @@
-//! Deliveries, and when they are due.
-use cpu_state::state::Core;
-use cpu_state::world::MemWrites;
+//! When deliveries are due, and how a run with them ends.
 use cpu_step::stop::Stop;
-
-/// What comes upon a thread between two instructions: registers, flags and bases, where it goes on, and writes, in order.
-#[derive(Debug, Drop)]
-pub struct Delivery {
-    pub core: Core,
-    pub rip: u64,
-    pub writes: MemWrites,
-}
+use image_runs::delivery::Delivery;
 
 /// A delivery, and how many steps are made before it.
 #[derive(Debug, Drop)]

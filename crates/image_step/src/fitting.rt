@@ -4,13 +4,13 @@ ghost use Rattle.cpu_state.specs.Regions.{cell_at};
 ghost use Rattle.cpu_state.specs.declared.world.Entry.{Entry};
 ghost use Rattle.cpu_step.specs.Stepping.{machine_of};
 ghost use Rattle.image_step.specs.Fitting.{addresses_from, first_refused, is_open, unfit_at, written};
-ghost use Rattle.image_step.specs.Listed.{are_short, is_start};
+ghost use Rattle.image_runs.specs.Listed.{are_short, is_start};
 
-use crate::delivery::Delivery;
 use crate::quieting::{is_listed_byte, stand};
 use cpu_state::memory::Memory;
 use cpu_state::state::State;
 use cpu_state::world::MemWrite;
+use image_runs::delivery::Delivery;
 use start_entries::starts::Starts;
 
 /// Whether a delivery may write the byte at an address.

@@ -5,9 +5,9 @@ ghost use Rattle.elf_read.specs.Entries.{entry_of};
 ghost use Rattle.elf_read.specs.Image.{image_of};
 ghost use Rattle.image_step.specs.Fitting.{FitsWhereOpen};
 ghost use Rattle.image_step.specs.Laws.{LinesAreRead, LinesAreSpelled, ScriptsAreRefusedAlike, ScriptsAreScenarios};
-ghost use Rattle.image_step.specs.Quiet.{IsStartPair};
+ghost use Rattle.image_runs.specs.Quiet.{IsStartPair};
 ghost use Rattle.image_step.specs.Scheduled.{PlainRunsAreShown};
-ghost use Rattle.image_step.specs.Starting.{least_met_of, start_machine};
+ghost use Rattle.image_runs.specs.Starting.{least_met_of, start_machine};
 
 use cpu_alu::unpack;
 use cpu_state::processor::world_words;

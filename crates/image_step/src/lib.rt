@@ -1,6 +1,6 @@
 //! World scripts, read exactly, and a runner that makes steps of a loaded file under one.
 //!
-//! Stands on `cpu_step`, `start_entries` and `list_text`; `image_check` stands on it.
+//! Stands on `cpu_step`, `image_runs` and `list_text`; `thread_runs`, `command_io` and `guest_findings` stand on it.
 #![tactic(auto)]
 
 mod advancing;

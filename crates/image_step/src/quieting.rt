@@ -6,7 +6,7 @@ ghost use Rattle.insn_form.specs.Machine.{avoids_answer, avoids_writes};
 ghost use Rattle.cpu_step.specs.Facts.{access_list, info_from};
 ghost use Rattle.cpu_step.specs.Steps.{avoids_accesses, avoids_told};
 ghost use Rattle.start_entries.specs.Finding.{addresses};
-ghost use Rattle.image_step.specs.Listed.{BeginBelow, HaveNone, IsParted, are_short, is_known_start, is_listed_byte, is_start};
+ghost use Rattle.image_runs.specs.Listed.{BeginBelow, HaveNone, IsParted, are_short, is_known_start, is_listed_byte, is_start};
 
 use cpu_state::world::{Entry, MemWrite};
 use cpu_step::step_info::{Access, StepFacts};

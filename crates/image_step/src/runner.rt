@@ -1,6 +1,6 @@
 //! A file that runs, and how a run of it ends.
 ghost use Rattle.std.specs.Prelude.{◌≡◌, ◌+◌, ◌≤◌, length, true};
-ghost use Rattle.image_step.specs.Listed.{are_short, is_known_start};
+ghost use Rattle.image_runs.specs.Listed.{are_short, is_known_start};
 
 use cpu_state::state::State;
 use cpu_state::world::Entry;

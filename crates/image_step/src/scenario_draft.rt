@@ -7,7 +7,7 @@ ghost use Rattle.image_step.specs.ScenarioText.{due_value};
 ghost use Rattle.image_step.specs.ScenarioViews.{coming_value, scenario_draft_value};
 ghost use Rattle.image_step.specs.Views.{draft_value};
 
-use crate::delivery::{Delivery, Due};
+use crate::delivery::Due;
 use crate::draft::Draft;
 use crate::line::Line;
 use crate::scenario_line::ScenarioLine;
@@ -16,6 +16,7 @@ use crate::word_reading::NAMES;
 use cpu_alu::{Flags, unpack};
 use cpu_state::state::Core;
 use cpu_state::world::{MemWrite, MemWrites};
+use image_runs::delivery::Delivery;
 use std::alloc::{AllocError, Global};
 
 /// A delivery that may have further writes.

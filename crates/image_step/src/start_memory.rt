@@ -7,7 +7,7 @@ ghost use Rattle.cpu_state.specs.Script.{are_regions, body_size, is_bounded};
 ghost use Rattle.elf_read.specs.Accepted.{IsPlaced};
 ghost use Rattle.elf_read.specs.Image.{chunk_of, image, image_of};
 ghost use Rattle.image_step.specs.Running.{Meets};
-ghost use Rattle.image_step.specs.Starting.{least_met_of, meets_image, meets_page, region_memory, regions_memory};
+ghost use Rattle.image_runs.specs.Starting.{least_met_of, meets_image, meets_page, region_memory, regions_memory};
 
 use crate::grammar::size_of;
 use crate::runner_error::RunnerError;

@@ -12,8 +12,8 @@ use Rattle.patch_report.specs.declared.error.ReportError.TheVariants as errors
 use Rattle.list_text.specs.declared.refusal.ListError.{ListError}
 use Rattle.start_entries.specs.declared.entry.StartEntry.{StartEntry}
 use Rattle.start_entries.specs.Entries.{entries_of}
-use Rattle.image_check.specs.Rules.{Case}
-use Rattle.image_check.specs.Verdict.{case_of}
+use Rattle.sound_images.specs.Rules.{Case}
+use Rattle.sound_images.specs.Cases.{case_of}
 use Rattle.image_check.specs.declared.verdict.Verdict.{Verdict}
 use Rattle.image_check.specs.declared.verdict.Verdict.TheVariants.{Yes, No}
 use Rattle.command_io.specs.Refusals.{Refusal, BadReport, BadFile, BadStart}

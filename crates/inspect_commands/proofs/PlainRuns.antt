@@ -8,18 +8,18 @@ use Rattle.insn_form.specs.Step.{Step}
 use Rattle.start_entries.specs.Entries.{entries_of}
 use Rattle.start_entries.specs.declared.entry.StartEntry.{StartEntry}
 use Rattle.image_step.specs.Answers.{IsTextOf}
-use Rattle.image_step.specs.Deliveries.{Item, Stepped, Taken, IsQuietWith, IsRunWith, end_of, stepped_at}
-use Rattle.image_step.specs.Listed.{is_start}
+use Rattle.image_runs.specs.Deliveries.{Item, Stepped, Taken, IsQuietWith, IsRunWith, end_of, stepped_at}
+use Rattle.image_runs.specs.Listed.{is_start}
 use Rattle.image_step.specs.Running.{Ends}
 use Rattle.image_step.specs.ScenarioAnswers.{scenario_value}
 use Rattle.image_step.specs.ScenarioText.{ScenarioValue, due_value}
 use Rattle.image_step.specs.Scheduled.{HaltsBy, halted_by, numbered}
-use Rattle.image_step.specs.Starting.{start_machine}
+use Rattle.image_runs.specs.Starting.{start_machine}
 use Rattle.image_step.specs.Values.{ScriptValue, script_value}
 use Rattle.image_step.specs.declared.delivery.Due.{Due}
 use Rattle.image_step.specs.declared.delivery.Halted.{Halted}
 use Rattle.image_step.specs.declared.delivery.Halted.TheVariants.{NoStep, NoFit}
-use Rattle.image_step.proofs.MoreItems.{plain_end, plain_length, plain_quiet, plain_run, plain_states}
+use Rattle.image_runs.proofs.MoreItems.{plain_end, plain_length, plain_quiet, plain_run, plain_states}
 use Rattle.image_step.proofs.PlainScenarios.{scenario_same}
 use Rattle.guest_findings.specs.Tallies.{Tally, IsTallyFrom}
 use Rattle.inspect_commands.specs.StepAnswers.{TellsRun}

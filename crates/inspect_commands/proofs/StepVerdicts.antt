@@ -8,13 +8,13 @@ use Rattle.insn_form.specs.Machine.{Machine}
 use Rattle.insn_form.specs.Step.{Step}
 use Rattle.start_entries.specs.Entries.{entries_of}
 use Rattle.start_entries.specs.declared.entry.StartEntry.{StartEntry}
-use Rattle.image_step.specs.Deliveries.{IsQuietWith, IsRunWith, end_of, stepped_at}
-use Rattle.image_step.specs.Listed.{is_start}
+use Rattle.image_runs.specs.Deliveries.{IsQuietWith, IsRunWith, end_of, stepped_at}
+use Rattle.image_runs.specs.Listed.{is_start}
 use Rattle.image_step.specs.Running.{Meets, Shows, machine_in}
 use Rattle.image_step.specs.ScenarioAnswers.{IsTextOfScenario, scenario_value}
 use Rattle.image_step.specs.ScenarioText.{ScenarioValue}
 use Rattle.image_step.specs.Scheduled.{EndsBy, GoesOn, HaltsBy, are_below}
-use Rattle.image_step.specs.Starting.{start_machine}
+use Rattle.image_runs.specs.Starting.{start_machine}
 use Rattle.image_step.specs.declared.delivery.Due.{Due}
 use Rattle.image_step.specs.declared.delivery.DueEnd.{DueEnd}
 use Rattle.image_step.specs.declared.delivery.Halted.{Halted}

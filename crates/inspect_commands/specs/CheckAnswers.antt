@@ -11,9 +11,10 @@ use Rattle.patch_report.specs.Spelling.{hex8, report_text}
 use Rattle.patch_report.specs.Values.{ReportValue}
 use Rattle.patch_report.specs.declared.error.ReportError.{ReportError}
 use Rattle.image_step.specs.Spelling.{hex16}
-use Rattle.image_check.specs.Rules.{Case}
-use Rattle.image_check.specs.Soundness.{IsCaseFollowed}
-use Rattle.image_check.specs.Verdict.{case_of, IsVerdict}
+use Rattle.sound_images.specs.Rules.{Case}
+use Rattle.sound_images.specs.Soundness.{IsCaseFollowed}
+use Rattle.sound_images.specs.Cases.{case_of}
+use Rattle.image_check.specs.Verdict.{IsVerdict}
 use Rattle.image_check.specs.declared.verdict.Verdict.{Verdict}
 use Rattle.image_check.specs.declared.verdict.Verdict.TheVariants.{Yes, No}
 use Rattle.thread_check.specs.ThreadSoundness.{IsThreadCaseFollowed}

@@ -7,7 +7,7 @@ use Rattle.cpu_state.specs.declared.script_regions.Region.{Region}
 use Rattle.list_text.specs.declared.refusal.ListError.{ListError}
 use Rattle.start_entries.specs.Entries.{entries_of}
 use Rattle.image_step.specs.ScenarioAnswers.{IsScenarioRefused, IsTextOfScenario, scenario_value}
-use Rattle.image_step.specs.Starting.{least_met_of, start_machine}
+use Rattle.image_runs.specs.Starting.{least_met_of, start_machine}
 use Rattle.image_step.specs.declared.scenario.Scenario.{Scenario}
 use Rattle.image_step.specs.declared.error.ScriptError.{ScriptError}
 use Rattle.image_step.specs.declared.error.ScriptError.TheVariants as script

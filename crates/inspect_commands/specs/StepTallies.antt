@@ -7,8 +7,8 @@ use Rattle.image_step.specs.declared.delivery.Due.{Due}
 use Rattle.image_step.specs.declared.delivery.DueEnd.{DueEnd}
 use Rattle.image_step.specs.declared.delivery.Halted.{Halted}
 use Rattle.image_step.specs.declared.runner.Runner.{Runner}
-use Rattle.image_step.specs.Deliveries.{Item, IsQuietWith, IsRunWith, end_of, stepped_at}
-use Rattle.image_step.specs.Listed.{is_start}
+use Rattle.image_runs.specs.Deliveries.{Item, IsQuietWith, IsRunWith, end_of, stepped_at}
+use Rattle.image_runs.specs.Listed.{is_start}
 use Rattle.image_step.specs.Running.{machine_in}
 use Rattle.image_step.specs.Scheduled.{HaltsBy, are_below, numbered}
 

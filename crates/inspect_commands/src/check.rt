@@ -1,7 +1,7 @@
 //! The command `check`.
 ghost use Rattle.std.specs.Prelude.{◌≡◌, IfOk};
 ghost use Rattle.start_entries.specs.Laws.{IsBuilt};
-ghost use Rattle.image_check.specs.Verdict.{case_of};
+ghost use Rattle.sound_images.specs.Cases.{case_of};
 ghost use Rattle.image_check.specs.declared.verdict.Verdict.TheVariants.{Yes};
 ghost use Rattle.command_words.specs.Named.{check_names_of};
 ghost use Rattle.command_io.specs.Failing.{Gathers, Answers, Judges, seen_as, told_of};

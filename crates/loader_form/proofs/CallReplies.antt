@@ -11,7 +11,7 @@ use Rattle.cpu_state.specs.Adding.{IsFree, laid}
 use Rattle.elf_read.proofs.FileSlices.{length_slice}
 use Rattle.elf_emit.proofs.GroupPages.{slice_at}
 use Rattle.scheme_search.proofs.OneJumpBytes.{within_true, within_false}
-use Rattle.image_step.proofs.MemorySoFar.{else_none}
+use Rattle.image_runs.proofs.MemorySoFar.{else_none}
 use Rattle.loader_form.specs.Kernel.{mapped}
 use Rattle.loader_form.proofs.StubLengths.{side}
 use Rattle.loader_form.proofs.LoadedBytes.{mapped_outside}

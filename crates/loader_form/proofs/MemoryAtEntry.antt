@@ -8,9 +8,9 @@ use Rattle.cpu_state.specs.Processor.{IsProcessorCore, GiveWords}
 use Rattle.insn_form.specs.Machine.{Machine}
 use Rattle.insn_form.specs.Processor.{IsProcessorState}
 use Rattle.insn_form.specs.Step.{Step}
-use Rattle.image_step.specs.Quiet.{IsStartPair}
-use Rattle.image_check.specs.Rewriting.{Rewriting}
-use Rattle.image_check.specs.Headline.{Headline}
+use Rattle.image_runs.specs.Quiet.{IsStartPair}
+use Rattle.sound_images.specs.Rewriting.{Rewriting}
+use Rattle.sound_images.specs.Headline.{Headline}
 use Rattle.loader_form.specs.Stub.{Run, Stub}
 use Rattle.loader_form.specs.Kernel.{mapped, last_state, last_number}
 use Rattle.loader_form.specs.Starting.{IsStart}

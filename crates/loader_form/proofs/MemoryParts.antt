@@ -28,8 +28,8 @@ use Rattle.elf_emit.proofs.JobImageParts.{old_low, no_pages}
 use Rattle.elf_emit.proofs.PageRuns.{RunsAscend, runs_pairs, job_runs}
 use Rattle.elf_emit.proofs.GroupPages.{slice_at, run_chunk, pages_shown, length_group_pages, any_elim}
 use Rattle.scheme_search.proofs.OneJumpBytes.{within_true, within_false}
-use Rattle.image_step.specs.Quiet.{IsStartPair}
-use Rattle.image_step.proofs.MemorySoFar.{else_none}
+use Rattle.image_runs.specs.Quiet.{IsStartPair}
+use Rattle.image_runs.proofs.MemorySoFar.{else_none}
 use Rattle.loader_form.specs.Kernel.{mapped}
 use Rattle.loader_form.specs.Running.{all_mapped, AreGiven}
 use Rattle.loader_form.specs.Continuing.{nothing, pages_of, whole_image, HasParts, IsLedOn, GoesOn}

@@ -9,9 +9,9 @@ use Rattle.elf_read.specs.Image.{image_of}
 use Rattle.elf_emit.specs.Laws.{bare_image}
 use Rattle.elf_emit.specs.Frames as frames
 use Rattle.elf_emit.proofs.OriginalFacts.{field_bound}
-use Rattle.image_step.specs.Quiet.{IsStartPair}
-use Rattle.image_check.specs.Soundness as soundness
-use Rattle.image_check.specs.Soundness.{rewriting_of}
+use Rattle.image_runs.specs.Quiet.{IsStartPair}
+use Rattle.sound_images.specs.Soundness as soundness
+use Rattle.sound_images.specs.Soundness.{rewriting_of}
 use Rattle.site_turns.specs.PlannedState.{PlannedState}
 use Rattle.site_turns.specs.Planning.{Request}
 use Rattle.site_turns.specs.PlanLaws.{IsAsked, AreGroups, CanBeWritten, job_for, shown_case}

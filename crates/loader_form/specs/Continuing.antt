@@ -4,10 +4,10 @@ use Rattle.pun_base.specs.Memory.{Cell, Bytes, joined}
 use Rattle.insn_form.specs.Machine.{Machine}
 use Rattle.insn_form.specs.Processor.{IsProcessorState}
 use Rattle.insn_form.specs.Step.{Step}
-use Rattle.image_step.specs.Quiet.{IsStartPair}
-use Rattle.image_check.specs.Rewriting.{Rewriting}
-use Rattle.image_step.specs.Deliveries.{Item, end_of, IsQuietWith}
-use Rattle.image_check.specs.Headline.{FollowsWith, BeforeWith, Headline}
+use Rattle.image_runs.specs.Quiet.{IsStartPair}
+use Rattle.sound_images.specs.Rewriting.{Rewriting}
+use Rattle.image_runs.specs.Deliveries.{Item, end_of, IsQuietWith}
+use Rattle.sound_images.specs.Headline.{FollowsWith, BeforeWith, Headline}
 use Rattle.loader_form.specs.Stub.{Stub}
 use Rattle.loader_form.specs.Starting.{IsStart}
 use Rattle.loader_form.specs.Kernel.{Reply, AreReplies, Move, IsRunWith, last_state}

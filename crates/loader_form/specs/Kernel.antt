@@ -12,7 +12,7 @@ use Rattle.insn_form.specs.Operands.{reg, with_reg, rax, rcx, rdx}
 use Rattle.insn_form.specs.Machine.{Machine}
 use Rattle.insn_form.specs.Step.{IsAt, StepsBy, next_after}
 use Rattle.insn_form.specs.Runs.{nowhere}
-pub use Rattle.image_check.specs.Calls.{is_syscall}
+pub use Rattle.sound_images.specs.Calls.{is_syscall}
 use Rattle.loader_form.specs.declared.kernel.MapAnswer.{MapAnswer}
 use Rattle.loader_form.specs.declared.kernel.MapAnswer.TheVariants as answer
 use Rattle.loader_form.specs.Stub.{path}

@@ -10,9 +10,9 @@ use Rattle.elf_emit.specs.Job.{Job}
 use Rattle.elf_emit.specs.Frames as frames
 use Rattle.elf_emit.specs.Laws.{IsJob, with_writes, pages_image, bare_image}
 use Rattle.elf_emit.specs.FrameLaws.{table_image, private_image, part_chunk}
-use Rattle.image_step.specs.Quiet.{IsStartPair}
-use Rattle.image_check.specs.Rewriting.{Rewriting}
-use Rattle.image_check.specs.Headline.{Headline}
+use Rattle.image_runs.specs.Quiet.{IsStartPair}
+use Rattle.sound_images.specs.Rewriting.{Rewriting}
+use Rattle.sound_images.specs.Headline.{Headline}
 use Rattle.loader_form.specs.declared.kernel.MapAnswer.TheVariants as answer
 use Rattle.loader_form.specs.Laid.{Laid, stub_of, loader_frame, file_of, IsLaid}
 use Rattle.loader_form.specs.Starting.{IsLaidStart}

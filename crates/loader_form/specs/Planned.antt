@@ -7,8 +7,8 @@ use Rattle.page_group.specs.Grouping.{GroupsState}
 use Rattle.elf_emit.specs.Job.{Job}
 use Rattle.elf_emit.specs.Frames as frames
 use Rattle.elf_emit.specs.Laws.{bare_image}
-use Rattle.image_check.specs.Rewriting.{Rewriting}
-use Rattle.image_check.specs.Soundness.{rewriting_of}
+use Rattle.sound_images.specs.Rewriting.{Rewriting}
+use Rattle.sound_images.specs.Soundness.{rewriting_of}
 use Rattle.site_turns.specs.PlannedState.{PlannedState}
 use Rattle.site_turns.specs.Planning.{Request, Turns, IsPlanned}
 use Rattle.site_turns.specs.PlanLaws.{IsAsked, job_for, AreGroups, shown_case, IsShownWell}

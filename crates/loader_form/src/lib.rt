@@ -1,6 +1,6 @@
 //! The loader form of a patched file: a stub in machine code maps the pages for code, and then goes to where the original starts.
 //!
-//! Stands on `site_turns`; `rewrite_loader` stands on it.
+//! Stands on `site_turns` and `cpu_step`; `rewrite_loader` stands on it.
 #![tactic(auto)]
 
 pub mod emit;

@@ -1,6 +1,6 @@
 //! The commands that write, over any desk: `patch`, `load`, `threads` and `unpatch`.
 //!
-//! Stands on `command_io`, `guest_threads` and `thread_loader`; `commands` stands on it.
+//! Stands on `command_io`, `guest_threads` and `thread_loader`; `settled_runs` and `commands` stand on it.
 #![tactic(auto)]
 
 pub mod laws;

@@ -1,6 +1,6 @@
 //! Reports of what a patch did, as values and as texts.
 //!
-//! A report has one text. `docs/reference/formats.md` shows it line by line. Stands on `list_text`; `unpatch` and `image_check`
+//! A report has one text. `docs/reference/formats.md` shows it line by line. Stands on `list_text`; `unpatch` and `sound_images`
 //! stand on it.
 #![tactic(auto)]
 

@@ -7,9 +7,9 @@ use Rattle.std.proofs.lemmas.List.Sums.{sum_by-cons}
 use Rattle.pun_base.specs.Field.{field}
 use Rattle.pun_base.specs.declared.action.Action.{Action}
 use Rattle.pun_base.specs.declared.action.Action.TheVariants.{Count}
-use Rattle.image_check.specs.Rewriting.{Rewriting}
+use Rattle.sound_images.specs.Rewriting.{Rewriting}
 use Rattle.trampoline.specs.Events.{Seen, marked, mark}
-use Rattle.image_check.specs.Events.{record_for}
+use Rattle.sound_images.specs.Events.{record_for}
 use Rattle.rewrite_core.specs.Glosses.{times, numbers_of}
 use Rattle.rewrite_core.proofs.ChangedFields.{length-with_field, field_same, field_other, zero_field}
 

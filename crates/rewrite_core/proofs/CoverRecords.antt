@@ -4,9 +4,9 @@ use Rattle.std.proofs.lemmas.Bool.{cases_Bool, eqb-true, eqb-false}
 use Rattle.std.proofs.lemmas.List.{get_or-set_same, get_or-set_other, get_or-replicate, length-set, length-replicate}
 use Rattle.pun_base.specs.declared.action.Action.{Action}
 use Rattle.pun_base.specs.declared.action.Action.TheVariants.{Cover}
-use Rattle.image_check.specs.Rewriting.{Rewriting}
+use Rattle.sound_images.specs.Rewriting.{Rewriting}
 use Rattle.trampoline.specs.Events.{Seen, marked}
-use Rattle.image_check.specs.Events.{record_for}
+use Rattle.sound_images.specs.Events.{record_for}
 use Rattle.rewrite_core.specs.Glosses.{occurs, numbers_of}
 
 -- under cover, events leave the length of the data part as it is

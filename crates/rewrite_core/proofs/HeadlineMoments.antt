@@ -3,12 +3,12 @@ use Rattle.std.proofs.Common.{◌≡◌, ◌+◌, true, List, [], ◌∷◌, len
 use Rattle.std.proofs.lemmas.List.{length-map}
 use Rattle.insn_form.specs.Machine.{Machine}
 use Rattle.insn_form.specs.Runs.{last_of}
-use Rattle.image_step.specs.Deliveries.{Stepped}
-use Rattle.image_step.specs.Listed.{is_start}
-use Rattle.image_check.specs.Rewriting.{Rewriting, shown, outside}
-use Rattle.image_check.specs.Events.{due_events, log, passes, record_for, data_of}
-use Rattle.image_check.specs.Headline.{moments, due_moments, made_at}
-use Rattle.image_check.proofs.PlainItems.{plain, steps_made, steps_end, due_plain, moments_plain}
+use Rattle.image_runs.specs.Deliveries.{Stepped}
+use Rattle.image_runs.specs.Listed.{is_start}
+use Rattle.sound_images.specs.Rewriting.{Rewriting, shown, outside}
+use Rattle.sound_images.specs.Events.{due_events, log, passes, record_for, data_of}
+use Rattle.sound_images.specs.Headline.{moments, due_moments, made_at}
+use Rattle.sound_images.proofs.PlainItems.{plain, steps_made, steps_end, due_plain, moments_plain}
 use Rattle.rewrite_core.specs.Glosses.{Said, times}
 use Rattle.rewrite_core.specs.GlossesWith.{SaidWith, states_of}
 use Rattle.rewrite_core.proofs.MomentsWith.{said_by_moments}

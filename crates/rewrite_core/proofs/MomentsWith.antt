@@ -3,11 +3,11 @@ use Rattle.std.proofs.Common.{◌≡◌, ◌+◌, Bool, true, false, cond, List,
 use Rattle.std.proofs.lemmas.Bool.{cond-true}
 use Rattle.std.proofs.lemmas.List.{length-map, append-nil}
 use Rattle.insn_form.specs.Machine.{Machine}
-use Rattle.image_step.specs.Listed.{is_start}
-use Rattle.image_step.specs.Deliveries.{delivered, Item, Stepped, Taken, after, end_of, taken, stepped_at}
-use Rattle.image_check.specs.Rewriting.{Rewriting, shown, outside}
-use Rattle.image_check.specs.Events.{log, passes, data_of}
-use Rattle.image_check.specs.Headline.{Moment, Left, due_moment, due_with, seen_moment, moments_with}
+use Rattle.image_runs.specs.Listed.{is_start}
+use Rattle.image_runs.specs.Deliveries.{delivered, Item, Stepped, Taken, after, end_of, taken, stepped_at}
+use Rattle.sound_images.specs.Rewriting.{Rewriting, shown, outside}
+use Rattle.sound_images.specs.Events.{log, passes, data_of}
+use Rattle.sound_images.specs.Headline.{Moment, Left, due_moment, due_with, seen_moment, moments_with}
 use Rattle.rewrite_core.specs.Glosses.{times}
 use Rattle.rewrite_core.specs.GlossesWith.{states_of, SaidWith, FollowsSaidWith}
 

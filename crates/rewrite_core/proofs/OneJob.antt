@@ -15,7 +15,7 @@ use Rattle.elf_emit.specs.Emits.{pages_of, range_of}
 use Rattle.elf_emit.specs.Views.{patch_of, patches_of, piece_of}
 use Rattle.patch_report.specs.declared.row.ReportRow.{ReportRow}
 use Rattle.patch_report.specs.Values.{RowValue, write_value, outcome_value, row_value, written as report_written}
-use Rattle.image_check.specs.Reports.{runs_of}
+use Rattle.sound_images.specs.Reports.{runs_of}
 use Rattle.site_turns.specs.Jobs as jobs
 use Rattle.site_turns.specs.PlannedState.{PlannedState}
 use Rattle.site_turns.specs.Planning.{Request, Turns, IsPlanned}

@@ -7,7 +7,7 @@ use Rattle.pun_base.specs.Field.{field, with_field}
 use Rattle.pun_base.specs.declared.action.Action.{Action}
 use Rattle.pun_base.specs.declared.action.Action.TheVariants.{Ring}
 use Rattle.trampoline.specs.Events.{Seen, marked, ring_mark}
-use Rattle.image_check.proofs.RelatedStates.{marked_more}
+use Rattle.sound_images.proofs.RelatedStates.{marked_more}
 use Rattle.rewrite_core.specs.Glosses.{slot, RingRecord}
 use Rattle.rewrite_core.proofs.ChangedFields.{length-with_field, field_same, field_other, zero_field}
 

@@ -12,8 +12,8 @@ use Rattle.elf_emit.proofs.JobConditions.{CanEmit}
 use Rattle.patch_report.specs.declared.origin.Version.TheVariants.{Two}
 use Rattle.patch_report.specs.Grammar.{IsBody, AscendFrom, OriginFits}
 use Rattle.patch_report.specs.Values.{body_of, written}
-use Rattle.image_check.specs.Rules.{Case, IsSound}
-use Rattle.image_check.specs.Soundness as soundness
+use Rattle.sound_images.specs.Rules.{Case, IsSound}
+use Rattle.sound_images.specs.Soundness as soundness
 use Rattle.site_turns.specs.PlannedState.{PlannedState}
 use Rattle.site_turns.specs.Planning.{Request, Turns, IsPlanned}
 use Rattle.site_turns.specs.PlanLaws.{IsAsked, IsReportPage, AreGroups, CanBeWritten, writes_of, job_for, planned_report}

@@ -5,10 +5,10 @@ use Rattle.elf_read.specs.Entries.{entry_of}
 use Rattle.start_entries.specs.Entries.{entries_of}
 use Rattle.patch_report.specs.Values.{ReportValue}
 use Rattle.patch_report.specs.Grammar.{IsReport}
-use Rattle.image_check.specs.Headline.{Headline}
-use Rattle.image_check.specs.Rules.{Case, IsSound}
-use Rattle.image_check.specs.Soundness.{rewriting_of}
-use Rattle.image_check.specs.Verdict.{case_of}
+use Rattle.sound_images.specs.Headline.{Headline}
+use Rattle.sound_images.specs.Rules.{Case, IsSound}
+use Rattle.sound_images.specs.Soundness.{rewriting_of}
+use Rattle.sound_images.specs.Cases.{case_of}
 
 -- The case of an original, the entries of its listed starts, a written file and a report.
 abbrev pub case_for : List ℕ → List ℕ → List ℕ → ReportValue → Case

@@ -10,12 +10,12 @@ use Rattle.list_text.specs.Words.{always}
 use Rattle.cond_action.specs.Conditions.{holds}
 use Rattle.insn_form.specs.Machine.{Machine}
 use Rattle.insn_form.specs.Runs.{StepRelation, IsRun, last_of}
-use Rattle.image_step.specs.Listed.{is_start}
-use Rattle.image_check.specs.Rewriting.{Rewriting, shown, outside}
+use Rattle.image_runs.specs.Listed.{is_start}
+use Rattle.sound_images.specs.Rewriting.{Rewriting, shown, outside}
 use Rattle.trampoline.specs.Events.{Seen, record_of}
-use Rattle.image_check.specs.Events.{due_events, log, passes, record_for, data_of}
-use Rattle.image_step.specs.Quiet.{IsQuiet}
-use Rattle.image_check.specs.Headline.{moments, due_moments, made_at, Follows}
+use Rattle.sound_images.specs.Events.{due_events, log, passes, record_for, data_of}
+use Rattle.image_runs.specs.Quiet.{IsQuiet}
+use Rattle.sound_images.specs.Headline.{moments, due_moments, made_at, Follows}
 
 -- How often a number occurs in a list of events.
 abbrev pub times : ℕ → List ℕ → ℕ

@@ -2,10 +2,10 @@
 use Rattle.std.specs.Prelude.{◌≡◌, ℕ, ◌+◌, List, [], ◌∷◌, length, map, Some}
 use Rattle.insn_form.specs.Machine.{Machine}
 use Rattle.insn_form.specs.Step.{Step}
-use Rattle.image_step.specs.Deliveries.{Item, after, end_of, stepped_at}
-use Rattle.image_check.specs.Rewriting.{Rewriting, shown, outside}
-use Rattle.image_check.specs.Events.{due_events, log, passes, record_for, data_of}
-use Rattle.image_check.specs.Headline.{FollowsWith}
+use Rattle.image_runs.specs.Deliveries.{Item, after, end_of, stepped_at}
+use Rattle.sound_images.specs.Rewriting.{Rewriting, shown, outside}
+use Rattle.sound_images.specs.Events.{due_events, log, passes, record_for, data_of}
+use Rattle.sound_images.specs.Headline.{FollowsWith}
 use Rattle.rewrite_core.specs.Glosses.{times}
 
 -- The states of a run with deliveries.

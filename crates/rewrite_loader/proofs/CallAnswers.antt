@@ -17,7 +17,7 @@ use Rattle.patch_report.specs.declared.origin.Origin.{Origin}
 use Rattle.patch_report.specs.declared.origin.Version.TheVariants.{Two}
 use Rattle.patch_report.specs.Values.{BodyValue, ReportValue, body_of, written}
 use Rattle.patch_report.specs.Grammar.{IsBody, OriginFits}
-use Rattle.image_check.specs.Soundness as soundness
+use Rattle.sound_images.specs.Soundness as soundness
 use Rattle.site_turns.specs.PlannedState.{PlannedState}
 use Rattle.site_turns.specs.PrivateRange.{taken_first}
 use Rattle.site_turns.specs.Planning.{Request, Turns}

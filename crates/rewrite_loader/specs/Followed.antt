@@ -9,9 +9,9 @@ use Rattle.elf_emit.specs.Laws.{bare_image}
 use Rattle.start_entries.specs.Entries.{entries_of}
 use Rattle.patch_report.specs.Values.{ReportValue}
 use Rattle.patch_report.specs.Grammar.{IsReport}
-use Rattle.image_check.specs.Headline.{Headline}
-use Rattle.image_check.specs.Rules.{Case, IsSound}
-use Rattle.image_check.specs.Soundness.{rewriting_of}
+use Rattle.sound_images.specs.Headline.{Headline}
+use Rattle.sound_images.specs.Rules.{Case, IsSound}
+use Rattle.sound_images.specs.Soundness.{rewriting_of}
 use Rattle.loader_form.specs.Laid.{LaidLoads}
 use Rattle.loader_form.specs.Starting.{IsLaidStart}
 use Rattle.loader_form.specs.Planned.{Leads}

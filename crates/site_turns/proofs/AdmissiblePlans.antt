@@ -10,8 +10,8 @@ use Rattle.patch_report.specs.Values.{RowValue, WriteValue, write_value}
 use Rattle.start_entries.specs.declared.entry.StartEntry.{StartEntry}
 use Rattle.start_list.specs.Forms.{Candidate, B1, B2, T1, T2, T3, Trampoline, jumps_of, trampolines_of}
 use Rattle.start_list.specs.Plans.{tramp_of}
-use Rattle.image_check.specs.Reports.{Line, row_lines, runs_of}
-use Rattle.image_check.specs.Rules.{is_own}
+use Rattle.sound_images.specs.Reports.{Line, row_lines, runs_of}
+use Rattle.sound_images.specs.Rules.{is_own}
 use Rattle.site_turns.specs.States.{Scene, State, view_at, lock_after, extent_for, applied}
 use Rattle.site_turns.specs.Choices.{Apply, row_of}
 use Rattle.site_turns.specs.Folded.{done_by, IsKept, IsRowOf, IsFolded}

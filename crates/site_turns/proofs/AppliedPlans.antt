@@ -22,7 +22,7 @@ use Rattle.start_list.specs.Forms.{Trampoline, jumps_of, trampolines_of}
 use Rattle.start_list.specs.Admissible.{size_of, AreApart, ArePlaced}
 use Rattle.start_list.specs.Plans.{write_run, pun_run, tramp_of}
 use Rattle.start_list.proofs.CodeSegments.{shared_executed, executed_low}
-use Rattle.image_check.proofs.CodeAtStarts.{entries_built}
+use Rattle.sound_images.proofs.ReadInstructions.{entries_built}
 use Rattle.site_turns.specs.declared.setting.Setting.{Setting}
 use Rattle.site_turns.specs.declared.progress.Progress.{Progress}
 use Rattle.site_turns.specs.Modes.{event_size_of}

@@ -13,8 +13,8 @@ use Rattle.elf_emit.specs.declared.built.Built.{Built}
 use Rattle.patch_report.specs.declared.row.ReportRow.{ReportRow}
 use Rattle.patch_report.specs.Values.{row_value}
 use Rattle.start_entries.specs.declared.entry.StartEntry.{StartEntry}
-use Rattle.image_check.specs.Reports.{Line, row_lines, event_of}
-use Rattle.image_check.specs.Rules.{Case, HasCode, displaced_at}
+use Rattle.sound_images.specs.Reports.{Line, row_lines, event_of}
+use Rattle.sound_images.specs.Rules.{Case, HasCode, displaced_at}
 use Rattle.site_turns.specs.Planning.{lines_of, AreCodesBy}
 use Rattle.site_turns.specs.Turned.{line_at, AddsCodes}
 use Rattle.site_turns.proofs.JoinedLists.{left_at, gathered}

@@ -11,7 +11,7 @@ use Rattle.byte_locks.specs.declared.lock.Lock.TheVariants.{Free, Punned, Change
 use Rattle.patch_report.specs.Values.{RowValue}
 use Rattle.patch_report.proofs.ListPlaces.{all_in, counted_twice, some_is}
 use Rattle.start_list.specs.TurnViews.{cell_by}
-use Rattle.image_check.specs.Rules.{differs, holds_byte, is_below, row_before}
+use Rattle.sound_images.specs.Rules.{differs, holds_byte, is_below, row_before}
 use Rattle.site_turns.specs.Folded.{Descend}
 
 -- a test and its contrary don't both hold

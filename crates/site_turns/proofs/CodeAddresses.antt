@@ -14,9 +14,9 @@ use Rattle.start_entries.specs.declared.entry.StartEntry.{StartEntry}
 use Rattle.start_entries.specs.Finding.{entry_at}
 use Rattle.start_list.specs.Forms.{work_length}
 use Rattle.start_entries.specs.Standing.{AreEntries}
-use Rattle.image_check.specs.Reports.{Line}
-use Rattle.image_check.specs.Rules.{Case}
-use Rattle.image_check.proofs.CountedElements.{count_cons}
+use Rattle.sound_images.specs.Reports.{Line}
+use Rattle.sound_images.specs.Rules.{Case}
+use Rattle.sound_images.proofs.CountedElements.{count_cons}
 use Rattle.scheme_search.proofs.OneJumpBytes.{within_true}
 use Rattle.site_turns.specs.States.{Scene}
 use Rattle.site_turns.specs.Folded.{size_from, code_size, in_code}

@@ -6,7 +6,7 @@ use Rattle.elf_emit.specs.declared.built.Built.{Built}
 use Rattle.elf_emit.proofs.StayingSegments.{all_map}
 use Rattle.scheme_search.proofs.OneJumpBytes.{within_true}
 use Rattle.start_entries.specs.Standing.{AreEntries}
-use Rattle.image_check.specs.Reports.{Line}
+use Rattle.sound_images.specs.Reports.{Line}
 use Rattle.site_turns.specs.Modes.{TurnRules, event_rules}
 use Rattle.site_turns.specs.Folded.{Done, IsNewlyTaken, done_by, in_code, code_size}
 use Rattle.site_turns.specs.Laws.{SchemeLeads}

@@ -16,7 +16,7 @@ use Rattle.elf_read.specs.Image.{chunk_of, image, image_of}
 use Rattle.elf_emit.proofs.WrittenTable.{all_append}
 use Rattle.elf_emit.proofs.StayingSegments.{all_map}
 use Rattle.start_entries.proofs.ImageEntries.{built_are_entries}
-use Rattle.image_check.specs.Reports.{Line}
+use Rattle.sound_images.specs.Reports.{Line}
 use Rattle.scheme_search.proofs.OneJumpBytes.{within_parts}
 use Rattle.site_turns.specs.PrivateRange.{pages_of, taken_first, HasRoom}
 use Rattle.site_turns.specs.States.{is_in, is_taken, first_state}

@@ -24,8 +24,8 @@ use Rattle.start_entries.specs.declared.entry.StartEntry.{StartEntry}
 use Rattle.start_entries.specs.Finding.{entry_at}
 use Rattle.start_entries.specs.Standing.{AreEntries}
 use Rattle.start_list.specs.Forms as forms
-use Rattle.image_check.specs.Reports.{Line, event_of}
-use Rattle.image_check.specs.Rules.{displaced_by, displaced_from, displaced_at}
+use Rattle.sound_images.specs.Reports.{Line, event_of}
+use Rattle.sound_images.specs.Rules.{displaced_by, displaced_from, displaced_at}
 use Rattle.site_turns.specs.States.{Scene}
 use Rattle.site_turns.specs.Folded.{size_from, code_size}
 use Rattle.site_turns.specs.Laws.{CodeFills}

@@ -5,7 +5,7 @@ use Rattle.std.specs.List.{count_by, AllByRecursion}
 use Rattle.std.specs.List.Sorted.{IsStrictlyIncreasing}
 use Rattle.std.proofs.lemmas.Bool.{cases_Bool, cond-false, ltb-true}
 use Rattle.patch_report.proofs.ListPlaces.{any_at, one_more}
-use Rattle.image_check.proofs.CountedElements.{by_count, count_cons}
+use Rattle.sound_images.proofs.CountedElements.{by_count, count_cons}
 use Rattle.start_entries.specs.declared.entry.StartEntry.{StartEntry}
 use Rattle.start_entries.specs.Finding.{addresses}
 use Rattle.start_entries.proofs.AscendingEntries.{increasing_rest, first_below}

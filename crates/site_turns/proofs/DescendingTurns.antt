@@ -20,7 +20,7 @@ use Rattle.start_list.specs.PlanJumps.{written, is_spanned, is_written, is_punne
 use Rattle.start_list.specs.Forms.{jumps_of, MayBeSite}
 use Rattle.start_list.proofs.UntouchedEntries.{ends_below}
 use Rattle.start_entries.proofs.AscendingEntries.{increasing_rest, first_below}
-use Rattle.image_check.proofs.CodeAtStarts.{found_address}
+use Rattle.sound_images.proofs.ReadInstructions.{found_address}
 use Rattle.site_turns.specs.declared.setting.Setting.{Setting}
 use Rattle.site_turns.specs.declared.progress.Progress.{Progress}
 use Rattle.site_turns.specs.States.{Scene, State, first_state, view_at}

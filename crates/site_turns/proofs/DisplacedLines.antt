@@ -11,7 +11,7 @@ use Rattle.start_entries.specs.Standing.{AreEntries}
 use Rattle.start_list.specs.TurnViews.{TurnView}
 use Rattle.start_list.specs.Forms.{Candidate, B1, B2, T1, T2, T3, Trampoline, MayBeSite, HasForm, jumps_of, trampolines_of}
 use Rattle.start_list.specs.Plans.{tramp_of}
-use Rattle.image_check.specs.Reports.{row_lines}
+use Rattle.sound_images.specs.Reports.{row_lines}
 use Rattle.site_turns.specs.States.{Scene, State, first_state, view_at}
 use Rattle.site_turns.specs.Choices.{Choice, Apply, Left, FirstOf, row_of, after, IsTurns}
 use Rattle.site_turns.specs.Laws.{AreSites, rows_of, Displaces, TurnsDisplace}

@@ -9,9 +9,9 @@ use Rattle.elf_emit.proofs.StayingSegments.{all_map}
 use Rattle.patch_report.specs.Values.{WriteValue}
 use Rattle.patch_report.proofs.ListPlaces.{In, all_in, all_from, any_at}
 use Rattle.start_list.specs.PlanJumps.{Jump, written, is_written, is_punned}
-use Rattle.image_check.specs.Reports.{Line, in_run}
-use Rattle.image_check.specs.Rules.{holds_byte}
-use Rattle.image_check.proofs.LoadedCode.{fixed_at}
+use Rattle.sound_images.specs.Reports.{Line, in_run}
+use Rattle.sound_images.specs.Rules.{holds_byte}
+use Rattle.sound_images.proofs.LoadedCode.{fixed_at}
 use Rattle.site_turns.specs.States.{Scene, is_in, is_taken}
 use Rattle.site_turns.specs.Folded.{Done, is_locked, memory_in, in_runs, starts_at, in_code, IsHeld, IsLed, Tells, IsOwned, IsNewlyTaken, IsKept}
 use Rattle.site_turns.specs.Adding.{Addition, done_after, Fits, IsRoom, FittingKeeps}

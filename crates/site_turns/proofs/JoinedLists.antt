@@ -7,7 +7,7 @@ use Rattle.std.proofs.lemmas.Bool.{cases_Bool, ltb-false, false_from_ne_true}
 use Rattle.elf_emit.proofs.WrittenTable.{all_append}
 use Rattle.patch_report.specs.Values.{RowValue}
 use Rattle.patch_report.proofs.ListPlaces.{found, all_in}
-use Rattle.image_check.proofs.CountedElements.{by_count}
+use Rattle.sound_images.proofs.CountedElements.{by_count}
 use Rattle.site_turns.specs.Folded.{Descend}
 
 -- what is left of a list at the place of an element begins with it

@@ -28,9 +28,9 @@ use Rattle.start_list.specs.PlanJumps.{Jump, written_by, written, is_written, is
 use Rattle.start_list.specs.Forms.{Trampoline, work_by, work_length, MayBeSite}
 use Rattle.start_list.specs.Admissible.{size_of, IsPlaced, AreApart, ArePlaced}
 use Rattle.start_list.specs.Plans.{AreRuns, write_run, tramp_of, TellsWrite}
-use Rattle.image_check.specs.Reports.{Line, in_run}
-use Rattle.image_check.specs.Rules.{holds_byte, displaced_by, displaced_from, displaced_at}
-use Rattle.image_check.proofs.LoadedCode.{fixed_at}
+use Rattle.sound_images.specs.Reports.{Line, in_run}
+use Rattle.sound_images.specs.Rules.{holds_byte, displaced_by, displaced_from, displaced_at}
+use Rattle.sound_images.proofs.LoadedCode.{fixed_at}
 use Rattle.scheme_search.proofs.ConsecutiveBytes.{length-bytes_from}
 use Rattle.scheme_search.proofs.OneJumpBytes.{within_parts}
 use Rattle.site_turns.specs.States.{Scene, State, view_at, relocked, lock_after, extent_for, is_in, is_taken}

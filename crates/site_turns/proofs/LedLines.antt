@@ -3,7 +3,7 @@ use Rattle.cpu_state.specs.Fixed.{IsFixed}
 use Rattle.elf_emit.proofs.StayingSegments.{all_map}
 use Rattle.start_entries.specs.Leading.{Leads}
 use Rattle.start_list.specs.PlanJumps.{Jump}
-use Rattle.image_check.specs.Reports.{Line}
+use Rattle.sound_images.specs.Reports.{Line}
 use Rattle.site_turns.specs.States.{memory_at}
 use Rattle.site_turns.specs.Folded.{done_by, IsHeld, IsLed, memory_in}
 use Rattle.site_turns.specs.Laws.{FoldedLeads}

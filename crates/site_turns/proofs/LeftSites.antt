@@ -5,7 +5,7 @@ use Rattle.std.specs.List.{AllByRecursion, flat_map}
 use Rattle.std.proofs.lemmas.Bool.{false≢true}
 use Rattle.elf_emit.proofs.WrittenTable.{all_append}
 use Rattle.patch_report.specs.Values.{RowValue, WriteValue}
-use Rattle.image_check.specs.Reports.{Line, row_lines, runs_of}
+use Rattle.sound_images.specs.Reports.{Line, row_lines, runs_of}
 use Rattle.site_turns.specs.States.{Scene, State, passed_over}
 use Rattle.site_turns.specs.Choices.{Left, row_of}
 use Rattle.site_turns.specs.Folded.{IsKept, IsFolded, IsRowOf}

@@ -18,9 +18,9 @@ use Rattle.start_entries.specs.declared.entry.StartEntry.{StartEntry}
 use Rattle.start_entries.specs.Standing.{AreEntries}
 use Rattle.start_entries.proofs.ImageEntries.{built_are_entries}
 use Rattle.address_space.specs.declared.extent.Extent.{Extent}
-use Rattle.image_check.specs.Reports.{Line, lines, on_page, in_private, private_len}
-use Rattle.image_check.specs.Rules.{HasCode, SharesPage}
-use Rattle.image_check.proofs.StartPairs.{sound_followed}
+use Rattle.sound_images.specs.Reports.{Line, lines, on_page, in_private, private_len}
+use Rattle.sound_images.specs.Rules.{HasCode, SharesPage}
+use Rattle.sound_images.proofs.StartPairs.{sound_followed}
 use Rattle.scheme_search.proofs.OneJumpBytes.{within_parts}
 use Rattle.site_turns.specs.States.{Scene, HasEvents, State, first_state, report_of, memory_at}
 use Rattle.site_turns.specs.Choices.{Choice, state_after}

@@ -10,7 +10,7 @@ use Rattle.patch_report.proofs.ListPlaces.{some_is, all_in}
 use Rattle.start_entries.specs.declared.entry.StartEntry.{StartEntry}
 use Rattle.start_list.specs.Forms.{Candidate, B1, B2, T1, T2, T3, for_site, for_victim, trampolines_of}
 use Rattle.start_list.specs.Plans.{tramp_of}
-use Rattle.image_check.specs.Reports.{Line, row_lines}
+use Rattle.sound_images.specs.Reports.{Line, row_lines}
 use Rattle.site_turns.specs.States.{Scene, State, first_state, view_at}
 use Rattle.site_turns.specs.Choices.{Choice, Apply, Left, after, IsTurns}
 use Rattle.site_turns.specs.Laws.{rows_of, EventsAreNumbered, TurnsNumber}

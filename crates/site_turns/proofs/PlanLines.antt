@@ -26,7 +26,7 @@ use Rattle.start_list.specs.Forms.{Candidate, B1, B2, T1, T2, T3, Trampoline, sc
 use Rattle.start_list.specs.Admissible.{IsAdmissible}
 use Rattle.start_list.specs.Plans.{Run, Ascend, IsPlanOf, bytes_from, write_run, pun_run, tramp_of, TellsWrite, TellsPun}
 use Rattle.scheme_search.proofs.OneJumpBytes.{within_parts, within_true}
-use Rattle.image_check.proofs.SoundFacts.{none_unless}
+use Rattle.sound_images.proofs.SoundFacts.{none_unless}
 use Rattle.site_turns.proofs.PlanForms.{Ground, ground}
 use Rattle.site_turns.proofs.LeadingPlans.{placed_at, writes_on}
 use Rattle.site_turns.proofs.PlansWithOneJump.{entry_listed}

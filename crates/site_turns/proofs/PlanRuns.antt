@@ -11,8 +11,8 @@ use Rattle.cpu_state.specs.Bytes.{allows, byte_of}
 use Rattle.patch_report.specs.Values.{WriteValue, write_value}
 use Rattle.patch_report.proofs.ListPlaces.{In, in_map, any_at}
 use Rattle.start_list.specs.Plans.{Run, write_run, Ascend, bytes_from}
-use Rattle.image_check.specs.Reports.{in_run}
-use Rattle.image_check.specs.Rules.{holds_byte}
+use Rattle.sound_images.specs.Reports.{in_run}
+use Rattle.sound_images.specs.Rules.{holds_byte}
 use Rattle.scheme_search.proofs.ConsecutiveBytes.{get_or-bytes_from}
 use Rattle.site_turns.proofs.JoinedLists.{one_of_both}
 

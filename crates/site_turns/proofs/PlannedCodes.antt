@@ -9,8 +9,8 @@ use Rattle.trampoline.specs.Trampolines.{code_of}
 use Rattle.elf_emit.specs.declared.built.Built.{Built}
 use Rattle.elf_emit.specs.Views.{piece_of}
 use Rattle.patch_report.proofs.ListPlaces.{In, some_is}
-use Rattle.image_check.specs.Reports.{Line, event_of}
-use Rattle.image_check.specs.Rules.{Case, HasCode}
+use Rattle.sound_images.specs.Reports.{Line, event_of}
+use Rattle.sound_images.specs.Rules.{Case, HasCode}
 use Rattle.site_turns.specs.Planning.{AreCodes, AreCodesBy}
 use Rattle.site_turns.proofs.CodeSizes.{one_standing}
 

@@ -18,8 +18,8 @@ use Rattle.start_entries.specs.declared.entry.StartEntry.{StartEntry}
 use Rattle.start_entries.specs.Finding.{entry_at}
 use Rattle.start_list.specs.Forms.{work_by}
 use Rattle.start_entries.specs.Standing.{AreEntries}
-use Rattle.image_check.specs.Reports.{Line, row_lines, tramps_of}
-use Rattle.image_check.specs.Rules.{HasCode, displaced_by, displaced_from, displaced_at}
+use Rattle.sound_images.specs.Reports.{Line, row_lines, tramps_of}
+use Rattle.sound_images.specs.Rules.{HasCode, displaced_by, displaced_from, displaced_at}
 use Rattle.site_turns.specs.declared.building.EventSetting.{EventSetting}
 use Rattle.site_turns.specs.Choices.{Choice, row_of}
 use Rattle.site_turns.specs.Modes.{TurnRules, event_rules}

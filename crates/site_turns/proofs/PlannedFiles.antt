@@ -21,9 +21,9 @@ use Rattle.patch_report.specs.Values.{RowValue, write_value}
 use Rattle.patch_report.specs.declared.origin.Version.TheVariants.{Two}
 use Rattle.patch_report.specs.Grammar.{AscendFrom, IsBody}
 use Rattle.patch_report.proofs.ListPlaces.{In, all_from, in_map, contains_at}
-use Rattle.image_check.specs.Reports.{Line, lines, runs_of}
-use Rattle.image_check.specs.Rules.{HasCode}
-use Rattle.image_check.specs.Soundness as soundness
+use Rattle.sound_images.specs.Reports.{Line, lines, runs_of}
+use Rattle.sound_images.specs.Rules.{HasCode}
+use Rattle.sound_images.specs.Soundness as soundness
 use Rattle.site_turns.specs.Jobs.{patch_of, page_of, IsJobOf}
 use Rattle.site_turns.specs.States.{report_of}
 use Rattle.site_turns.specs.Loaded.{case_of}

@@ -30,7 +30,7 @@ use Rattle.start_entries.specs.declared.entry.StartEntry.{StartEntry}
 use Rattle.start_entries.specs.Finding.{addresses}
 use Rattle.start_entries.specs.Laws.{IsExecuted}
 use Rattle.start_entries.proofs.ExecutedEntries.{all_executed}
-use Rattle.image_check.specs.Reports.{Line, runs_of, in_run}
+use Rattle.sound_images.specs.Reports.{Line, runs_of, in_run}
 use Rattle.scheme_search.proofs.OneJumpBytes.{within_parts}
 use Rattle.site_turns.specs.States.{is_in}
 use Rattle.site_turns.specs.Folded.{done_by, in_code, IsNewlyTaken}

@@ -2,7 +2,7 @@
 use Rattle.std.proofs.Common.{◌≡◌, ℕ, ◌+◌, ◌*◌, ◌-◌, ◌≤◌, subst, arith}
 use Rattle.std.specs.Int.{div_ceil}
 use Rattle.address_space.specs.Free.{IsFree}
-use Rattle.image_check.specs.Reports.{private_len}
+use Rattle.sound_images.specs.Reports.{private_len}
 use Rattle.site_turns.specs.PrivateRange.{pages_for, PrivateHasRoom}
 
 -- as many whole pages as n bytes need have n bytes or more

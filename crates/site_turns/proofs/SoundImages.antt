@@ -15,9 +15,9 @@ use Rattle.start_entries.specs.SharedBytes.{has_byte}
 use Rattle.start_entries.specs.Finding.{entry_at}
 use Rattle.start_entries.specs.Leading.{Leads}
 use Rattle.start_entries.specs.Standing.{AreEntries}
-use Rattle.image_check.specs.Reports.{Line, lines, runs, in_run, starts_line, is_written, on_page, in_private, tramps_of}
-use Rattle.image_check.specs.Rules.{Case, times_owned, belongs, holds_byte, mistells, is_unexpected, is_expected, displaced_at, is_own, LiesIn, HasCode, is_below, row_before, ByteFails, WriteFails, EntryFails, CodeFails, RangeFails, RowFails, SiteFails, IsSound}
-use Rattle.image_check.proofs.StartPairs.{sound_followed}
+use Rattle.sound_images.specs.Reports.{Line, lines, runs, in_run, starts_line, is_written, on_page, in_private, tramps_of}
+use Rattle.sound_images.specs.Rules.{Case, times_owned, belongs, holds_byte, mistells, is_unexpected, is_expected, displaced_at, is_own, LiesIn, HasCode, is_below, row_before, ByteFails, WriteFails, EntryFails, CodeFails, RangeFails, RowFails, SiteFails, IsSound}
+use Rattle.sound_images.proofs.StartPairs.{sound_followed}
 use Rattle.site_turns.specs.States.{Scene, HasEvents, State, first_state, memory_at, report_of}
 use Rattle.site_turns.specs.Choices.{state_after}
 use Rattle.site_turns.specs.Folded.{Done, done_by, in_code, IsHeld, IsLed, Tells, IsRowOf, IsKept, IsFolded}

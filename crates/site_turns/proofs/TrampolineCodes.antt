@@ -24,9 +24,9 @@ use Rattle.start_entries.specs.declared.entry.StartEntry.{StartEntry}
 use Rattle.start_entries.specs.Finding.{entry_at}
 use Rattle.start_list.specs.Forms.{work_by, work_length}
 use Rattle.start_entries.specs.Laws.{IsBuilt}
-use Rattle.image_check.specs.Reports.{Line, event_of}
-use Rattle.image_check.specs.Rules.{Case, HasCode, displaced_by, displaced_from, displaced_at}
-use Rattle.image_check.proofs.CodeAtStarts.{IsReadAt, read_at, found_address}
+use Rattle.sound_images.specs.Reports.{Line, event_of}
+use Rattle.sound_images.specs.Rules.{Case, HasCode, displaced_by, displaced_from, displaced_at}
+use Rattle.sound_images.proofs.ReadInstructions.{IsReadAt, read_at, found_address}
 use Rattle.site_turns.specs.Folded.{size_from}
 use Rattle.site_turns.specs.StartInsns.{form_from, IsInsnAt}
 use Rattle.site_turns.proofs.LeadingPlans.{mapped_some, work_displaced}

@@ -9,7 +9,7 @@ use Rattle.patch_report.proofs.ListPlaces.{some_is}
 use Rattle.start_list.specs.TurnViews.{TurnView}
 use Rattle.start_list.specs.Forms.{Trampoline, work_by, work_length}
 use Rattle.start_list.specs.Admissible.{size_of}
-use Rattle.image_check.proofs.RelatedStates.{code_some}
+use Rattle.sound_images.proofs.RelatedStates.{code_some}
 
 -- what a sum of an option is made of
 pub added_to : (f : ℕ → ℕ) (o : Option ℕ) (n : ℕ) → option_map f o ≡ Some n → (k : ℕ) × (o ≡ Some k) × (f k ≡ n)

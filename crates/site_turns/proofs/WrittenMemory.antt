@@ -10,8 +10,8 @@ use Rattle.elf_emit.specs.Layout.{in_patch, written_by, written_at}
 use Rattle.elf_emit.specs.Laws.{with_writes}
 use Rattle.patch_report.specs.Values.{WriteValue}
 use Rattle.start_list.specs.TurnViews.{cell_by}
-use Rattle.image_check.specs.Reports.{in_run}
-use Rattle.image_check.specs.Rules.{holds_byte}
+use Rattle.sound_images.specs.Reports.{in_run}
+use Rattle.sound_images.specs.Rules.{holds_byte}
 use Rattle.site_turns.specs.States.{Scene}
 use Rattle.site_turns.specs.Folded.{Done, memory_in, in_runs, Tells, IsKept}
 use Rattle.site_turns.specs.Jobs.{patch_of}

@@ -5,7 +5,7 @@ use Rattle.byte_locks.specs.declared.lock.Lock.TheVariants.{Free}
 use Rattle.address_space.specs.declared.extent.Extent.{Extent}
 use Rattle.patch_report.specs.Values.{WriteValue}
 use Rattle.start_list.specs.PlanJumps.{Jump, is_written}
-use Rattle.image_check.specs.Reports.{Line, in_run}
+use Rattle.sound_images.specs.Reports.{Line, in_run}
 use Rattle.site_turns.specs.States.{Scene, is_taken, lock_after}
 use Rattle.site_turns.specs.Folded.{Done, IsLed, Tells, IsOwned, IsKept, in_code, starts_at}
 

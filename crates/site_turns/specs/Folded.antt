@@ -15,8 +15,8 @@ use Rattle.start_entries.specs.Standing.{IsOnlyIn}
 use Rattle.start_list.specs.TurnViews.{cell_by}
 use Rattle.start_list.specs.PlanJumps.{Jump}
 use Rattle.start_list.specs.Forms.{work_length}
-use Rattle.image_check.specs.Reports.{Line, row_lines, runs_of, in_run, tramps_of}
-use Rattle.image_check.specs.Rules.{holds_byte, is_own, displaced_at}
+use Rattle.sound_images.specs.Reports.{Line, row_lines, runs_of, in_run, tramps_of}
+use Rattle.sound_images.specs.Rules.{holds_byte, is_own, displaced_at}
 use Rattle.site_turns.specs.States.{Scene, State, is_taken}
 
 -- A byte is locked where it is punned or changed.

@@ -18,10 +18,10 @@ use Rattle.start_list.specs.TurnViews.{TurnView}
 use Rattle.start_list.specs.Forms.{Candidate, MayBeSite, scheme_of, jumps_of, trampolines_of}
 use Rattle.start_list.specs.Admissible.{IsAdmissible}
 use Rattle.start_list.specs.Plans.{IsPlanOf}
-use Rattle.image_check.specs.Reports.{Line}
-use Rattle.image_check.specs.Rules.{Case, HasCode, IsSound}
-use Rattle.image_check.specs.Soundness.{rewriting_of}
-use Rattle.image_check.specs.Headline.{Headline}
+use Rattle.sound_images.specs.Reports.{Line}
+use Rattle.sound_images.specs.Rules.{Case, HasCode, IsSound}
+use Rattle.sound_images.specs.Soundness.{rewriting_of}
+use Rattle.sound_images.specs.Headline.{Headline}
 use Rattle.site_turns.specs.States.{Scene, HasEvents, State, view_at, memory_at, first_state, applied, passed_over, report_of}
 use Rattle.site_turns.specs.Choices.{Choice, Apply, Left, row_of, IsTurns, state_after}
 use Rattle.site_turns.specs.Folded.{IsFolded, LeadBy, done_by, is_locked, code_size}

@@ -3,8 +3,8 @@ use Rattle.std.specs.Prelude.{◌≡◌, ℕ, ◌+◌, ◌<◌, ◌≤◌, true,
 use Rattle.std.specs.List.{AllByRecursion}
 use Rattle.pun_base.specs.Memory.{Cell, Bytes, joined}
 use Rattle.patch_report.specs.Values.{BodyValue}
-use Rattle.image_check.specs.Reports.{lines, in_private, on_page, private_len}
-use Rattle.image_check.specs.Rules.{Case, HasCode, SharesPage}
+use Rattle.sound_images.specs.Reports.{lines, in_private, on_page, private_len}
+use Rattle.sound_images.specs.Rules.{Case, HasCode, SharesPage}
 use Rattle.site_turns.specs.States.{Scene, State, memory_at, report_of}
 
 -- What is to be checked after the turns, where the code stands on these pages.

@@ -22,8 +22,8 @@ use Rattle.patch_report.specs.declared.origin.Version.TheVariants.{Two}
 use Rattle.patch_report.specs.Values.{BodyValue}
 use Rattle.patch_report.specs.Grammar.{IsBody, AscendFrom}
 use Rattle.start_entries.specs.Laws.{IsBuilt}
-use Rattle.image_check.specs.Rules.{Case, IsSound}
-use Rattle.image_check.specs.Soundness as soundness
+use Rattle.sound_images.specs.Rules.{Case, IsSound}
+use Rattle.sound_images.specs.Soundness as soundness
 use Rattle.site_turns.specs.PlannedState.{PlannedState}
 use Rattle.site_turns.specs.States.{report_of}
 use Rattle.site_turns.specs.Loaded.{case_of}

@@ -14,8 +14,8 @@ use Rattle.patch_report.specs.declared.row.ReportRow.{ReportRow}
 use Rattle.patch_report.specs.Values.{OutcomeValue, patched, left, row_value}
 use Rattle.start_entries.specs.declared.entry.StartEntry.{StartEntry}
 use Rattle.start_entries.specs.Finding.{addresses, entry_at}
-use Rattle.image_check.specs.Reports.{Line, row_lines, lines}
-use Rattle.image_check.specs.Rules.{Case, HasCode}
+use Rattle.sound_images.specs.Reports.{Line, row_lines, lines}
+use Rattle.sound_images.specs.Rules.{Case, HasCode}
 use Rattle.site_turns.specs.declared.error.TurnError.{TurnError}
 use Rattle.site_turns.specs.declared.error.TurnError.TheVariants.{NotListed, NoPrivate, Memory}
 use Rattle.site_turns.specs.PlannedState.{PlannedState}

@@ -9,7 +9,7 @@ use Rattle.address_space.specs.declared.extent.Extent.{Extent}
 use Rattle.address_space.specs.Free.{IsFree, whole_pages}
 use Rattle.pun_base.specs.Least.{Least}
 use Rattle.address_space.specs.Fit.{FitsPages}
-use Rattle.image_check.specs.Reports.{private_len}
+use Rattle.sound_images.specs.Reports.{private_len}
 
 -- The pages that n bytes from an address on meet.
 abbrev pub pages_of : ℕ → ℕ → Extent

@@ -27,8 +27,8 @@ use Rattle.start_list.specs.TurnViews.{TurnView}
 use Rattle.start_list.specs.Forms.{Candidate}
 use Rattle.trampoline.specs.Events.{event_length}
 use Rattle.start_list.specs.Turning.{view_of}
-use Rattle.image_check.specs.Reports.{Line}
-use Rattle.image_check.specs.Rules.{Case}
+use Rattle.sound_images.specs.Reports.{Line}
+use Rattle.sound_images.specs.Rules.{Case}
 use Rattle.site_turns.specs.declared.building.EventSetting.{EventSetting}
 use Rattle.site_turns.specs.declared.setting.Setting.{Setting}
 use Rattle.site_turns.specs.declared.progress.Progress.{Progress}

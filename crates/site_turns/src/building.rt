@@ -1,8 +1,8 @@
 //! The code of trampolines, and that with the events of an action.
 ghost use Rattle.std.specs.Prelude.{◌≡◌, ℕ, false, List, map, IfOk, OnOk};
 ghost use Rattle.std.specs.List.{AllByRecursion};
-ghost use Rattle.image_check.specs.Reports.{Line, event_of};
-ghost use Rattle.image_check.specs.Rules.{HasCode};
+ghost use Rattle.sound_images.specs.Reports.{Line, event_of};
+ghost use Rattle.sound_images.specs.Rules.{HasCode};
 ghost use Rattle.site_turns.specs.Planning.{lines_of, AreCodesBy};
 ghost use Rattle.site_turns.specs.Turned.{events_case, line_at, CanBuild, AddsCodes};
 

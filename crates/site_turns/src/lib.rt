@@ -1,6 +1,6 @@
 //! The turns: what becomes of each site, from the highest to the lowest.
 //!
-//! Stands on `scheme_pun`, `scheme_pad`, `scheme_succ`, `scheme_near`, `elf_emit` and `image_check`; `loader_form` and `rewrite_core` stand on it.
+//! Stands on `scheme_pun`, `scheme_pad`, `scheme_succ`, `scheme_near`, `elf_emit` and `sound_images`; `loader_form` and `rewrite_core` stand on it.
 #![tactic(auto)]
 
 pub mod asking;

@@ -1,6 +1,6 @@
 //! The starts of instructions that a user lists, with their lengths and what they are.
 //!
-//! Stands on `insn_form` and `elf_read`; `image_step` and `start_list` stand on it.
+//! Stands on `insn_form` and `elf_read`; `image_runs` and `start_list` stand on it.
 #![tactic(auto)]
 
 mod building;

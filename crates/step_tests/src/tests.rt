@@ -1,7 +1,4 @@
 //! The tests, by what they ask.
-mod deliveries;
+mod accesses;
 mod guests;
-mod runs;
-mod scenarios;
-mod scripts;
-mod steps;
+mod stops;

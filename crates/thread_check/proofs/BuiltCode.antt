@@ -21,13 +21,13 @@ use Rattle.patch_report.proofs.ReportBounds.{bounded}
 use Rattle.patch_report.proofs.ListPlaces.{In, contains_at}
 use Rattle.image_check.specs.CodeParts.{IsLow}
 use Rattle.image_check.specs.Parts.{line_of}
-use Rattle.image_check.specs.Reports.{Line, lines}
-use Rattle.image_check.specs.Rules.{Case, displaced_by, displaced_from}
+use Rattle.sound_images.specs.Reports.{Line, lines}
+use Rattle.sound_images.specs.Rules.{Case, displaced_by, displaced_from}
 use Rattle.image_check.specs.declared.flat.ReportLine.{ReportLine}
 use Rattle.image_check.specs.declared.verdict.Verdict.{Verdict}
 use Rattle.image_check.specs.declared.verdict.Verdict.TheVariants.{Yes, No}
-use Rattle.image_check.proofs.CodeAtStarts.{IsReadAt, read_at, found_address}
-use Rattle.image_check.proofs.ReportLines.{number_low, place_low}
+use Rattle.sound_images.proofs.ReadInstructions.{IsReadAt, read_at, found_address}
+use Rattle.sound_images.proofs.ReportLines.{number_low, place_low}
 use Rattle.site_turns.specs.StartInsns.{form_from, form_at, IsInsnAt}
 use Rattle.site_turns.proofs.TrampolineCodes.{taken_len, taken_spelled}
 use Rattle.site_turns.specs.Modes.{thread_event_of}

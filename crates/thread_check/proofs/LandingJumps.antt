@@ -7,9 +7,9 @@ use Rattle.pun_base.specs.Memory.{Bytes}
 use Rattle.patch_report.proofs.ListPlaces.{some_is}
 use Rattle.start_entries.specs.Finding.{entry_at}
 use Rattle.start_entries.specs.Leading.{JumpsTo, Leads}
-use Rattle.image_check.specs.Rules.{Case}
+use Rattle.sound_images.specs.Rules.{Case}
 use Rattle.image_check.proofs.FixedJumps.{to_place}
-use Rattle.image_check.proofs.LeadingBytes.{leads_or_not, one_target}
+use Rattle.sound_images.proofs.LeadingBytes.{leads_or_not, one_target}
 use Rattle.thread_check.specs.ThreadRules.{ThreadLeads}
 use Rattle.thread_check.specs.LineParts.{Lands}
 

@@ -7,8 +7,8 @@ use Rattle.pun_base.specs.declared.tramp.Tramp.{Tramp}
 use Rattle.patch_report.specs.Values.{BodyValue, RowValue}
 use Rattle.patch_report.specs.Grammar.{CountsDown}
 use Rattle.patch_report.proofs.ListPlaces.{In, count_cons}
-use Rattle.image_check.specs.Reports.{Line, lines, row_lines, tramps_of}
-use Rattle.image_check.specs.Rules.{is_own}
+use Rattle.sound_images.specs.Reports.{Line, lines, row_lines, tramps_of}
+use Rattle.sound_images.specs.Rules.{is_own}
 use Rattle.site_turns.proofs.JoinedLists.{counted_both}
 
 -- a row's first trampoline is its own

@@ -22,12 +22,12 @@ use Rattle.patch_report.specs.Bounds.{IsBounded}
 use Rattle.patch_report.specs.Grammar.{IsTold}
 use Rattle.patch_report.proofs.ReportBounds.{bounded}
 use Rattle.patch_report.proofs.ListPlaces.{In, some_is, all_in, all_from, contains_at, counted_twice, finds}
-use Rattle.image_check.specs.Reports.{Line, lines, is_written, in_private, on_page, tramps_of}
-use Rattle.image_check.specs.Rules.{Case, differs, displaced_by, displaced_from, displaced_at, LiesInWith, HoldsCode, is_own, ByteFails, WriteFails, RangeFails}
-use Rattle.image_check.proofs.HeldRules.{some_unless, held_or_not, same_unless, owned_at, code_low as code_ends, new_none, zero_at}
-use Rattle.image_check.proofs.LoadedCode.{loaded_fixed}
-use Rattle.image_check.proofs.FixedJumps.{any_found}
-use Rattle.image_check.proofs.ReportLines.{number_low}
+use Rattle.sound_images.specs.Reports.{Line, lines, is_written, in_private, on_page, tramps_of}
+use Rattle.sound_images.specs.Rules.{Case, differs, displaced_by, displaced_from, displaced_at, LiesInWith, HoldsCode, is_own, ByteFails, WriteFails, RangeFails}
+use Rattle.sound_images.proofs.HeldRules.{some_unless, held_or_not, same_unless, owned_at, code_low as code_ends, new_none, zero_at}
+use Rattle.sound_images.proofs.LoadedCode.{loaded_fixed}
+use Rattle.sound_images.proofs.FoundElements.{any_found}
+use Rattle.sound_images.proofs.ReportLines.{number_low}
 use Rattle.site_turns.specs.Modes.{can_in_threads, is_shared, IsShared}
 use Rattle.site_turns.proofs.PlanForms.{entry_here}
 use Rattle.site_turns.proofs.CodeSizes.{one_standing}

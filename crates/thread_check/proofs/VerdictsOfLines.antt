@@ -19,14 +19,14 @@ use Rattle.patch_report.proofs.ListPlaces.{In, found, contains_at, place_of, cou
 use Rattle.image_check.specs.declared.placed_code.PlacedCode.{PlacedCode}
 use Rattle.image_check.specs.CodeParts.{in_code}
 use Rattle.image_check.specs.Parts.{line_of}
-use Rattle.image_check.specs.Reports.{Line, lines, times_started, in_private, on_page}
-use Rattle.image_check.specs.Rules.{Case, HasCodeWith, LiesInWith, HoldsCode, is_expected, is_unexpected, displaced_by, displaced_from, displaced_at, EntryFails}
+use Rattle.sound_images.specs.Reports.{Line, lines, times_started, in_private, on_page}
+use Rattle.sound_images.specs.Rules.{Case, HasCodeWith, LiesInWith, HoldsCode, is_expected, is_unexpected, displaced_by, displaced_from, displaced_at, EntryFails}
 use Rattle.image_check.specs.declared.rule.Rule.TheVariants as rule
 use Rattle.image_check.specs.declared.verdict.Verdict.{Verdict}
 use Rattle.image_check.specs.declared.verdict.Verdict.TheVariants.{Yes, No}
 use Rattle.image_check.specs.Verdict.{FailsBy, IsLeastOf}
 use Rattle.image_check.proofs.CodeRule.{two_places, held_back, mapped}
-use Rattle.image_check.proofs.LeadingBytes.{leads_or_not}
+use Rattle.sound_images.proofs.LeadingBytes.{leads_or_not}
 use Rattle.image_check.proofs.NearCounts.{any_moved, count_moved}
 use Rattle.site_turns.specs.Modes.{IsShared}
 use Rattle.site_turns.proofs.CodeSizes.{one_standing}

@@ -6,8 +6,8 @@ use Rattle.pun_base.specs.Memory.{Cell, Bytes}
 use Rattle.start_entries.specs.Leading.{JumpsTo}
 use Rattle.image_check.specs.CodeParts.{holds_code}
 use Rattle.image_check.specs.Parts.{line_of}
-use Rattle.image_check.specs.Reports.{Line, lines}
-use Rattle.image_check.specs.Rules.{Case, HasCodeWith, ByteFails, WriteFails, EntryFails, RangeFails, SiteFails}
+use Rattle.sound_images.specs.Reports.{Line, lines}
+use Rattle.sound_images.specs.Rules.{Case, HasCodeWith, ByteFails, WriteFails, EntryFails, RangeFails, SiteFails}
 use Rattle.image_check.specs.declared.placed_code.PlacedCode.{PlacedCode}
 use Rattle.image_check.specs.declared.verdict.Verdict.{Verdict}
 use Rattle.image_check.specs.declared.verdict.Verdict.TheVariants.{Yes, No}

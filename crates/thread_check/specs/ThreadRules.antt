@@ -6,8 +6,8 @@ use Rattle.start_entries.specs.declared.entry.StartEntry.{StartEntry}
 use Rattle.start_entries.specs.Finding.{entry_at}
 use Rattle.start_entries.specs.Leading.{JumpsTo}
 use Rattle.patch_report.specs.Values.{BodyValue}
-use Rattle.image_check.specs.Reports.{Line, lines, times_started}
-use Rattle.image_check.specs.Rules.{Case, Coding, ByteFails, WriteFails, CodeFailsWith, RangeFails, SiteFails}
+use Rattle.sound_images.specs.Reports.{Line, lines, times_started}
+use Rattle.sound_images.specs.Rules.{Case, Coding, ByteFails, WriteFails, CodeFailsWith, RangeFails, SiteFails}
 use Rattle.site_turns.specs.Modes.{can_in_threads, IsShared}
 use Rattle.guest_threads.specs.FromTurns.{code_of_line}
 

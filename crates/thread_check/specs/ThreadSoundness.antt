@@ -2,8 +2,8 @@
 use Rattle.std.specs.Prelude.{◌≡◌, flat_map}
 use Rattle.start_entries.specs.Standing.{AreEntries}
 use Rattle.patch_report.specs.Grammar.{IsTold}
-use Rattle.image_check.specs.Reports.{lines}
-use Rattle.image_check.specs.Rules.{Case}
+use Rattle.sound_images.specs.Reports.{lines}
+use Rattle.sound_images.specs.Rules.{Case}
 use Rattle.thread_runs.specs.Theorem.{AreFollowed, GetOut}
 use Rattle.thread_runs.specs.TheoremWithDeliveries.{AreFollowedWith, GetOutWith}
 use Rattle.thread_runs.specs.Building.{kind_of}

@@ -1,5 +1,5 @@
 -- When a verdict on a file that was patched for threads is true. Theorems cite it.
-use Rattle.image_check.specs.Rules.{Case}
+use Rattle.sound_images.specs.Rules.{Case}
 use Rattle.image_check.specs.declared.verdict.Verdict.{Verdict}
 use Rattle.image_check.specs.declared.verdict.Verdict.TheVariants.{Yes, No}
 use Rattle.thread_check.specs.ThreadRules.{ThreadFails, IsThreadCaseSound}

@@ -1,6 +1,6 @@
 //! The checker of files that are patched for guests of several threads.
 //!
-//! Stands on `image_check`, `thread_runs` and `guest_threads`; `inspect_commands` and `thread_tests` stand on it.
+//! Stands on `image_check`, `thread_runs` and `guest_threads`; `inspect_commands` stands on it.
 #![tactic(auto)]
 
 pub mod laws;

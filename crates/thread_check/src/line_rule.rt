@@ -5,7 +5,7 @@ ghost use Rattle.elf_read.specs.Refusals.{refusal};
 ghost use Rattle.start_entries.specs.Laws.{IsBuilt};
 ghost use Rattle.image_check.specs.CodeParts.{IsLow};
 ghost use Rattle.image_check.specs.Parts.{line_of};
-ghost use Rattle.image_check.specs.Verdict.{case_of};
+ghost use Rattle.sound_images.specs.Cases.{case_of};
 ghost use Rattle.site_turns.specs.Modes.{IsShared};
 ghost use Rattle.thread_check.specs.LineParts.{Lands, IsCodeFound, IsCodeVerdict, IsSoundLine, IsLineFailure};
 

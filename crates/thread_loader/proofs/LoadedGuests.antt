@@ -10,7 +10,7 @@ use Rattle.patch_report.specs.declared.origin.Origin.{Origin}
 use Rattle.patch_report.specs.declared.origin.Version.TheVariants.{Two}
 use Rattle.patch_report.specs.Values.{ReportValue, body_of, written}
 use Rattle.patch_report.specs.Grammar.{IsBody, IsReport, OriginFits}
-use Rattle.image_step.specs.Quiet.{IsStartPair}
+use Rattle.image_runs.specs.Quiet.{IsStartPair}
 use Rattle.site_turns.specs.Modes.{thread_rules}
 use Rattle.site_turns.specs.PlannedState.{PlannedState}
 use Rattle.site_turns.specs.Planning.{Turns}

@@ -7,7 +7,7 @@ use Rattle.insn_form.specs.Machine.{Machine}
 use Rattle.insn_form.specs.Processor.{IsProcessorState}
 use Rattle.elf_read.specs.Image.{image_of}
 use Rattle.elf_emit.specs.Laws.{bare_image}
-use Rattle.image_step.specs.Quiet.{IsStartPair}
+use Rattle.image_runs.specs.Quiet.{IsStartPair}
 use Rattle.thread_runs.specs.Guest.{Thread, machine_of, thread_of}
 use Rattle.thread_runs.specs.Theorem.{AreStartGuests, AreFollowed, GetOut}
 use Rattle.thread_runs.specs.TheoremWithDeliveries.{AreFollowedWith, GetOutWith}

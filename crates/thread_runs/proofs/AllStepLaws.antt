@@ -1,6 +1,6 @@
 -- All laws of single steps, as one record.
-use Rattle.thread_runs.proofs.Acting.{acting_alike}
-use Rattle.thread_runs.proofs.ThreadSteps.{alike_thread}
+use Rattle.event_steps.proofs.Acting.{acting_alike}
+use Rattle.thread_runs.proofs.AlikeThreadSteps.{alike_thread}
 use Rattle.thread_runs.proofs.RingEventInstructions.{ring_step, ring_goes, saved_both, holds_slots, ring_held}
 use Rattle.thread_runs.specs.StepLaws.{StepLaws}
 use Rattle.thread_runs.proofs.ThreadEventInstructions.{event_step, event_goes, saved_back}

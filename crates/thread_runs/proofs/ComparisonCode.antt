@@ -1,5 +1,5 @@
 -- The instructions of comparisons in an event: CMP and a short jump, and what both do.
-use Rattle.std.proofs.Common.{◌≡◌, ℕ, zero, suc, ◌+◌, ◌-◌, ◌*◌, ◌%◌, ◌^◌, ◌<◌, ◌≤◌, Bool, true, false, cond, List, [], ◌∷◌, ◌++◌, length, length-append, Some, None, unwrap_or, refl, sym, ap, ap₂, ◌∙◌, subst, arith}
+use Rattle.std.proofs.Common.{◌≡◌, ℕ, zero, suc, ◌+◌, ◌-◌, ◌*◌, ◌%◌, ◌^◌, ◌<◌, ◌≤◌, true, false, List, [], ◌∷◌, ◌++◌, length, length-append, Some, None, refl, sym, ap, ap₂, ◌∙◌, subst, arith}
 use Rattle.std.specs.Prelude.{slice_index}
 use Rattle.std.proofs.lemmas.Bool.{and_parts, and_from, and_right}
 use Rattle.std.proofs.lemmas.List.{append_assoc}
@@ -18,7 +18,7 @@ use Rattle.insn_form.specs.declared.form.Value.TheVariants as value
 use Rattle.insn_form.specs.declared.form.Op.{Op}
 use Rattle.insn_form.specs.declared.form.Op.TheVariants.{Alu, Jcc}
 use Rattle.insn_form.specs.declared.form.Insn.TheVariants.{Exact}
-use Rattle.insn_form.specs.Operands.{word_of, reg, place}
+use Rattle.insn_form.specs.Operands.{reg, place}
 use Rattle.insn_form.specs.Classes.{template}
 use Rattle.insn_form.specs.Filling.{filled, integer_of, immediate}
 use Rattle.insn_form.specs.Resolving.{absolute}
@@ -26,10 +26,9 @@ use Rattle.insn_form.specs.Meaning.{effect}
 use Rattle.relocate_insn.specs.Pieces.{four}
 use Rattle.cond_action.specs.Conditions.{compares, all_hold}
 use Rattle.cond_action.specs.Codes.{wide_prefix, compare_code, failing}
-use Rattle.trampoline.proofs.FlagEventInstructions.{AllUnder, under}
-use Rattle.trampoline.proofs.EventSteps.{goes_over}
-use Rattle.trampoline.proofs.ConditionEvents.{failing_low}
-use Rattle.thread_runs.specs.ThreadSteps.{is_locked_xadd, thread_task}
+use Rattle.event_steps.proofs.SingleSteps.{AllUnder, under}
+use Rattle.trampoline.proofs.FailedComparisons.{failing_low}
+use Rattle.event_steps.specs.ThreadSteps.{is_locked_xadd, thread_task}
 use Rattle.thread_runs.specs.ThreadCode.{compare_with, compare_len, checking_len, checking_code, slot}
 
 -- -136 as a displacement
@@ -140,15 +139,6 @@ compare_told (suc r) n next c x = refl
 pub jump_told : (cc d next : ℕ) (c : Core) (x : ℕ) → ((effect (over_op cc d next) next c).out x).undefined ≡ 0
 unfolding effect
 jump_told cc d next c x = refl
-
--- a target that is there where a jump is taken
-taken : (b : Bool) (t next : ℕ) → unwrap_or (cond b (Some t) None) next ≡ cond b t next
-taken true t next = refl
-taken false t next = refl
-
--- where a short jump leads
-pub leads_over : (b : Bool) (next d : ℕ) → next < 2 ^ 31 → d < 128 → unwrap_or (cond b (Some (word_of (absolute next (integer_of (d ∷ []))))) None) next ≡ cond b (next + d) next
-leads_over b next d l h = taken b _ next ∙ ap (λ z. cond b z next) (goes_over next d l h)
 
 -- comparisons and further ones have the bytes of both
 pub checking_more : (ds es : List Comparison) → checking_len (ds ++ es) ≡ checking_len ds + checking_len es

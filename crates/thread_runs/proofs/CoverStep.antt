@@ -16,10 +16,10 @@ use Rattle.insn_form.specs.Exactly.{after_op, HasOperands}
 use Rattle.relocate_insn.specs.Pieces.{four}
 use Rattle.relocate_insn.proofs.PieceSteps.{at_fixed, fixed_place}
 use Rattle.trampoline.proofs.EventPieces.{mark_fields, mark_is}
-use Rattle.thread_runs.specs.ThreadSteps.{thread_task, ThreadStepsBy}
-use Rattle.thread_runs.specs.ThreadCode.{mark_at}
+use Rattle.event_steps.specs.ThreadSteps.{thread_task, ThreadStepsBy}
+use Rattle.trampoline.specs.EventLists.{mark_at}
 use Rattle.thread_runs.specs.Event.{AtStore, covered, IsCoverStep, CoverGoes}
-use Rattle.thread_runs.proofs.KnownCodeSteps.{IsKnown, known_fixed, known_step, known_told}
+use Rattle.event_steps.proofs.KnownCodeSteps.{IsKnown, known_fixed, known_step, known_told}
 
 -- the operation of MOV byte [a], 1
 abbrev store_op : ℕ → Op

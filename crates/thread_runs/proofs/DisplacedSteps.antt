@@ -15,14 +15,14 @@ use Rattle.insn_form.specs.Machine.{Machine, leaves}
 use Rattle.insn_form.specs.Step.{next_after}
 use Rattle.insn_form.specs.Touched.{reads_none, writes_none}
 use Rattle.insn_form.specs.Processor.{IsProcessorState}
-use Rattle.thread_runs.specs.ThreadSteps.{is_locked_xadd, thread_task, thread_act, ThreadStepsBy}
+use Rattle.event_steps.specs.ThreadSteps.{is_locked_xadd, thread_task, thread_act, ThreadStepsBy}
 use Rattle.insn_form.specs.Alike.{AreAlike, writes_at, still}
 use Rattle.insn_form.proofs.UniqueSteps.{one_instruction}
 use Rattle.insn_form.proofs.TouchedMemory.{read_and_write}
-use Rattle.thread_runs.proofs.Acting.{acting_after, acting_unwritten}
+use Rattle.event_steps.proofs.Acting.{acting_after, acting_unwritten}
 use Rattle.relocate_insn.proofs.FixedCode.{next_address, fixed_stands, fixed_on}
 use Rattle.start_entries.specs.Standing.{AreEntries}
-use Rattle.image_step.specs.Listed.{is_start, is_listed_byte}
+use Rattle.image_runs.specs.Listed.{is_start, is_listed_byte}
 use Rattle.thread_runs.specs.Guest.{Thread, machine_of, thread_of}
 use Rattle.thread_runs.specs.ThreadCode.{Marks, Keeps, thread_work}
 use Rattle.thread_runs.specs.Ring.{ringing_at, claimed_at}
@@ -34,7 +34,7 @@ use Rattle.thread_runs.specs.Watching.{Watched, Watch, leads_to, led_on, behind,
 use Rattle.thread_runs.specs.Premises.{IsQuietAt, reads_nothing_of}
 use Rattle.thread_runs.specs.StepLaws.{StepLaws, writes_of}
 use Rattle.thread_runs.proofs.ThreadPlaces.{part_only, kept_not, no_site, site_here, effect_there, effect_never, part_in, work_in, part_is, part_true, part_past, part_small, save_small, mark_from, mark_end, mark_some, start_old, part_never, old_unclaimed, claimed_here, ringing_here, keeping_is, behind_event}
-use Rattle.thread_runs.proofs.KeptRelation.{keeps_code}
+use Rattle.event_steps.proofs.ThreadSteps.{keeps_code}
 use Rattle.thread_runs.proofs.StandingCode.{fields_of, site_stands, work_stands, code_length, mark_kept, position_kept, slot_kept}
 use Rattle.thread_runs.proofs.OutsideSteps.{alike_on, none_more, uncounted, none_even, calm_projection, start_uncounted}
 use Rattle.thread_runs.proofs.ThreadEventSteps.{same_test}

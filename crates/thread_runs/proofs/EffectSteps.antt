@@ -19,7 +19,7 @@ use Rattle.insn_form.specs.Laws.{is_steady}
 use Rattle.insn_form.specs.Machine.{Machine}
 use Rattle.insn_form.specs.Step.{next_after}
 use Rattle.insn_form.specs.Again.{always_goes}
-use Rattle.thread_runs.specs.ThreadSteps.{thread_task}
+use Rattle.event_steps.specs.ThreadSteps.{thread_task}
 use Rattle.relocate_insn.specs.Pieces.{jump_code, push_code, ecx_code}
 use Rattle.relocate_insn.specs.Relocating.{copy_of, asked_code}
 use Rattle.relocate_insn.proofs.FixedCode.{next_address, fixed_front}

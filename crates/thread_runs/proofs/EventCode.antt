@@ -21,15 +21,16 @@ use Rattle.insn_form.specs.Filling.{filled}
 use Rattle.insn_form.specs.FlagsBack.{seto_al, add_al}
 use Rattle.insn_form.specs.Meaning.{effect}
 use Rattle.insn_form.specs.Machine.{Machine}
-use Rattle.thread_runs.specs.ThreadSteps.{is_locked_xadd, thread_task}
+use Rattle.event_steps.specs.ThreadSteps.{is_locked_xadd, thread_task}
 use Rattle.relocate_insn.specs.Pieces.{four}
 use Rattle.relocate_insn.proofs.FixedCode.{fixed_front, fixed_back}
 use Rattle.relocate_insn.proofs.PieceSteps.{at_fixed}
 use Rattle.cond_action.specs.Codes.{failing}
-use Rattle.thread_runs.specs.ThreadCode.{mark_at, saving_code, restoring_code, marking_code, marking_len, compare_with, compare_len, checking_len, checking_code, saving_event, saving_len}
+use Rattle.trampoline.specs.EventLists.{mark_at}
+use Rattle.thread_runs.specs.ThreadCode.{saving_code, restoring_code, marking_code, marking_len, compare_with, compare_len, checking_len, checking_code, saving_event, saving_len}
 use Rattle.thread_runs.specs.Event.{Point, offset, checked, following, is_inside, IsDecided, AreFew, InEvent}
 use Rattle.thread_runs.specs.Event.Point.{At0, At1, At2, AtCompare, AtJump, At3, At4, At5, At6, At7}
-use Rattle.thread_runs.proofs.KnownCodeSteps.{IsKnown, known_fixed}
+use Rattle.event_steps.proofs.KnownCodeSteps.{IsKnown, known_fixed}
 use Rattle.thread_runs.proofs.ComparisonCode.{minus_136, below_red_zone, compare_fields, compare_op, compare_made, compare_is, compare_spelled, compare_long, compare_some, compare_told, compare_alone, over_fields, over_op, jump_made, jump_is, jump_told, checking_more, checking_few, checking_long, checking_parts, asked_in}
 
 -- the fields of the instruction that marks at an address

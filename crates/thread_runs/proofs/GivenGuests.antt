@@ -13,11 +13,12 @@ use Rattle.insn_form.proofs.AlikeMemories.{lacking_in_alike, carried_alike}
 use Rattle.insn_form.proofs.FrameRule.{put_all_keeps}
 use Rattle.insn_form.proofs.TouchedMemory.{writes_both, put_all_perms}
 use Rattle.start_entries.specs.Standing.{AreEntries}
-use Rattle.image_step.specs.declared.delivery.Delivery.{Delivery}
-use Rattle.image_step.specs.Listed.{is_start, is_listed_byte}
-use Rattle.image_check.proofs.DeliveredStates.{written_code}
+use Rattle.image_runs.specs.declared.delivery.Delivery.{Delivery}
+use Rattle.image_runs.specs.Listed.{is_start, is_listed_byte}
+use Rattle.sound_images.proofs.DeliveredStates.{written_code}
 use Rattle.thread_runs.specs.Guest.{Thread, Guest}
-use Rattle.thread_runs.specs.ThreadCode.{Marks, Keeps, mark_at, mark_len, position_at, slot_at, ring_len}
+use Rattle.thread_runs.specs.ThreadCode.{Marks, Keeps, position_at, slot_at, ring_len}
+use Rattle.trampoline.specs.EventLists.{mark_at, mark_len}
 use Rattle.thread_runs.specs.Threading.Part.{Unfilled}
 use Rattle.thread_runs.specs.Ring.{claimed_by, kept_by, claimed_at}
 use Rattle.thread_runs.specs.Threading.{ThreadSite, Threading, is_new, is_hidden, is_saved_by, is_unfilled, IsThreadSound}
@@ -28,7 +29,8 @@ use Rattle.thread_runs.specs.GuestDeliveries.{Takes, given, LeadsBy, Receives}
 use Rattle.thread_runs.specs.WatchedDeliveries.{WatchWith, writes_byte, watched_given, IsGiven}
 use Rattle.patch_report.proofs.ListPlaces.{some_is}
 use Rattle.thread_runs.proofs.ListUpdates.{set_here, set_away, map_set, get_map, count_set}
-use Rattle.thread_runs.proofs.KeptRelation.{run_more, last_more, lacking_on, other_kept}
+use Rattle.thread_runs.proofs.KeptRelation.{run_more, last_more, other_kept}
+use Rattle.event_steps.proofs.ThreadSteps.{lacking_on}
 use Rattle.thread_runs.proofs.ThreadPlaces.{start_old, part_never, code_unlisted, ring_in, old_unclaimed}
 use Rattle.thread_runs.proofs.StandingCode.{mark_kept, position_kept, slot_kept}
 use Rattle.thread_runs.proofs.OutsideSteps.{uncounted, start_uncounted}

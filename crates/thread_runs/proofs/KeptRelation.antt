@@ -1,25 +1,26 @@
 -- A step of one thread keeps the relation between the watched guest and the original's.
-use Rattle.std.proofs.Common.{◌≡◌, ◌≢◌, inl, inr, ℕ, zero, suc, ◌+◌, ◌%◌, ◌^◌, ◌<◌, Bool, true, false, cond, List, [], ◌∷◌, ◌++◌, map, Option, Some, None, refl, sym, ap, ap₂, ◌∙◌, subst, arith}
+use Rattle.std.proofs.Common.{◌≡◌, ◌≢◌, inl, inr, ℕ, ◌+◌, ◌%◌, ◌^◌, ◌<◌, Bool, true, false, List, [], ◌∷◌, ◌++◌, map, Option, Some, None, refl, sym, ap, ap₂, ◌∙◌, subst, arith}
 use Rattle.std.specs.Prelude.{Contains, count_by, slice_get, slice_set}
 use Rattle.std.proofs.lemmas.Bool.{cond-true, cond-false, cases_eq, and_parts}
 use Rattle.pun_base.specs.Memory.{Bytes}
 use Rattle.pun_base.specs.declared.action.Base.{Base}
 use Rattle.length_decode.specs.Spelling.{Fields}
 use Rattle.cpu_state.specs.declared.state.Core.{Core}
-use Rattle.cpu_state.specs.Bytes.{advanced, allows, lacking, number_at}
+use Rattle.cpu_state.specs.Bytes.{lacking, number_at}
 use Rattle.insn_form.specs.Machine.{Machine}
 use Rattle.insn_form.specs.Step.{next_after}
-use Rattle.insn_form.specs.Touched.{perms_at, reads_none, writes_none}
+use Rattle.insn_form.specs.Touched.{reads_none, writes_none}
 use Rattle.insn_form.specs.Laws.{Keeps as KeepsBytes}
 use Rattle.insn_form.proofs.TouchedMemory.{read_and_write}
-use Rattle.thread_runs.proofs.Acting.{acting_perms, acting_guarded, acting_unwritten}
-use Rattle.thread_runs.specs.ThreadSteps.{is_locked_xadd, thread_task, ThreadStepsBy}
+use Rattle.event_steps.proofs.Acting.{acting_unwritten}
+use Rattle.event_steps.specs.ThreadSteps.{is_locked_xadd, thread_task, ThreadStepsBy}
 use Rattle.relocate_insn.proofs.FixedCode.{SameCode}
 use Rattle.start_entries.specs.declared.entry.StartEntry.{StartEntry}
 use Rattle.thread_runs.specs.Guest.{Thread, Guest, machine_of, thread_of, Moves, last_guest}
 use Rattle.thread_runs.specs.GuestDeliveries.{GuestItem, Goes, LeadsBy, IsInterleavedWith}
 use Rattle.thread_runs.specs.WatchedDeliveries.{made_after}
-use Rattle.thread_runs.specs.ThreadCode.{Marks, Keeps, mark_at, mark_len, position_at, slot_at, ring_len, slot, flag_slot, saved_from, saved_len}
+use Rattle.thread_runs.specs.ThreadCode.{Marks, Keeps, position_at, slot_at, ring_len, slot, flag_slot, saved_from, saved_len}
+use Rattle.trampoline.specs.EventLists.{mark_at, mark_len}
 use Rattle.thread_runs.specs.RingEvent.{RingPoint, ring_offset, is_ringing, RingSaved}
 use Rattle.thread_runs.specs.RingEvent.RingPoint.{Ring0, Ring1, Ring2, Ring3, Ring4, Ring5, Ring6, Ring7, Ring8, Ring9, Ring10, Ring11, Ring12}
 use Rattle.thread_runs.specs.Event.{Point, is_inside, has_point, IsDecided, HasSaved}
@@ -28,21 +29,21 @@ use Rattle.thread_runs.specs.Relation.{offset_if, point_at, has_rax}
 use Rattle.thread_runs.specs.Work.{Tail, InTail}
 use Rattle.thread_runs.specs.Work.Tail.{Out, Back, Jump, Ecx}
 use Rattle.thread_runs.specs.Threading.Part.{Saved}
-use Rattle.thread_runs.specs.Threading.{ThreadSite, Threading, part_to, is_part, has_saved, is_one_of, is_saved_by, IsThreadSound}
+use Rattle.thread_runs.specs.Threading.{ThreadSite, Threading, part_to, is_part, has_saved, is_saved_by, IsThreadSound, is_hidden}
+use Rattle.event_steps.specs.DoneSteps.{is_one_of}
 use Rattle.thread_runs.specs.Watching.{Watched, Watch, EffectStep, is_effect, projection, watched_after}
 use Rattle.thread_runs.specs.Premises.{touches_none, LeavesSaved}
 use Rattle.thread_runs.specs.StepLaws.{HoldsSlot, HoldsSlots}
 use Rattle.thread_runs.specs.Theorem.{is_recorded, has_marked}
 use Rattle.insn_form.specs.Alike.{AreAlike}
-use Rattle.insn_form.proofs.AlikeMemories.{same_allows}
-use Rattle.image_step.specs.Listed.{is_start}
-use Rattle.thread_runs.specs.Threading.{is_hidden}
+use Rattle.image_runs.specs.Listed.{is_start}
 use Rattle.patch_report.proofs.ListPlaces.{some_is, any_at, place_of}
-use Rattle.thread_runs.proofs.ByteRanges.{number_on, range_first, range_rest}
+use Rattle.event_steps.proofs.ByteRanges.{number_on, range_first, range_rest}
 use Rattle.thread_runs.proofs.RingEventInstructions.{flags_then_rax}
 use Rattle.thread_runs.proofs.ListUpdates.{set_here, set_away, map_set, map_same, get_map, count_set, count_more}
 use Rattle.thread_runs.proofs.ThreadPlaces.{part_true, point_inside, point_saved}
 use Rattle.thread_runs.proofs.WatchedRelation.{ThreadKept, HasRoom, shown_after, marked, HasRing, RingKept, Related, Changes, Made, stale_next}
+use Rattle.event_steps.proofs.ThreadSteps.{keeps_code, keeps_perms, lacking_on}
 
 -- runs that grow at the end
 pub run_more : (listed : List StartEntry) (is : List GuestItem) (g : Guest) (gs : List Guest) (i : GuestItem) (h : Guest) → IsInterleavedWith listed is g gs
@@ -56,21 +57,6 @@ run_more listed (j ∷ is) g (x ∷ xs) i h r m = (r.0, run_more listed is x xs 
 pub last_more : (g : Guest) (gs : List Guest) (h : Guest) → last_guest g (gs ++ h ∷ []) ≡ h
 last_more g [] h = refl
 last_more g (x ∷ xs) h = last_more x xs h
-
--- after a step of a thread memory has the code that it had before
-pub keeps_code : (m : Bytes) (f : Fields) (s t : Machine) → ThreadStepsBy f s t → SameCode m s.mem → SameCode m t.mem
-keeps_code m f s t st h x a w =
-    let e = h x a w in
-    acting_guarded (is_locked_xadd f) (thread_task f (next_after s.rip f)) (next_after s.rip f) s t st.acts x (ap (allows 2) e ∙ w) ∙ e
-
--- no step of a thread changes permissions
-pub keeps_perms : (f : Fields) (s t : Machine) → ThreadStepsBy f s t → (x : ℕ) → perms_at t.mem x ≡ perms_at s.mem x
-keeps_perms f s t st x = acting_perms (is_locked_xadd f) (thread_task f (next_after s.rip f)) (next_after s.rip f) s t st.acts x
-
--- where permissions are equal, the first byte that lacks one is the same
-pub lacking_on : (p : ℕ) (m w : Bytes) (a n : ℕ) → ((x : ℕ) → perms_at w x ≡ perms_at m x) → lacking p w a n ≡ lacking p m a n
-lacking_on p m w a zero h = refl
-lacking_on p m w a (suc n) h = ap₂ (λ b o. cond b o (Some a)) (same_allows p (w a) (m a) (h a)) (lacking_on p m w (advanced a 1) n h)
 
 -- so it is after a step
 pub lacking_after : (p a n : ℕ) (f : Fields) (s t : Machine) → ThreadStepsBy f s t → lacking p t.mem a n ≡ lacking p s.mem a n

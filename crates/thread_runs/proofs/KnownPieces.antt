@@ -18,12 +18,12 @@ use Rattle.insn_form.specs.Resolving.{absolute, resolved_insn}
 use Rattle.insn_form.specs.Meaning.{effect}
 use Rattle.insn_form.specs.Machine.{Machine}
 use Rattle.insn_form.specs.Moved.{rel_bytes}
-use Rattle.thread_runs.specs.ThreadSteps.{thread_task}
+use Rattle.event_steps.specs.ThreadSteps.{thread_task}
 use Rattle.relocate_insn.specs.Pieces.{four, jump_code, push_code, ecx_code}
 use Rattle.relocate_insn.proofs.RelocatedLengths.{call_spot}
 use Rattle.relocate_insn.proofs.PieceSteps.{jump_fields, jump_is, jump_insn, push_fields, push_is, push_insn, ecx_fields, ecx_is, ecx_insn}
 use Rattle.thread_runs.specs.ThreadCode.{jump_reg}
-use Rattle.thread_runs.proofs.KnownCodeSteps.{IsKnown, known_fixed}
+use Rattle.event_steps.proofs.KnownCodeSteps.{IsKnown, known_fixed}
 
 -- JMP rel32
 abbrev pub jump_op : ℕ → ℕ → Op

@@ -1,9 +1,6 @@
 pub mod ThreadTrampolines
 pub mod ListUpdates
-pub mod ByteRanges
-pub mod Acting
-pub mod ThreadSteps
-pub mod KnownCodeSteps
+pub mod AlikeThreadSteps
 pub mod ComparisonCode
 pub mod EventCode
 pub mod ThreadEventInstructions
@@ -27,8 +24,11 @@ pub mod StandingCode
 pub mod OutsideSteps
 pub mod ThreadEventSteps
 pub mod ThreadRingSteps
-pub mod LoneThreadEvent
-pub mod LoneRingEvent
+pub mod ThreadListCode
+pub mod RestoredRegisters
+pub mod MarkedEvents
+pub mod RestoredRings
+pub mod LoneEvents
 pub mod DisplacedSteps
 pub mod WatchedSteps
 pub mod GivenGuests

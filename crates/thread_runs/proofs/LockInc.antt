@@ -15,11 +15,12 @@ use Rattle.insn_form.specs.Machine.{Task}
 use Rattle.insn_form.specs.Step.{task_of}
 use Rattle.insn_form.specs.Laws.{is_steady}
 use Rattle.insn_form.specs.Moved.{direct_target, rel_bytes, named, moved_fields}
-use Rattle.thread_runs.specs.ThreadSteps.{is_one_byte, is_two_byte, is_locked_inc, is_locked_xadd, unlocked, adding, thread_task}
+use Rattle.event_steps.specs.ThreadSteps.{is_one_byte, is_two_byte, is_locked_inc, is_locked_xadd, unlocked, adding, thread_task}
 use Rattle.insn_form.proofs.TaskCopies.{same_task}
 use Rattle.insn_form.proofs.UniqueSteps.{bytes_are, address_is}
-use Rattle.thread_runs.proofs.ThreadSteps.{IsPlain, unlocked_task}
+use Rattle.event_steps.proofs.ThreadSteps.{IsPlain, unlocked_task}
 use Rattle.thread_runs.specs.Work.{is_syscall}
+use Rattle.event_steps.proofs.ClaimSteps.{exchanging}
 
 -- what the test for one-byte opcodes tells
 escape_is : (e : Escape) → is_one_byte e ≡ true → e ≡ OneByte
@@ -53,10 +54,6 @@ locked_asked d im = refl
 two_is : (e : Escape) → is_two_byte e ≡ true → e ≡ TwoByte
 two_is TwoByte h = refl
 two_is e h = absurd cc
-
--- LOCK XADD of four bytes with eax
-abbrev pub exchanging : List ℕ → List ℕ → Fields
-exchanging d im = record { prefixes = 0xf0 ∷ []; escape = TwoByte; opcode = 0xc1; modrm = Some 0x04; sib = Some 0x25; disp = d; imm = im }
 
 -- fields that pass the test for LOCK XADD are its fields
 pub xadd_is : (f : Fields) → is_locked_xadd f ≡ true → f ≡ exchanging f.disp f.imm

@@ -6,9 +6,10 @@ use Rattle.length_decode.specs.Spelling.{IsInstruction}
 use Rattle.length_decode.proofs.ShapeAnswers.{one_fields}
 use Rattle.insn_form.specs.Plan.{same_bytes}
 use Rattle.insn_form.proofs.UniqueSteps.{bytes_are}
-use Rattle.thread_runs.specs.ThreadSteps.{is_locked_inc, is_locked_xadd, unlocked, thread_task}
+use Rattle.event_steps.specs.ThreadSteps.{is_locked_inc, is_locked_xadd, unlocked, thread_task}
 use Rattle.thread_runs.specs.LockedSpelling.{IsLockedInc, LockedIsSpelled, LockIsUntested, IsLockedXadd, XaddIsSpelled}
-use Rattle.thread_runs.proofs.LockInc.{locked, locked_is, exchanging, xadd_is}
+use Rattle.thread_runs.proofs.LockInc.{locked, locked_is, xadd_is}
+use Rattle.event_steps.proofs.ClaimSteps.{exchanging}
 
 -- F0 48 FF 04 25 and four bytes are an instruction
 pub locked_formed : (a b c d : ℕ) → IsInstruction (locked (a ∷ b ∷ c ∷ d ∷ []) [])

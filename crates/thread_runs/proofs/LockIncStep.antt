@@ -29,12 +29,12 @@ use Rattle.cpu_step.specs.Steps.{Steps, Uses, told}
 use Rattle.cpu_step.proofs.JudgedSteps.{judged_there, read_is_at}
 use Rattle.cpu_step.proofs.Windows.{stands}
 use Rattle.image_step.proofs.RunnerSteps.{told_err}
-use Rattle.thread_runs.specs.ThreadSteps.{is_locked_inc, is_locked_xadd, unlocked, thread_task, thread_act, ThreadStep}
+use Rattle.event_steps.specs.ThreadSteps.{is_locked_inc, is_locked_xadd, unlocked, thread_task, thread_act, ThreadStep}
 use Rattle.thread_runs.specs.ThreadJudging.{loading, thread_reading, thread_code, thread_judgement, UsesOne, StepsThread, begins_locked, begins_xadd}
 use Rattle.thread_runs.proofs.LockInc.{locked}
 use Rattle.thread_runs.proofs.LockIncSpelling.{locked_formed, locked_spelled, xadd_spelled, begun}
 use Rattle.thread_runs.proofs.ThreadJudgements.{thread_there}
-use Rattle.thread_runs.proofs.ThreadSteps.{IsPlain as IsPlainFields, made, thread_step, unlocked_task, plain_acts}
+use Rattle.event_steps.proofs.ThreadSteps.{IsPlain as IsPlainFields, made, thread_step, unlocked_task, plain_acts}
 
 -- ---- LOCK INC
 

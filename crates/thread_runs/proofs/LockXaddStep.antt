@@ -28,12 +28,11 @@ use Rattle.cpu_step.specs.declared.stop.Stop.TheVariants.{NoByte as StopNoByte}
 use Rattle.cpu_step.specs.Stepping.{taken_or_stop, machine_of, world_after}
 use Rattle.cpu_step.proofs.Windows.{stands}
 use Rattle.relocate_insn.proofs.PieceSteps.{at_fixed}
-use Rattle.thread_runs.specs.ThreadSteps.{thread_task, number_read, ThreadStepsBy}
+use Rattle.event_steps.specs.ThreadSteps.{thread_task, number_read, ThreadStepsBy}
 use Rattle.thread_runs.specs.ThreadJudging.{loading, thread_judgement, UsesOne, StepsThread, begins_xadd, xadd_address, sum_at, Exchanges}
-use Rattle.thread_runs.proofs.LockInc.{exchanging}
+use Rattle.event_steps.proofs.ClaimSteps.{exchanging, sum_by, sum_insn, claimed, claim_told, claim_step}
 use Rattle.thread_runs.proofs.LockIncSpelling.{exchanging_formed, begun}
 use Rattle.thread_runs.proofs.ThreadJudgements.{thread_there}
-use Rattle.thread_runs.proofs.RingCode.{sum_by, sum_insn, claimed, claim_told, claim_step}
 
 -- a number that is loaded is that of its bytes, none of which lacks R
 pub load_told : (m : Bytes) (a n x : ℕ) → loaded_number m a n ≡ Ok x → (lacking 4 m a n ≡ None) × (x ≡ number_at m a n)

@@ -22,18 +22,18 @@ use Rattle.insn_form.specs.Machine.{Machine, Task, first}
 use Rattle.insn_form.specs.Step.{IsAt, next_after, task_of, question_of}
 use Rattle.insn_form.specs.Touched.{writes_none, writes_avoid}
 use Rattle.insn_form.specs.Processor.{IsProcessorState}
-use Rattle.thread_runs.specs.ThreadSteps.{is_locked_xadd, thread_task, thread_act, ThreadStepsBy, ThreadStep}
+use Rattle.event_steps.specs.ThreadSteps.{is_locked_xadd, thread_task, thread_act, ThreadStepsBy, ThreadStep}
 use Rattle.thread_runs.specs.ThreadCode.{Kind, Marks, Keeps}
 use Rattle.thread_runs.specs.RingEvent.RingPoint.{Ring0}
 use Rattle.thread_runs.specs.Ring.{ringing_at, claimed_at}
 use Rattle.insn_form.specs.Alike.{AreAlike, IsAlike, writes_at, still}
 use Rattle.insn_form.proofs.UniqueSteps.{one_instruction, same_ok}
-use Rattle.thread_runs.proofs.Acting.{acting_keep, acting_after}
-use Rattle.thread_runs.proofs.ThreadSteps.{unlocked_task, plain_acts}
+use Rattle.event_steps.proofs.Acting.{acting_keep, acting_after}
+use Rattle.event_steps.proofs.ThreadSteps.{unlocked_task, plain_acts, keeps_code}
 use Rattle.relocate_insn.proofs.FixedCode.{fixed_stands, fixed_on}
 use Rattle.relocate_insn.proofs.PieceSteps.{gone_to}
 use Rattle.start_entries.specs.Standing.{AreEntries}
-use Rattle.image_step.specs.Listed.{is_start, is_listed_byte}
+use Rattle.image_runs.specs.Listed.{is_start, is_listed_byte}
 use Rattle.thread_runs.specs.Guest.{Thread, machine_of, thread_of}
 use Rattle.thread_runs.specs.Event.{Point, is_inside, has_point, Holds, IsDecided, HasSaved}
 use Rattle.thread_runs.specs.Event.Point.{At0, At7}
@@ -43,10 +43,9 @@ use Rattle.thread_runs.specs.Watching.{Watched, Watch, is_effect, behind, projec
 use Rattle.thread_runs.specs.Premises.{IsQuietAt, reads_nothing_of}
 use Rattle.thread_runs.specs.StepLaws.{StepLaws}
 use Rattle.patch_report.proofs.ListPlaces.{any_at, place_of}
-use Rattle.image_check.proofs.LoadedCode.{jump_acts}
+use Rattle.sound_images.proofs.LoadedCode.{jump_acts}
 use Rattle.thread_runs.proofs.ThreadPlaces.{start_old, part_never, start_no_site, site_of, effect_kept, effect_never, old_uncounted, part_in, place_in, plain_len, mark_late, offset_first, point_first, part_is, part_only, part_low, claimed_here, old_unclaimed, old_unclaiming, old_unfilling, ringing_none}
 use Rattle.thread_runs.proofs.StandingCode.{own_at, mark_kept, position_kept, slot_kept}
-use Rattle.thread_runs.proofs.KeptRelation.{keeps_code}
 use Rattle.start_entries.specs.Leading.{JumpsTo}
 use Rattle.thread_runs.specs.Relation.{point_at, has_rax, Outside, AtSecond}
 use Rattle.thread_runs.proofs.WatchedRelation.{Phase, ThreadKept, shown_after, marked, Ground, RingMoves, Made}

@@ -29,31 +29,33 @@ use Rattle.insn_form.specs.Plan.{Plan, lacking_in, number_in, writes_in, lacking
 use Rattle.insn_form.specs.Machine.{Machine, Task, first, avoids_span}
 use Rattle.insn_form.specs.Step.{IsAt, next_after, task_of}
 use Rattle.insn_form.specs.Touched.{reads_avoid, writes_avoid, reads_none, writes_none}
-use Rattle.thread_runs.specs.ThreadSteps.{is_locked_inc, is_locked_xadd, unlocked, adding, thread_task}
+use Rattle.event_steps.specs.ThreadSteps.{is_locked_inc, is_locked_xadd, unlocked, adding, thread_task}
 use Rattle.insn_form.proofs.UniqueSteps.{one_instruction}
 use Rattle.insn_form.proofs.FrameRule.{unless_ok, ask_ok, same_Ok, carry_ok}
 use Rattle.insn_form.proofs.RepeatedSteps.{exact_target}
 use Rattle.insn_form.proofs.AlikeMemories.{reads_anywhere, writes_anywhere}
 use Rattle.insn_form.proofs.ConditionCodes.{condition_code}
-use Rattle.thread_runs.proofs.Acting.{base, rip_is}
-use Rattle.thread_runs.proofs.ThreadSteps.{unlocked_task}
+use Rattle.event_steps.proofs.Acting.{base, rip_is}
+use Rattle.event_steps.proofs.ThreadSteps.{unlocked_task}
 use Rattle.relocate_insn.specs.Pieces.{jump_code, push_code, ecx_code}
 use Rattle.relocate_insn.specs.Relocating.{copy_of, asked_code}
 use Rattle.relocate_insn.proofs.FixedCode.{next_address, fixed_front}
 use Rattle.relocate_insn.proofs.RelocatedLengths.{copy_length}
 use Rattle.relocate_insn.proofs.PieceSteps.{is_at, next_is, jump_fields, push_fields}
 use Rattle.relocate_insn.proofs.BranchRuns.{branch_insn}
-use Rattle.thread_runs.specs.ThreadCode.{mark_at, jump_reg, thread_relocated}
+use Rattle.trampoline.specs.EventLists.{mark_at}
+use Rattle.thread_runs.specs.ThreadCode.{jump_reg, thread_relocated}
 use Rattle.thread_runs.specs.Event.Point.{At0}
 use Rattle.thread_runs.specs.Work.{IsWork}
 use Rattle.thread_runs.specs.Watching.{leads_to}
 use Rattle.thread_runs.specs.Premises.{reads_nothing_of}
 use Rattle.thread_runs.specs.StepLaws.{writes_of, WorkTouches, HoldsSlot, SavesHeld, WorkedCore, LeadsTold, NotLocked}
-use Rattle.thread_runs.proofs.KnownCodeSteps.{IsKnown, known_fixed, known_told}
+use Rattle.event_steps.proofs.KnownCodeSteps.{IsKnown, known_fixed, known_told}
 use Rattle.thread_runs.proofs.EventCode.{op_at, fields_at, known_at}
 use Rattle.thread_runs.proofs.ComparisonCode.{slot_place}
 use Rattle.thread_runs.proofs.ThreadEventInstructions.{slot_of, rsp_of}
-use Rattle.thread_runs.proofs.LockInc.{same_thread, thread_insn, not_locked, locked, locked_is, locked_task, exchanging, xadd_is, xadd_task, Reading, Incs, Adds, Plain, reading}
+use Rattle.thread_runs.proofs.LockInc.{same_thread, thread_insn, not_locked, locked, locked_is, locked_task, xadd_is, xadd_task, Reading, Incs, Adds, Plain, reading}
+use Rattle.event_steps.proofs.ClaimSteps.{exchanging}
 use Rattle.thread_runs.proofs.KnownPieces.{jump_op, known_jump, push_op, known_push}
 use Rattle.thread_runs.proofs.EffectSteps.{rip_low, atomic, has_length, relocated_stands, relocated_low}
 

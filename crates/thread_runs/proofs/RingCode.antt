@@ -1,8 +1,7 @@
 -- The instructions of an event that keeps a ring: twelve, of which LOCK XADD loads what it reads.
-use Rattle.std.proofs.Common.{◌≡◌, ℕ, ◌+◌, ◌^◌, ◌<◌, ◌≤◌, Bool, true, false, cond, eqb, List, [], ◌∷◌, ◌++◌, length, Some, None, Ok, refl, sym, ap, ◌∙◌, subst, arith}
+use Rattle.std.proofs.Common.{◌≡◌, ℕ, ◌+◌, ◌^◌, ◌<◌, ◌≤◌, Bool, true, false, cond, eqb, List, [], ◌∷◌, ◌++◌, length, Some, None, refl, ◌∙◌, subst, arith}
 use Rattle.pun_base.specs.declared.action.Base.TheVariants.{Count}
 use Rattle.cpu_alu.specs.declared.operation.Width.TheVariants.{W8, W16, W32, W64}
-use Rattle.cpu_alu.specs.declared.operation.AluOp.TheVariants.{Add}
 use Rattle.cpu_state.specs.declared.state.Core.{Core}
 use Rattle.cpu_state.specs.Fixed.{IsFixed}
 use Rattle.length_decode.specs.declared.escape_bytes.Escape.TheVariants.{OneByte, TwoByte}
@@ -12,32 +11,31 @@ use Rattle.insn_form.specs.declared.form.Seg.TheVariants.{Plain}
 use Rattle.insn_form.specs.declared.form.Spot.TheVariants.{Reg, Mem}
 use Rattle.insn_form.specs.declared.form.Value.TheVariants as value
 use Rattle.insn_form.specs.declared.form.Op.{Op}
-use Rattle.insn_form.specs.declared.form.Op.TheVariants.{Mov, Alu, Extend, Sahf, Lahf}
+use Rattle.insn_form.specs.declared.form.Op.TheVariants.{Mov, Extend, Sahf, Lahf}
 use Rattle.insn_form.specs.declared.form.Insn.TheVariants.{Exact}
 use Rattle.insn_form.specs.Classes.{template}
 use Rattle.insn_form.specs.Filling.{filled, integer_of, immediate}
 use Rattle.insn_form.specs.FlagsBack.{seto_al, add_al}
 use Rattle.insn_form.specs.Meaning.{effect}
-use Rattle.insn_form.specs.Machine.{Machine, Task, act}
+use Rattle.insn_form.specs.Machine.{Machine}
 use Rattle.insn_form.specs.Step.{IsAt, next_after}
-use Rattle.insn_form.specs.Exactly.{after_op, HasOperands}
-use Rattle.insn_form.proofs.ExactSteps.{exact_acts, exact_told}
-use Rattle.insn_form.proofs.UniqueSteps.{one_instruction}
 use Rattle.relocate_insn.specs.Pieces.{four}
 use Rattle.relocate_insn.proofs.FixedCode.{fixed_front, fixed_back}
-use Rattle.relocate_insn.proofs.PieceSteps.{at_fixed, is_at, next_is}
-use Rattle.trampoline.proofs.FlagEventInstructions.{by_rax}
-use Rattle.thread_runs.specs.ThreadSteps.{is_locked_xadd, thread_task, loaded, thread_act, ThreadStepsBy, ThreadStep}
+use Rattle.relocate_insn.proofs.PieceSteps.{is_at, next_is}
+use Rattle.event_steps.specs.ThreadSteps.{is_locked_xadd, thread_task}
 use Rattle.thread_runs.specs.ThreadCode.{ring_event, ring_len, reducing}
 use Rattle.thread_runs.specs.Event.Point.{At0, At1, At2, At4, At5, At6}
 use Rattle.thread_runs.specs.RingEvent.{RingPoint, ring_offset, ring_next, is_ringing}
 use Rattle.thread_runs.specs.RingEvent.RingPoint.{Ring0, Ring1, Ring2, Ring3, Ring4, Ring5, Ring6, Ring7, Ring8, Ring9, Ring10, Ring11, Ring12}
-use Rattle.thread_runs.proofs.Acting.{base, acts_on}
-use Rattle.thread_runs.proofs.ThreadSteps.{made}
-use Rattle.thread_runs.proofs.LockInc.{exchanging}
-use Rattle.thread_runs.proofs.KnownCodeSteps.{IsKnown, known_fixed}
+use Rattle.event_steps.proofs.Acting.{base}
+use Rattle.event_steps.proofs.ClaimSteps.{exchanging, sum_by}
+use Rattle.event_steps.proofs.KnownCodeSteps.{IsKnown, known_fixed}
 use Rattle.thread_runs.proofs.ComparisonCode.{below_red_zone}
 use Rattle.thread_runs.proofs.EventCode.{fields_at}
+
+-- [4 * rax + a]
+abbrev pub by_rax : ℕ → MemForm
+by_rax a = record { base = None; index = Some 0; scale = 4; disp = integer_of (four a); rip = false; seg = Plain; short = false; tail = 6 }
 
 -- -144 as a displacement
 abbrev pub minus_144 : List ℕ
@@ -70,10 +68,6 @@ ring_fields n p i Ring8 = record { prefixes = 0x48 ∷ []; escape = OneByte; opc
 ring_fields n p i Ring9 = fields_at Count At4 0
 ring_fields n p i Ring10 = fields_at Count At5 0
 ring_fields n p i k = fields_at Count At6 0
-
--- ADD of eax to the four bytes that a displacement names
-abbrev pub sum_by : List ℕ → Op
-sum_by d = Alu Add W32 (Mem (at_fixed d)) (value.Spot (Reg 0)) true
 
 -- ADD of eax to the four bytes at an address
 abbrev pub sum_op : ℕ → Op
@@ -318,47 +312,3 @@ module _ (n p i at : ℕ) (k : RingPoint) (v : Machine) (inside : is_ringing k �
   -- in front of the next point
   pub ring_behind : next_after v.rip f ≡ next
   ring_behind = let l = ring_low (ring_next k) in next_is v (at + ring_offset k) f (omega (arith, ends, l, low)) rip ∙ ends
-
--- what LOCK XADD reads and writes is what ADD does
-pub sum_insn : (d : List ℕ) (next : ℕ) → length d ≡ 4 → (thread_task (exchanging d []) next).insn ≡ Exact (sum_by d)
-unfolding template filled
-sum_insn (a ∷ b ∷ c ∷ e ∷ []) next h = refl
-sum_insn [] next h = absurd (omega (arith, h))
-sum_insn (a ∷ []) next h = absurd (omega (arith, h))
-sum_insn (a ∷ b ∷ []) next h = absurd (omega (arith, h))
-sum_insn (a ∷ b ∷ c ∷ []) next h = absurd (omega (arith, h))
-sum_insn (a ∷ b ∷ c ∷ e ∷ f ∷ fs) next h = absurd (omega (arith, h))
-
--- a thread at LOCK XADD of the four bytes that a displacement names
-module _ (v : Machine) (d : List ℕ) (next : ℕ) (size : length d ≡ 4) (there : IsAt v (exchanging d [])) (behind : next_after v.rip (exchanging d []) ≡ next) where
-  abbrev x : Fields
-  x = exchanging d []
-
-  abbrev t : Task
-  t = thread_task x next
-
-  -- ADD leaves no flag undefined
-  sum_told : (y : ℕ) → ((effect (sum_by d) next v.core).out y).undefined ≡ 0
-  unfolding effect
-  sum_told y = refl
-
-  -- the state after it
-  abbrev pub claimed : Machine
-  claimed = loaded t next v (after_op v next (sum_by d))
-
-  -- each step leads there, and had its operands
-  pub claim_told : (w : Machine) → ThreadStep v w → HasOperands v next (sum_by d) × (w ≡ claimed)
-  claim_told w st =
-      let e : st.0 ≡ x = one_instruction v st.0 x st.1.at there in
-      let q : thread_act x (next_after v.rip x) v ≡ Ok w = subst (λ g. thread_act g (next_after v.rip g) v ≡ Ok w) e st.1.acts in
-      let r : thread_act x next v ≡ Ok w = subst (λ z. thread_act x z v ≡ Ok w) behind q in
-      let b = base true t next v w r in
-      let o = exact_told v next (sum_by d) t.asks b.plain sum_told (sym (ap (λ i. act (record { insn = i; asks = t.asks }) next v) (sum_insn d next size)) ∙ b.acts) in
-      (o.0, b.after ∙ ap (loaded t next v) o.1)
-
-  -- where it has its operands, it has this step
-  pub claim_step : HasOperands v next (sum_by d) → ThreadStepsBy x v claimed
-  claim_step h =
-      let e : act t next v ≡ Ok (after_op v next (sum_by d)) =
-      ap (λ i. act (record { insn = i; asks = t.asks }) next v) (sum_insn d next size) ∙ exact_acts v next (sum_by d) t.asks h.read h.write (sum_told _) in
-      made x v claimed there (subst (λ z. thread_act x z v ≡ Ok claimed) (sym behind) (acts_on true t next v (after_op v next (sum_by d)) e))

@@ -26,20 +26,20 @@ use Rattle.insn_form.specs.Exactly.{after_op, HasOperands}
 use Rattle.insn_form.proofs.KeptFlags.{low_small, bit, bit_small, kept}
 use Rattle.relocate_insn.specs.Pieces.{four}
 use Rattle.relocate_insn.proofs.PieceSteps.{at_fixed, fixed_place, four_word}
-use Rattle.trampoline.proofs.FlagEventInstructions.{by_rax}
-use Rattle.thread_runs.specs.ThreadSteps.{ThreadStep}
+use Rattle.thread_runs.proofs.RingCode.{by_rax, below_rax, ring_fields, ring_op, reduce_op, sum_op, is_known_op, ring_known, ring_at, ring_behind}
+use Rattle.event_steps.specs.ThreadSteps.{ThreadStep}
 use Rattle.thread_runs.specs.ThreadCode.{is_ring_length, slot, flag_slot}
-use Rattle.thread_runs.specs.Event.{IsGivingBack}
+use Rattle.event_steps.specs.SavedInAx.{IsGivingBack}
 use Rattle.thread_runs.specs.RingEvent.{RingPoint, ring_offset, ring_next, is_ringing, RingHolds, InRing, RingNext, IsRingStep, CanKeep, RingGoes, AreSavedBack}
 use Rattle.thread_runs.specs.RingEvent.RingPoint.{Ring0, Ring1, Ring2, Ring3, Ring4, Ring5, Ring6, Ring7, Ring8, Ring9, Ring10, Ring11, Ring12}
-use Rattle.thread_runs.specs.Threading.{is_one_of}
+use Rattle.event_steps.specs.DoneSteps.{is_one_of}
 use Rattle.thread_runs.specs.StepLaws.{HoldsSlots, RingSavesHeld}
-use Rattle.thread_runs.proofs.ByteRanges.{number_on, put_elsewhere}
-use Rattle.thread_runs.proofs.LockInc.{exchanging}
-use Rattle.thread_runs.proofs.KnownCodeSteps.{known_step, known_told}
+use Rattle.event_steps.proofs.ByteRanges.{number_on, put_elsewhere}
+use Rattle.event_steps.proofs.ClaimSteps.{exchanging, claimed, claim_told, claim_step}
+use Rattle.event_steps.proofs.KnownCodeSteps.{known_step, known_told}
 use Rattle.thread_runs.proofs.ComparisonCode.{below_red_zone, slot_place}
-use Rattle.thread_runs.proofs.ThreadEventInstructions.{reg_other, ax_other, twice, same_reg, low_word, given, back, slot_of}
-use Rattle.thread_runs.proofs.RingCode.{below_rax, ring_fields, ring_op, reduce_op, sum_op, is_known_op, ring_known, ring_at, ring_behind, claimed, claim_told, claim_step}
+use Rattle.event_steps.proofs.FlagsInAx.{reg_other, ax_other, twice, same_reg, given, back}
+use Rattle.thread_runs.proofs.ThreadEventInstructions.{low_word, slot_of}
 
 -- [rsp - 144] is the address at which the event saves the flags
 flag_place : (c : Core) → place c below_rax ≡ flag_slot c

@@ -8,7 +8,7 @@ use Rattle.cpu_step.specs.Stepping.{Taken}
 use Rattle.patch_report.proofs.ListPlaces.{some_is}
 use Rattle.thread_runs.specs.declared.runner.ScheduleError.{ScheduleError}
 use Rattle.thread_runs.specs.declared.runner.ScheduleError.TheVariants.{NoThread, Stopped}
-use Rattle.thread_runs.specs.ThreadSteps.{ThreadStep}
+use Rattle.event_steps.specs.ThreadSteps.{ThreadStep}
 use Rattle.thread_runs.specs.ThreadJudging.{thread_judgement}
 use Rattle.thread_runs.specs.Guest.{Thread, Guest, machine_of, Moves, IsInterleaved, last_guest}
 use Rattle.thread_runs.specs.Running.{Leads, HasNoThread, HasStopped, EndsAt, Runs, RunsOneWay}

@@ -11,7 +11,7 @@ use Rattle.cpu_step.specs.declared.stop.Stop.{Stop}
 use Rattle.cpu_step.specs.Stepping as state
 use Rattle.patch_report.proofs.ListPlaces.{some_is}
 use Rattle.image_step.proofs.RunnerSteps.{first_left, world_left}
-use Rattle.thread_runs.specs.ThreadSteps.{ThreadStep}
+use Rattle.event_steps.specs.ThreadSteps.{ThreadStep}
 use Rattle.thread_runs.specs.ThreadJudging.{IsStopped, StepsThread}
 use Rattle.thread_runs.specs.declared.runner.RunnerThread.{RunnerThread}
 use Rattle.thread_runs.specs.declared.runner.ThreadRunner.{ThreadRunner}

@@ -14,17 +14,19 @@ use Rattle.insn_form.specs.Machine.{Machine}
 use Rattle.relocate_insn.proofs.FixedCode.{SameCode, next_address, fixed_on, fixed_front, fixed_back}
 use Rattle.start_entries.specs.declared.entry.StartEntry.{StartEntry}
 use Rattle.start_entries.specs.Standing.{AreEntries}
-use Rattle.image_step.specs.Listed.{is_start, is_known_start}
-use Rattle.image_check.proofs.LoadedCode.{stands_fixed, fixed_at}
-use Rattle.image_check.proofs.RelatedStates.{allowed_some}
-use Rattle.thread_runs.specs.ThreadCode.{Kind, Marks, Keeps, mark_at, mark_len, position_at, slot_at, ring_event, thread_event, event_len, event_if, thread_work, code_if}
+use Rattle.image_runs.specs.Listed.{is_start, is_known_start}
+use Rattle.sound_images.proofs.LoadedCode.{stands_fixed, fixed_at}
+use Rattle.sound_images.proofs.RelatedStates.{allowed_some}
+use Rattle.thread_runs.specs.ThreadCode.{Kind, Marks, Keeps, position_at, slot_at, ring_event, thread_event, event_len, event_if, thread_work, code_if}
+use Rattle.trampoline.specs.EventLists.{mark_at, mark_len}
 use Rattle.trampoline.specs.Atomic.{thread_len}
 use Rattle.thread_runs.specs.Work.{IsWork}
-use Rattle.thread_runs.specs.Threading.{ThreadSite, Threading, next_of, work_at, is_new, is_site, is_kept, is_one_of, IsThreadSound}
+use Rattle.thread_runs.specs.Threading.{ThreadSite, Threading, next_of, work_at, is_new, is_site, is_kept, IsThreadSound}
+use Rattle.event_steps.specs.DoneSteps.{is_one_of}
 use Rattle.patch_report.proofs.ListPlaces.{found, any_at, contains_at, place_of}
 use Rattle.thread_runs.proofs.ThreadTrampolines.{event_long}
 use Rattle.thread_runs.proofs.ThreadPlaces.{any_none}
-use Rattle.thread_runs.proofs.ByteRanges.{number_on}
+use Rattle.event_steps.proofs.ByteRanges.{number_on}
 
 -- the instruction at a start, in the original and in the patched image
 pub record Own (r : Threading) (a : ℕ) : Type 0 where

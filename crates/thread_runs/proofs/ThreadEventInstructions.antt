@@ -1,13 +1,13 @@
 -- What each instruction of an event does.
-use Rattle.std.proofs.Common.{◌≡◌, ℕ, zero, suc, ◌+◌, ◌-◌, ◌*◌, ◌/◌, ◌%◌, ◌^◌, ◌<◌, ◌≤◌, Bool, true, false, not, cond, List, [], ◌∷◌, ◌++◌, None, set, refl, sym, ap, ◌∙◌, subst, arith}
+use Rattle.std.proofs.Common.{◌≡◌, ℕ, zero, suc, ◌+◌, ◌-◌, ◌*◌, ◌%◌, ◌^◌, ◌<◌, ◌≤◌, Bool, true, false, not, cond, List, [], ◌∷◌, ◌++◌, None, refl, sym, ap, ◌∙◌, subst, arith}
 use Rattle.std.proofs.lemmas.Bool.{and_from}
-use Rattle.std.proofs.lemmas.List.{append_assoc, get_or-set_same, get_or-set_other, set-set, set-get_or}
+use Rattle.std.proofs.lemmas.List.{append_assoc}
 use Rattle.pun_base.specs.declared.action.Base.{Base}
 use Rattle.pun_base.specs.declared.action.Base.TheVariants.{Cover, Count}
 use Rattle.pun_base.specs.declared.action.Comparison.{Comparison}
 use Rattle.cpu_alu.specs.declared.flag_word.Flags.{Flags}
-use Rattle.cpu_alu.specs.declared.operation.Width.TheVariants.{W8, W64}
-use Rattle.cpu_alu.specs.Sums.{total, overflows}
+use Rattle.cpu_alu.specs.declared.operation.Width.TheVariants.{W64}
+use Rattle.cpu_alu.specs.Sums.{total}
 use Rattle.cpu_alu.specs.Sums.Way.{Plus}
 use Rattle.cpu_alu.proofs.SumTotals.{sum_value}
 use Rattle.cpu_state.specs.declared.state.Core.{Core}
@@ -16,34 +16,26 @@ use Rattle.cpu_state.specs.Processor.{IsProcessorCore}
 use Rattle.cpu_state.proofs.Readback.{read_back}
 use Rattle.insn_form.specs.declared.form.Op.TheVariants.{Lahf, Sahf}
 use Rattle.insn_form.specs.Operands.{reg, with_reg, with_flags, rax, place}
-use Rattle.insn_form.specs.FlagMoves.{low_flags, flags_from}
 use Rattle.insn_form.specs.Conditions.{is_met}
 use Rattle.insn_form.specs.FlagsBack.{core_after, seto_al, add_al, kept_in_ax}
 use Rattle.insn_form.specs.Meaning.{effect}
 use Rattle.insn_form.specs.Machine.{Machine}
 use Rattle.insn_form.specs.Exactly.{after_op, HasOperands}
-use Rattle.insn_form.proofs.KeptFlags.{gives_five, low_small, bit, bit_small, over, kept_rax, kept, ah_low, al_bit}
 use Rattle.relocate_insn.specs.Pieces.{four}
 use Rattle.relocate_insn.proofs.PieceSteps.{at_fixed, fixed_place, pushed_word}
 use Rattle.cond_action.specs.Conditions.{compares, all_hold}
 use Rattle.cond_action.specs.Codes.{failing}
-use Rattle.trampoline.proofs.EventSteps.{flags_64}
-use Rattle.trampoline.proofs.ConditionEvents.{fails}
-use Rattle.thread_runs.specs.ThreadCode.{mark_at, mark_len, marking_len, compare_len, checking_len, slot}
-use Rattle.thread_runs.specs.Event.{Point, offset, checked, following, is_inside, IsGivingBack, Holds, IsDecided, InEvent, EventNext, IsEventStep, CanMark, EventGoes, IsSavedBack}
+use Rattle.trampoline.proofs.FailedComparisons.{flags_64, fails}
+use Rattle.trampoline.specs.EventLists.{mark_at, mark_len}
+use Rattle.thread_runs.specs.ThreadCode.{marking_len, compare_len, checking_len, slot}
+use Rattle.thread_runs.specs.Event.{Point, offset, checked, following, is_inside, Holds, IsDecided, InEvent, EventNext, IsEventStep, CanMark, EventGoes, IsSavedBack}
+use Rattle.event_steps.specs.SavedInAx.{IsGivingBack}
 use Rattle.thread_runs.specs.Event.Point.{At0, At1, At2, AtCompare, AtJump, At3, At4, At5, At6, At7}
-use Rattle.thread_runs.proofs.KnownCodeSteps.{known_step, known_told}
+use Rattle.event_steps.proofs.KnownCodeSteps.{known_step, known_told}
 use Rattle.thread_runs.proofs.EventCode.{mark_op, op_at, fields_at, insn_len, IsStraight, fit_at, long_at, ends_low, known_at}
-use Rattle.thread_runs.proofs.ComparisonCode.{below_red_zone, slot_place, compare_op, over_op, leads_over, checking_more, all_more, not_empty}
-
--- setting rax leaves each other register as it is
-pub reg_other : (c : Core) (r v : ℕ) → reg (with_reg c rax v) (suc r) ≡ reg c (suc r)
-reg_other c r v = get_or-set_other c.regs 0 (suc r) v 0 (λ e. absurd cc)
-
--- so do the flags that are kept in ax
-pub ax_other : (c : Core) (r : ℕ) → reg (kept_in_ax c) (suc r) ≡ reg c (suc r)
-unfolding effect is_met
-ax_other c r = reg_other (core_after Lahf 0 c) r _ ∙ reg_other c r _
+use Rattle.thread_runs.proofs.ComparisonCode.{below_red_zone, slot_place, compare_op, over_op, checking_more, all_more, not_empty}
+use Rattle.event_steps.proofs.ListedCode.{leads_over}
+use Rattle.event_steps.proofs.FlagsInAx.{reg_other, ax_other, twice, same_reg, given, back}
 
 -- with equal stack pointers rax is saved at the same address
 pub slot_of : (c d : Core) → reg d 4 ≡ reg c 4 → slot d ≡ slot c
@@ -67,14 +59,6 @@ rsp_of cs At7 c d h = ap (λ z. reg z 4) h
 slot_at : (cs : List Comparison) (k : Point) (c d : Core) → Holds cs k c d → place d below_red_zone ≡ slot c
 slot_at cs k c d h = slot_place d ∙ slot_of c d (rsp_of cs k c d h)
 
--- setting rax twice is setting it to the second value
-pub twice : (c : Core) (x y : ℕ) → with_reg (with_reg c rax x) rax y ≡ with_reg c rax y
-twice c x y = let e = set-set c.regs 0 x y in λ i. record { regs = e i; flags = c.flags; fs = c.fs; gs = c.gs }
-
--- setting rax to what it is changes nothing
-pub same_reg : (c : Core) (x : ℕ) → x ≡ reg c rax → with_reg c rax x ≡ c
-same_reg c x e = let q = ap (set c.regs 0) e ∙ set-get_or c.regs 0 0 in λ i. record { regs = q i; flags = c.flags; fs = c.fs; gs = c.gs }
-
 -- numbers of 64 bits
 pub low_word : (x : ℕ) → x < 2 ^ 64 → x % 2 ^ 64 % 2 ^ 64 ≡ x
 low_word x h = omega arith
@@ -82,44 +66,6 @@ low_word x h = omega arith
 -- adding one in 64 bits is adding one, modulo 2^64
 one_more : (n : ℕ) → ((n % 2 ^ 64 % 2 ^ 64 + 1) % 2 ^ 64 + 0) % 2 ^ 64 % 2 ^ 64 ≡ (n + 1) % 2 ^ 64
 one_more n = omega arith
-
--- ADD al, 7F where ax has all six flags
-high_stays : (y t : ℕ) → (y / 256 * 256 + t % 256) / 256 % 256 ≡ y / 256 % 256
-high_stays y t = omega arith
-
--- the low byte of a number has itself as low byte
-low_twice : (y : ℕ) → y % 256 % 256 ≡ y % 256
-low_twice y = omega arith
-
--- ADD al, 7F gives OF back, and leaves the flags in AH as they are
-pub given : (c : Core) (f : Flags) → IsProcessorCore c → f.rest ≡ c.flags.rest → IsGivingBack c (core_after add_al 0 (with_flags (kept_in_ax c) f))
-unfolding effect is_met
-given c f h r =
-    let d = with_flags (kept_in_ax c) f in
-    let y = reg d rax in
-    let t = total Plus W8 (y % 256 % 256) 0x7f false in
-    let k : y ≡ kept_rax (reg c rax) c.flags = kept c h in
-    let l = low_small c.flags in let b = bit_small c.flags.of in
-    record {
-      value = y / 256 * 256 + t % 256;
-      flags = (core_after add_al 0 d).flags;
-      high = high_stays y t ∙ ap (λ z. z / 256 % 256) k ∙ ah_low (reg c rax) (low_flags c.flags) (bit c.flags.of) l b;
-      over = ap (λ z. overflows Plus W8 z 0x7f false) (low_twice y ∙ ap (λ z. z % 256) k ∙ al_bit (reg c rax) (low_flags c.flags) (bit c.flags.of) l b) ∙ over c.flags.of;
-      rest = r;
-      core = (let e = set-set (set c.regs 0 _) 0 _ (y / 256 * 256 + t % 256) ∙ set-set c.regs 0 _ (y / 256 * 256 + t % 256) in
-          λ i. record { regs = e i; flags = (core_after add_al 0 d).flags; fs = c.fs; gs = c.gs });
-    }
-
--- SAHF
-pub back : (c : Core) (v : ℕ) (f : Flags) → IsProcessorCore c → v / 256 % 256 ≡ low_flags c.flags → f.of ≡ c.flags.of → f.rest ≡ c.flags.rest
-    → core_after Sahf 0 (with_flags (with_reg c rax v) f) ≡ with_reg c rax v
-unfolding effect
-back c v f h a o r =
-    let g = c.flags in
-    let n : reg (with_reg c rax v) rax ≡ v = get_or-set_same c.regs 0 v 0 (omega (arith, h.count)) in
-    let e = ap (λ z. flags_from (z / 256 % 256) f) n ∙ ap (λ z. flags_from z f) a ∙ gives_five g f in
-    let all : flags_from (reg (with_reg c rax v) rax / 256 % 256) f ≡ g = e ∙ (λ i. record { cf = g.cf; pf = g.pf; af = g.af; zf = g.zf; sf = g.sf; of = o i; rest = r i }) in
-    ap (with_flags (with_reg c rax v)) all
 
 -- the state after CMP: the flags are those of the difference, of the program's own number
 compare_state : (r n next : ℕ) (c : Core) (v : Machine) → IsProcessorCore c → n < 2 ^ 31 → place v.core below_red_zone ≡ slot c → number_at v.mem (slot c) 8 ≡ reg c rax

@@ -17,22 +17,24 @@ use Rattle.cpu_state.proofs.Readback.{bytes_of_length, read_back}
 use Rattle.insn_form.specs.Operands.{reg, rax}
 use Rattle.insn_form.specs.Machine.{Machine}
 use Rattle.cond_action.specs.Conditions.{compares, all_hold}
-use Rattle.thread_runs.specs.ThreadSteps.{ThreadStepsBy}
+use Rattle.event_steps.specs.ThreadSteps.{ThreadStepsBy}
 use Rattle.relocate_insn.proofs.PrivateRange.{put_away}
 use Rattle.patch_report.proofs.ListPlaces.{some_is}
 use Rattle.start_entries.specs.Standing.{AreEntries}
-use Rattle.image_step.specs.Listed.{is_listed_byte}
+use Rattle.image_runs.specs.Listed.{is_listed_byte}
 use Rattle.thread_runs.specs.Guest.{Thread, machine_of, thread_of}
-use Rattle.thread_runs.specs.ThreadCode.{Kind, Marks, saved_from, saved_len, mark_at, mark_len, marking_len, compare_len, checking_len, is_saving, saving_len, thread_event, event_len, slot}
+use Rattle.thread_runs.specs.ThreadCode.{Kind, Marks, saved_from, saved_len, marking_len, compare_len, checking_len, is_saving, saving_len, thread_event, event_len, slot}
+use Rattle.trampoline.specs.EventLists.{mark_at, mark_len}
 use Rattle.thread_runs.specs.Event.{Point, offset, checked, following, is_inside, has_point, Holds, IsDecided, HasSaved, InEvent, marks_with, EventNext, AtStore, covered}
 use Rattle.thread_runs.specs.Event.Point.{At0, At1, At2, AtCompare, AtJump, At3, At4, At5, At6, At7}
 use Rattle.thread_runs.specs.Threading.Part.{Save, Marked}
-use Rattle.thread_runs.specs.Threading.{ThreadSite, Threading, work_at, is_new, is_hidden, part_from, part_to, is_part, in_event, saves, is_met_by, is_counted, is_one_of, is_saved_by, IsThreadSound}
+use Rattle.thread_runs.specs.Threading.{ThreadSite, Threading, work_at, is_new, is_hidden, part_from, part_to, is_part, in_event, saves, is_met_by, is_counted, is_saved_by, IsThreadSound}
+use Rattle.event_steps.specs.DoneSteps.{is_one_of}
 use Rattle.thread_runs.specs.Watching.{Watched, Watch, is_effect}
 use Rattle.thread_runs.specs.StepLaws.{StepLaws}
 use Rattle.thread_runs.proofs.ThreadPlaces.{saving_code_is, saving_mark, saving_points, inside_low, counted_len, point_counted, kept_not, no_site, effect_never, in_code, part_in, event_code, event_inside, event_saves, longer, mark_from, mark_end, mark_some, part_is, part_true, part_low, part_high}
-use Rattle.thread_runs.proofs.ByteRanges.{number_on, put_elsewhere}
-use Rattle.thread_runs.proofs.KeptRelation.{keeps_perms}
+use Rattle.event_steps.proofs.ByteRanges.{number_on, put_elsewhere}
+use Rattle.event_steps.proofs.ThreadSteps.{keeps_perms}
 use Rattle.thread_runs.proofs.StandingCode.{event_stands, mark_new, mark_kept, one_in}
 use Rattle.thread_runs.proofs.OutsideSteps.{none_more, uncounted, calm_projection}
 use Rattle.thread_runs.proofs.ComparisonCode.{checking_more, all_fail}

@@ -12,7 +12,7 @@ use Rattle.insn_form.specs.Machine.{Machine, first}
 use Rattle.insn_form.specs.Step.{IsAt, next_after}
 use Rattle.insn_form.proofs.UniqueSteps.{front}
 use Rattle.cpu_step.specs.Stepping.{judged_task}
-use Rattle.thread_runs.specs.ThreadSteps.{is_locked_xadd, thread_task}
+use Rattle.event_steps.specs.ThreadSteps.{is_locked_xadd, thread_task}
 use Rattle.thread_runs.specs.ThreadJudging.{loading, thread_reading, thread_code, thread_judgement}
 
 -- bytes that are read as an instruction are judged by that instruction's task

@@ -12,7 +12,7 @@ use Rattle.pun_base.specs.declared.action.Comparison.{Comparison}
 use Rattle.cpu_state.specs.declared.state.Core.{Core}
 use Rattle.start_entries.specs.declared.entry.StartEntry.{StartEntry}
 use Rattle.start_entries.specs.Standing.{AreEntries}
-use Rattle.image_step.specs.Listed.{is_start}
+use Rattle.image_runs.specs.Listed.{is_start}
 use Rattle.thread_runs.specs.ThreadCode.{Kind, Marks, Keeps, ring_len, is_saving, saving_event, saving_len, thread_event, event_len, event_if, thread_work, code_if}
 use Rattle.thread_runs.specs.Threading.{ThreadSite, Threading, next_of, work_at, is_new, is_site, is_kept, is_keeping, Part, part_from, part_to, is_part, site_if, relocated_at, claims_at, fills_at, claiming_at, is_filling, is_unfilled, in_event, saves, is_code_of, IsThreadSound}
 use Rattle.thread_runs.specs.Threading.Part.{Whole, Save, Saved, Marked, Unfilled}
@@ -26,7 +26,7 @@ use Rattle.thread_runs.specs.Relation.{offset_if, point_at, has_rax}
 use Rattle.thread_runs.proofs.EventCode.{insn_some, ends_low}
 use Rattle.thread_runs.proofs.ThreadTrampolines.{event_long}
 use Rattle.patch_report.proofs.ListPlaces.{found, any_at, contains_at, place_of, some_is}
-use Rattle.image_check.proofs.RelatedStates.{allowed_some}
+use Rattle.sound_images.proofs.RelatedStates.{allowed_some}
 
 -- where a test can pass at one element alone, any says what the test says of that
 pub any_only : {X : Type 0} (p : X → Bool) (xs : List X) (s : X) → Contains xs s → ((t : X) → Contains xs t → p t ≡ true → t ≡ s) → list_any p xs ≡ p s

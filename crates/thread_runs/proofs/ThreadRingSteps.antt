@@ -17,22 +17,24 @@ use Rattle.insn_form.specs.Machine.{Machine}
 use Rattle.relocate_insn.proofs.PrivateRange.{put_away}
 use Rattle.patch_report.proofs.ListPlaces.{some_is}
 use Rattle.start_entries.specs.Standing.{AreEntries}
-use Rattle.image_step.specs.Listed.{is_listed_byte}
-use Rattle.thread_runs.specs.ThreadSteps.{ThreadStepsBy}
+use Rattle.image_runs.specs.Listed.{is_listed_byte}
+use Rattle.event_steps.specs.ThreadSteps.{ThreadStepsBy}
 use Rattle.thread_runs.specs.Guest.{Thread, machine_of, thread_of}
 use Rattle.thread_runs.specs.ThreadCode.{Marks, Keeps, position_at, slot_at, ring_len, event_len, slot, flag_slot, saved_from, saved_len}
 use Rattle.thread_runs.specs.Event.Point.{At7}
 use Rattle.thread_runs.specs.RingEvent.{RingPoint, ring_offset, ring_next, is_ringing, RingHolds, HoldsRax, HoldsFlags, RingSaved, InRing, ring_memory, LeadsToSlot, RingNext}
 use Rattle.thread_runs.specs.RingEvent.RingPoint.{Ring0, Ring1, Ring2, Ring3, Ring4, Ring5, Ring6, Ring7, Ring8, Ring9, Ring10, Ring11, Ring12}
 use Rattle.thread_runs.specs.Threading.Part.{Save}
-use Rattle.thread_runs.specs.Threading.{ThreadSite, Threading, is_new, is_hidden, is_keeping, part_to, in_event, saves, is_one_of, is_saved_by, is_code_of, IsRingSound, IsThreadSound, work_at}
+use Rattle.thread_runs.specs.Threading.{ThreadSite, Threading, is_new, is_hidden, is_keeping, part_to, in_event, saves, is_saved_by, is_code_of, IsRingSound, IsThreadSound, work_at}
+use Rattle.event_steps.specs.DoneSteps.{is_one_of}
 use Rattle.thread_runs.specs.Watching.{Watched, Watch, is_effect}
 use Rattle.thread_runs.specs.Ring.{ringing_at, claimed_at}
 use Rattle.thread_runs.specs.Relation.{AtEvent, AtRing}
 use Rattle.thread_runs.specs.StepLaws.{StepLaws}
-use Rattle.thread_runs.proofs.ByteRanges.{number_on, put_elsewhere}
+use Rattle.event_steps.proofs.ByteRanges.{number_on, put_elsewhere}
 use Rattle.thread_runs.proofs.ThreadPlaces.{kept_not, no_site, effect_never, longer, part_true, claiming_only, filling_only, event_code, event_inside, event_saves}
-use Rattle.thread_runs.proofs.KeptRelation.{keeps_perms, rax_saved, flags_saved, ring_inside}
+use Rattle.event_steps.proofs.ThreadSteps.{keeps_perms}
+use Rattle.thread_runs.proofs.KeptRelation.{rax_saved, flags_saved, ring_inside}
 use Rattle.thread_runs.proofs.StandingCode.{ring_stands, ring_new, one_in, position_kept, slot_kept}
 use Rattle.thread_runs.proofs.OutsideSteps.{calm_projection}
 use Rattle.thread_runs.proofs.ThreadEventSteps.{not_of}

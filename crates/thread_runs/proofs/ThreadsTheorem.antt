@@ -21,7 +21,7 @@ use Rattle.thread_runs.proofs.WayOut.{gets_out, runs_same}
 use Rattle.thread_runs.proofs.PlainGuests.{plain, items_of, plain_run, plain_last, goes_with, all_plain}
 
 -- a run begins where all stand at starts
-begun : (r : Threading) (is : List GuestItem) (x : WatchWith) (xs : List WatchWith) → IsProperRunWith r is x xs → StandAtStarts r x.watch.threads
+pub begun : (r : Threading) (is : List GuestItem) (x : WatchWith) (xs : List WatchWith) → IsProperRunWith r is x xs → StandAtStarts r x.watch.threads
 begun r [] x [] P = P
 begun r [] x (y ∷ ys) P = absurd P
 begun r (i ∷ is) x [] P = absurd P
@@ -39,7 +39,7 @@ module _ (r : Threading) (A : AreEntries r.original r.listed) (S : IsThreadSound
       (subst (λ (z : Watch). Related r S a (x.made ++ Takes k d ∷ []) z) (sym g.after) (given_kept r A S L a k d x y R g))
 
   -- along a proper run each guest is followed, counted, covered and kept, and the last one keeps the relation
-  along : (a : Guest) (is : List GuestItem) (x : WatchWith) (xs : List WatchWith) → Related r S a x.made x.watch → IsProperRunWith r is x xs
+  pub along : (a : Guest) (is : List GuestItem) (x : WatchWith) (xs : List WatchWith) → Related r S a x.made x.watch → IsProperRunWith r is x xs
       → AllByRecursion (λ y. IsGuestFollowedWith r a y × AreCounted r y.watch × AreCovered r y.watch × AreKept r y.watch) (x ∷ xs) × Related r S a (last_with x xs).made (last_with x xs).watch
   along a [] x [] R P = ((shown r A S L a x R, tt), R)
   along a [] x (y ∷ ys) R P = absurd P

@@ -11,13 +11,14 @@ use Rattle.cpu_state.specs.declared.state.Core.{Core}
 use Rattle.cpu_state.specs.Processor.{IsProcessorCore, GiveWords}
 use Rattle.insn_form.specs.Operands.{reg, rax}
 use Rattle.insn_form.specs.Machine.{Machine}
-use Rattle.thread_runs.specs.ThreadSteps.{ThreadStep}
+use Rattle.event_steps.specs.ThreadSteps.{ThreadStep}
 use Rattle.insn_form.specs.Alike.{AreAlike}
 use Rattle.relocate_insn.proofs.FixedCode.{SameCode}
-use Rattle.image_step.specs.Listed.{is_start}
+use Rattle.image_runs.specs.Listed.{is_start}
 use Rattle.thread_runs.specs.Guest.{Thread, Guest, machine_of, thread_of, last_guest}
 use Rattle.thread_runs.specs.GuestDeliveries.{GuestItem, IsInterleavedWith}
-use Rattle.thread_runs.specs.ThreadCode.{Marks, Keeps, mark_at, mark_len, position_at, slot_at}
+use Rattle.thread_runs.specs.ThreadCode.{Marks, Keeps, position_at, slot_at}
+use Rattle.trampoline.specs.EventLists.{mark_at, mark_len}
 use Rattle.thread_runs.specs.Work.{Tail, left, InTail}
 use Rattle.thread_runs.specs.Threading.{ThreadSite, Threading, next_of, work_at, is_hidden, is_met_by, is_counted, claiming_at, is_filling, is_unfilled, IsThreadSound}
 use Rattle.thread_runs.specs.Watching.{Watched, Claim, Fill, Watch, last_claim, is_effect, projection, stale_after}

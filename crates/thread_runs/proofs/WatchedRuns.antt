@@ -1,7 +1,7 @@
 -- Each run of a guest is one that is watched.
 use Rattle.std.proofs.Common.{◌≡◌, ℕ, zero, suc, List, [], ◌∷◌, map, Some, refl, sym, ap, ◌∙◌, subst}
 use Rattle.std.specs.Prelude.{slice_get}
-use Rattle.thread_runs.specs.ThreadSteps.{ThreadStepsBy}
+use Rattle.event_steps.specs.ThreadSteps.{ThreadStepsBy}
 use Rattle.thread_runs.specs.Guest.{Thread, Guest, machine_of, thread_of, IsInterleaved}
 use Rattle.thread_runs.specs.Threading.{Threading}
 use Rattle.thread_runs.specs.Watching.{Watched, Watch, guest_of, watch_of, projection, watched_after}

@@ -13,9 +13,10 @@ use Rattle.insn_form.specs.Processor.{IsProcessorState}
 use Rattle.relocate_insn.proofs.FixedCode.{SameCode, next_address}
 use Rattle.start_entries.specs.declared.entry.StartEntry.{StartEntry}
 use Rattle.start_entries.specs.Standing.{AreEntries}
-use Rattle.image_step.specs.Listed.{is_start, is_listed_byte}
+use Rattle.image_runs.specs.Listed.{is_start, is_listed_byte}
 use Rattle.thread_runs.specs.Guest.{Thread, Guest, machine_of, thread_of}
-use Rattle.thread_runs.specs.ThreadCode.{Kind, Marks, Keeps, mark_at, mark_len, position_at, slot_at, ring_len, is_saving, slot, saved_from, saved_len}
+use Rattle.thread_runs.specs.ThreadCode.{Kind, Marks, Keeps, position_at, slot_at, ring_len, is_saving, slot, saved_from, saved_len}
+use Rattle.trampoline.specs.EventLists.{mark_at, mark_len}
 use Rattle.thread_runs.specs.Event.{Point, is_inside, has_point, Holds, IsDecided, HasSaved}
 use Rattle.thread_runs.specs.Event.Point.{At0, At7}
 use Rattle.thread_runs.specs.Threading.{ThreadSite, Threading, next_of, work_at, is_new, is_hidden, is_site, is_kept, relocated_at, is_code_of, IsThreadSound}
@@ -29,8 +30,8 @@ use Rattle.thread_runs.specs.WatchedDeliveries.{WatchWith, made_after}
 use Rattle.thread_runs.specs.TheoremWithDeliveries.{IsGuestFollowedWith}
 use Rattle.thread_runs.specs.StepLaws.{StepLaws}
 use Rattle.patch_report.proofs.ListPlaces.{any_at, place_of, some_is, all_in, all_from, count_cons}
-use Rattle.image_check.proofs.RelatedStates.{allowed_some}
-use Rattle.image_check.proofs.StartPairs.{held_first}
+use Rattle.sound_images.proofs.RelatedStates.{allowed_some}
+use Rattle.sound_images.proofs.StartPairs.{held_first}
 use Rattle.thread_runs.proofs.ListUpdates.{set_here}
 use Rattle.thread_runs.proofs.ThreadPlaces.{point_counted, store_alone, store_first, offset_first, any_none, effect_kept, effect_there, kept_not, site_here, work_in, point_in, start_old, code_unlisted, ring_in, old_unclaimed}
 use Rattle.thread_runs.proofs.KeptRelation.{kept_by}

@@ -1,5 +1,5 @@
 -- Scheduled alone, a thread gets through a trampoline.
-use Rattle.std.proofs.Common.{◌≡◌, ◌≢◌, ◌⊎◌, inl, inr, ℕ, zero, suc, ◌+◌, ◌*◌, ◌<◌, ◌≤◌, Bool, true, false, not, ◌&&◌, ◌||◌, cond, eqb, List, [], ◌∷◌, ◌++◌, length, replicate, Option, Some, None, Ok, refl, sym, ap, ap₂, ◌∙◌, subst, arith}
+use Rattle.std.proofs.Common.{◌≡◌, ◌≢◌, ◌⊎◌, inl, inr, ℕ, zero, suc, ◌+◌, ◌*◌, ◌<◌, ◌≤◌, Bool, true, false, not, ◌&&◌, ◌||◌, cond, eqb, List, [], ◌∷◌, ◌++◌, length, replicate, Option, Some, None, Ok, refl, sym, ap, ap₂, ◌∙◌, subst, arith, length-append}
 use Rattle.std.specs.Prelude.{Contains, slice_get, slice_set}
 use Rattle.std.specs.Option.{is_some}
 use Rattle.std.proofs.lemmas.Bool.{and_parts, and_from, and_left, and_right, or_from, or_parts, not_from_false, not_from_true, cond-true, cond-false, eq-eqb, false≢true, true≢false}
@@ -22,37 +22,39 @@ use Rattle.insn_form.specs.Meaning.{effect}
 use Rattle.insn_form.specs.Machine.{Machine, avoids_span, leaves, put_all}
 use Rattle.insn_form.specs.Step.{IsAt, next_after, question_of}
 use Rattle.insn_form.specs.Touched.{perms_at, reads_avoid}
-use Rattle.thread_runs.specs.ThreadSteps.{thread_task, thread_act, ThreadStepsBy, ThreadStep}
+use Rattle.event_steps.specs.ThreadSteps.{thread_task, thread_act, ThreadStepsBy, ThreadStep}
 use Rattle.insn_form.specs.Alike.{IsAlike}
 use Rattle.insn_form.proofs.UniqueSteps.{one_instruction}
-use Rattle.thread_runs.proofs.ThreadSteps.{made, plain_acts, one_thread_next}
+use Rattle.event_steps.proofs.ThreadSteps.{made, plain_acts, one_thread_next, keeps_code, keeps_perms, lacking_on}
 use Rattle.relocate_insn.proofs.FixedCode.{fixed_stands, fixed_on}
 use Rattle.relocate_insn.proofs.PieceSteps.{gone_to}
 use Rattle.start_entries.specs.declared.entry.StartEntry.{StartEntry}
 use Rattle.start_entries.specs.Leading.{JumpsTo}
 use Rattle.start_entries.specs.Standing.{AreEntries}
-use Rattle.image_step.specs.Listed.{is_start, is_known_start}
+use Rattle.image_runs.specs.Listed.{is_start, is_known_start}
 use Rattle.thread_runs.specs.Guest.{Thread, Guest, machine_of, thread_of}
 use Rattle.thread_runs.specs.GuestDeliveries.{GuestItem, Goes, Takes, given, LeadsBy, IsInterleavedWith}
 use Rattle.cond_action.specs.Conditions.{compares}
-use Rattle.thread_runs.specs.ThreadCode.{Kind, Marks, Keeps, mark_at, mark_len, ring_len, is_saving, thread_event, event_len, slot, flag_slot, saved_from, saved_len}
+use Rattle.thread_runs.specs.ThreadCode.{Kind, Marks, Keeps, ring_len, is_saving, thread_event, event_len, slot, flag_slot, saved_from, saved_len}
+use Rattle.trampoline.specs.EventLists.{mark_at, mark_len}
 use Rattle.thread_runs.specs.RingEvent.{RingPoint, ring_offset, ring_next, is_ringing, RingHolds, RingSaved, InRing, CanKeep}
 use Rattle.thread_runs.specs.RingEvent.RingPoint.{Ring0, Ring1, Ring2, Ring3, Ring4, Ring5, Ring6, Ring7, Ring8, Ring9, Ring10, Ring11, Ring12}
-use Rattle.thread_runs.specs.Event.{Point, offset, checked, following, is_inside, Holds, IsDecided, HasSaved, InEvent, CanMark, AtStore, covered}
+use Rattle.thread_runs.specs.Event.{Point, offset, checked, following, is_inside, has_point, Holds, IsDecided, HasSaved, InEvent, CanMark, AtStore, covered}
 use Rattle.thread_runs.specs.Event.Point.{At0, At1, At2, AtCompare, AtJump, At3, At4, At5, At6, At7}
 use Rattle.thread_runs.specs.Work.{Tail, left, InTail}
 use Rattle.thread_runs.specs.Work.Tail.{Out, Back, Jump, Ecx}
 use Rattle.thread_runs.specs.Threading.Part.{Save}
-use Rattle.thread_runs.specs.Threading.{ThreadSite, Threading, next_of, work_at, is_new, is_hidden, is_site, is_kept, part_to, is_keeping, in_event, saves, saves_at, is_one_of, is_saved_by, is_code_of, ByTwoJumps, IsThreadSound}
+use Rattle.thread_runs.specs.Threading.{ThreadSite, Threading, next_of, work_at, is_new, is_hidden, is_site, is_kept, part_to, is_keeping, in_event, saves, saves_at, is_saved_by, is_code_of, ByTwoJumps, IsThreadSound}
+use Rattle.event_steps.specs.DoneSteps.{is_one_of}
 use Rattle.thread_runs.specs.Watching.{Watched, Watch, EffectStep, projection, stale_after, watched_after, is_effect, Watches}
 use Rattle.thread_runs.specs.Premises.{IsQuietAt, reads_nothing_of}
 use Rattle.thread_runs.specs.Theorem.{last_watch, IsWatched, when_at, further_at, CanGo, GetsOut}
 use Rattle.thread_runs.specs.StepLaws.{StepLaws}
 use Rattle.patch_report.proofs.ListPlaces.{some_is, any_at, contains_at, place_of}
-use Rattle.image_check.proofs.LoadedCode.{jump_acts}
+use Rattle.sound_images.proofs.LoadedCode.{jump_acts}
 use Rattle.thread_runs.proofs.ListUpdates.{set_here}
 use Rattle.thread_runs.proofs.ThreadPlaces.{when_here, further_here, saving_code_is, store_alone, offset_first, inside_low, counted_len, plain_len, point_counted, longer, start_old, start_no_site, site_of, effect_kept, effect_never, kept_not, no_site, event_code, event_inside}
-use Rattle.thread_runs.proofs.KeptRelation.{keeps_code, keeps_perms, keeps_room, keeps_ring, lacking_on, ring_inside}
+use Rattle.thread_runs.proofs.KeptRelation.{keeps_room, keeps_ring, ring_inside}
 use Rattle.thread_runs.proofs.StandingCode.{fields_of, site_stands, own_at, work_stands, event_stands, ring_stands, code_length}
 use Rattle.thread_runs.proofs.OutsideSteps.{calm_projection, stale_is, made_displaced, made_second}
 use Rattle.thread_runs.proofs.ThreadEventSteps.{stale_stays, good_at, made_event, made_cover}
@@ -95,6 +97,15 @@ insn_both : (p q s : ℕ → Bool) (i : Insn) (next : ℕ) (c : Core) → ((x : 
 insn_both p q s (Exact op) next c h e f = span_both p q s (effect op next c).read h e f
 insn_both p q s (Asked form) next c h e f = refl
 insn_both p q s Ending next c h e f = refl
+
+-- fewer comparisons stand behind one of a list than the list has
+left_of : (cs ds : List Comparison) (x : Comparison) (es : List Comparison) → cs ≡ ds ++ x ∷ es → length es < length cs
+left_of cs ds x es e = let l = ap (λ (z : List Comparison). length z) e in let m = length-append ds (x ∷ es) in omega (arith, l, m)
+
+-- of an event that covers by one store the first point alone is inside
+at_first : (p : Point) → has_point (Some (Marks Cover)) [] p ≡ true → p ≡ At0
+at_first At0 h = refl
+at_first p h = absurd (false≢true h)
 
 -- scheduled alone, a thread makes an effect step and then is a thread of the original, beside the original's memory
 pub record GoesOut (r : Threading) (k : ℕ) (w : Watch) (log : List EffectStep) (end : Thread) (m : Bytes) (most : ℕ) : Type 0 where
@@ -201,7 +212,7 @@ module _ (r : Threading) (A : AreEntries r.original r.listed) (S : IsThreadSound
         (go (after_watch w one f to) (after_thread w one f to) next.tail (omega (arith, next.fewer, l)) (set_here w.threads k one (after_thread w one f to) e) B' there w')))
 
     -- after the effect step
-    tail_out : (n : ℕ) (m : Bytes) (w : Watch) (one : Watched) (t : Tail) → left t ≤ n → slice_get w.threads k ≡ Some one → Ground r S m w.stale w.mem one
+    pub tail_out : (n : ℕ) (m : Bytes) (w : Watch) (one : Watched) (t : Tail) → left t ≤ n → slice_get w.threads k ≡ Some one → Ground r S m w.stale w.mem one
         → InTail (fields_of r A S site listed) (next_of site) (work_at site) t one.projected.core one.projected.rip (machine_of w.mem one.now) → one.now.world ≡ one.projected.world
         → GoesOut r k w w.log one.projected m n
     tail_out n m w one Out l e B h world = wider w w.log one.projected m 0 n (omega arith) (there_already m w one e B (ap (is_start r.listed) h.1 ∙ B.kept.start))
@@ -212,26 +223,26 @@ module _ (r : Threading) (A : AreEntries r.original r.listed) (S : IsThreadSound
     tail_out (suc n) m w one Jump l e B h world = tail_on n m w one Jump (omega arith) l e B h world (λ v one' t. tail_out n m v one' t)
     tail_out (suc n) m w one Ecx l e B h world = tail_on n m w one Ecx (omega arith) l e B h world (λ v one' t. tail_out n m v one' t)
 
-    module _ (M : Bytes) (w0 : Watch) (one0 : Watched) (to0 : Machine) (st0 : ThreadStep (machine_of M one0.now) to0) (same0 : one0.now ≡ one0.projected)
-        (quiet : IsQuietAt r (machine_of M one0.now)) (ends : is_start r.listed to0.rip ≡ true)
-        (read : is_saving site.event site.when ≡ true → lacking 4 w0.mem (saved_from r.ring one0.now.core) (saved_len r.ring) ≡ None) (written : is_saving site.event site.when ≡ true → lacking 2 w0.mem (saved_from r.ring one0.now.core) (saved_len r.ring) ≡ None)
-        (old0 : is_saving site.event site.when ≡ true → avoids (is_new r) (saved_from r.ring one0.now.core) (saved_len r.ring) ≡ true)
-        (unread : is_saving site.event site.when ≡ true → reads_nothing_of (is_saved_by r one0.now.core) (fields_of r A S site listed) (machine_of M one0.now) ≡ true)
-        (fresh : reads_nothing_of w0.stale (fields_of r A S site listed) (machine_of M one0.now) ≡ true) where
+    module _ (M : Bytes) (w0 : Watch) (one0 : Watched) (to0 : Machine) (st0 : ThreadStep (machine_of M one0.projected) to0)
+        (quiet : IsQuietAt r (machine_of M one0.projected)) (ends : is_start r.listed to0.rip ≡ true)
+        (read : is_saving site.event site.when ≡ true → lacking 4 w0.mem (saved_from r.ring one0.projected.core) (saved_len r.ring) ≡ None) (written : is_saving site.event site.when ≡ true → lacking 2 w0.mem (saved_from r.ring one0.projected.core) (saved_len r.ring) ≡ None)
+        (old0 : is_saving site.event site.when ≡ true → avoids (is_new r) (saved_from r.ring one0.projected.core) (saved_len r.ring) ≡ true)
+        (unread : is_saving site.event site.when ≡ true → reads_nothing_of (is_saved_by r one0.projected.core) (fields_of r A S site listed) (machine_of M one0.projected) ≡ true)
+        (fresh : reads_nothing_of w0.stale (fields_of r A S site listed) (machine_of M one0.projected) ≡ true) where
       -- the bytes in which the site's event saves rax
       abbrev held : ℕ → Bool
-      held x = is_saving site.event site.when && is_saved_by r one0.now.core x
+      held x = is_saving site.event site.when && is_saved_by r one0.projected.core x
 
       -- the instruction reads none of them
-      unheld : reads_nothing_of held (fields_of r A S site listed) (machine_of M one0.now) ≡ true
+      unheld : reads_nothing_of held (fields_of r A S site listed) (machine_of M one0.projected) ≡ true
       unheld = by_test (is_saving site.event site.when) refl
         where
           s0 : Machine
-          s0 = machine_of M one0.now
+          s0 = machine_of M one0.projected
 
-          by_test : (b : Bool) → is_saving site.event site.when ≡ b → reads_nothing_of held (fields_of r A S site listed) (machine_of M one0.now) ≡ true
-          by_test true e = subst (λ (b : Bool). reads_nothing_of (λ x. b && is_saved_by r one0.now.core x) (fields_of r A S site listed) (machine_of M one0.now) ≡ true) (sym e) (unread e)
-          by_test false e = subst (λ (b : Bool). reads_nothing_of (λ x. b && is_saved_by r one0.now.core x) (fields_of r A S site listed) (machine_of M one0.now) ≡ true) (sym e)
+          by_test : (b : Bool) → is_saving site.event site.when ≡ b → reads_nothing_of held (fields_of r A S site listed) (machine_of M one0.projected) ≡ true
+          by_test true e = subst (λ (b : Bool). reads_nothing_of (λ x. b && is_saved_by r one0.projected.core x) (fields_of r A S site listed) (machine_of M one0.projected) ≡ true) (sym e) (unread e)
+          by_test false e = subst (λ (b : Bool). reads_nothing_of (λ x. b && is_saved_by r one0.projected.core x) (fields_of r A S site listed) (machine_of M one0.projected) ≡ true) (sym e)
               (insn_both w0.stale w0.stale (λ x. false) (thread_task (fields_of r A S site listed) (next_after s0.rip (fields_of r A S site listed))).insn (next_after s0.rip (fields_of r A S site listed)) s0.core (λ x a b. refl) fresh fresh)
 
       -- the thread before its effect step, and the watch there
@@ -241,7 +252,7 @@ module _ (r : Threading) (A : AreEntries r.original r.listed) (S : IsThreadSound
         log : w.log ≡ w0.log
         perms : (x : ℕ) → perms_at w.mem x ≡ perms_at w0.mem x
         staler : (x : ℕ) → w0.stale x ≡ false → held x ≡ false → w.stale x ≡ false
-        projected : one.projected ≡ one0.now
+        projected : one.projected ≡ one0.projected
         at : one.projected.rip ≡ site.entry.addr
         world : one.now.world ≡ one.projected.world
 
@@ -269,7 +280,7 @@ module _ (r : Threading) (A : AreEntries r.original r.listed) (S : IsThreadSound
         saved : HasSaved p one.projected.core w.mem
 
       abbrev log1 : List EffectStep
-      log1 = w0.log ++ record { thread = k; at = one0.now.rip; core = one0.now.core } ∷ []
+      log1 = w0.log ++ record { thread = k; at = one0.projected.rip; core = one0.projected.core } ∷ []
 
       -- the original's memory after an effect step is that of its own step
       made_memory : (stale : ℕ → Bool) (m : Bytes) (w : Watch) (one : Watched) (to : Machine) → Made r S stale M m one w.mem to → is_effect r one.now.rip ≡ true
@@ -286,7 +297,7 @@ module _ (r : Threading) (A : AreEntries r.original r.listed) (S : IsThreadSound
           let B = P.before in
           let F = fields_of r A S site listed in
           let s : Machine = machine_of M one.projected in
-          let s0 : Machine = machine_of M one0.now in
+          let s0 : Machine = machine_of M one0.projected in
           let u : Machine = machine_of w.mem one.now in
           let e : s ≡ s0 = ap (machine_of M) B.projected in
           let q : IsQuietAt r (machine_of w.mem one.projected) = record {
@@ -329,7 +340,7 @@ module _ (r : Threading) (A : AreEntries r.original r.listed) (S : IsThreadSound
           two Ecx = omega arith
 
       -- at each point of the way rsp gives the same saved bytes
-      same_slot : (w : Watch) (one : Watched) (p : Point) → At p w one → slot one.now.core ≡ slot one0.now.core
+      same_slot : (w : Watch) (one : Watched) (p : Point) → At p w one → slot one.now.core ≡ slot one0.projected.core
       same_slot w one p P = L.slots site.when p one.projected.core one.now.core P.before.base.kept.processor P.core ∙ ap (λ (t : Thread). slot t.core) P.before.projected
 
       -- what isn't stale before a step isn't after it, but for saved bytes
@@ -349,15 +360,15 @@ module _ (r : Threading) (A : AreEntries r.original r.listed) (S : IsThreadSound
         unringed = S.rings site listed (Marks b) has
 
         -- no saved byte is new
-        old8 : (one : Watched) → one.projected ≡ one0.now → avoids (is_new r) (slot one.projected.core) 8 ≡ true
-        old8 one e = ap (λ (t : Thread). avoids (is_new r) (slot t.core) 8) e ∙ ap (λ o. avoids (is_new r) (saved_from o one0.now.core) (saved_len o)) (sym unringed) ∙ old0 saving
+        old8 : (one : Watched) → one.projected ≡ one0.projected → avoids (is_new r) (slot one.projected.core) 8 ≡ true
+        old8 one e = ap (λ (t : Thread). avoids (is_new r) (slot t.core) 8) e ∙ ap (λ o. avoids (is_new r) (saved_from o one0.projected.core) (saved_len o)) (sym unringed) ∙ old0 saving
 
         -- where the thread is, too
         free : (w : Watch) (one : Watched) (p : Point) → At p w one → avoids (is_new r) (slot one.now.core) 8 ≡ true
         free w one p P = subst (λ z. avoids (is_new r) z 8 ≡ true) (sym (L.slots cs p one.projected.core one.now.core P.before.base.kept.processor P.core)) (old8 one P.before.projected)
 
         -- one step, and then the rest
-        event_out : (n : ℕ) (p : Point) → is_inside p ≡ true → ((v : Watch) (one' : Watched) → At (following cs one0.now.core p) v one' → GoesOut r k v log1 (thread_of to0) to0.mem n)
+        event_out : (n : ℕ) (p : Point) → is_inside p ≡ true → ((v : Watch) (one' : Watched) → At (following cs one0.projected.core p) v one' → GoesOut r k v log1 (thread_of to0) to0.mem n)
             → (w : Watch) (one : Watched) → At p w one → GoesOut r k w log1 (thread_of to0) to0.mem (suc n)
         event_out n p i rest w one P =
             let u : Machine = machine_of w.mem one.now in
@@ -381,10 +392,10 @@ module _ (r : Threading) (A : AreEntries r.original r.listed) (S : IsThreadSound
               room = low;
             } in
             let room = B.base.room site listed b has in
-            let where' : slot c ≡ slot one0.now.core = ap (λ (t : Thread). slot t.core) B.projected in
+            let where' : slot c ≡ slot one0.projected.core = ap (λ (t : Thread). slot t.core) B.projected in
             let C : CanMark b r.private site.number c w.mem = record {
-              slot_read = lacking_on 4 w0.mem w.mem (slot c) 8 B.perms ∙ ap (λ z. lacking 4 w0.mem z 8) where' ∙ ap (λ o. lacking 4 w0.mem (saved_from o one0.now.core) (saved_len o)) (sym unringed) ∙ read saving;
-              slot_written = lacking_on 2 w0.mem w.mem (slot c) 8 B.perms ∙ ap (λ z. lacking 2 w0.mem z 8) where' ∙ ap (λ o. lacking 2 w0.mem (saved_from o one0.now.core) (saved_len o)) (sym unringed) ∙ written saving;
+              slot_read = lacking_on 4 w0.mem w.mem (slot c) 8 B.perms ∙ ap (λ z. lacking 4 w0.mem z 8) where' ∙ ap (λ o. lacking 4 w0.mem (saved_from o one0.projected.core) (saved_len o)) (sym unringed) ∙ read saving;
+              slot_written = lacking_on 2 w0.mem w.mem (slot c) 8 B.perms ∙ ap (λ z. lacking 2 w0.mem z 8) where' ∙ ap (λ o. lacking 2 w0.mem (saved_from o one0.projected.core) (saved_len o)) (sym unringed) ∙ written saving;
               mark_read = room.read;
               mark_written = room.written;
             } in
@@ -407,7 +418,7 @@ module _ (r : Threading) (A : AreEntries r.original r.listed) (S : IsThreadSound
             (rest (after_watch w one f to) (after_thread w one f to) (subst (λ (t : Thread). At (following cs t.core p) (after_watch w one f to) (after_thread w one f to)) B.projected (record {
               before = still_before w one B f to st made q (λ x a b. stale_in w one f u x (saves r one.now.rip) refl (event_inside r A S L.long site listed one.now.rip from below) a
                   (ap (λ o. is_one_of (saved_from o one.now.core) (saved_len o) x) unringed ∙ ap (λ z. is_one_of z 8 x) (same_slot w one p P)
-                  ∙ ap (λ o. is_one_of (saved_from o one0.now.core) (saved_len o) x) (sym unringed) ∙ (sym (ap (λ z. z && is_saved_by r one0.now.core x) saving) ∙ b))) N.world;
+                  ∙ ap (λ o. is_one_of (saved_from o one0.projected.core) (saved_len o) x) (sym unringed) ∙ (sym (ap (λ z. z && is_saved_by r one0.projected.core x) saving) ∙ b))) N.world;
               here = N.rip ∙ sym (point_counted site b next has saving);
               core = subst (λ (t : Thread). Holds cs next t.core to.core) s N.core;
               decided = subst (λ (t : Thread). IsDecided cs next t.core) s N.decided;
@@ -418,20 +429,38 @@ module _ (r : Threading) (A : AreEntries r.original r.listed) (S : IsThreadSound
         restored_out : (w : Watch) (one : Watched) → At At4 w one → GoesOut r k w log1 (thread_of to0) to0.mem 6
         restored_out = event_out 5 At4 refl (event_out 4 At5 refl (event_out 3 At6 refl effect_out))
 
-        -- from a comparison, or the mark, where none is left
-        checks_out : (ds es : List Comparison) (w : Watch) (one : Watched) → At (checked ds es) w one → GoesOut r k w log1 (thread_of to0) to0.mem (7 + 2 * length es)
-        checks_out ds [] w one P = wider w _ _ _ 7 (7 + 2 * length {A = Comparison} []) (omega arith) (event_out 6 At3 refl restored_out w one P)
-        checks_out ds (x ∷ es) w one P =
-            wider w _ _ _ (suc (suc (7 + 2 * length es))) (7 + 2 * length (x ∷ es)) (omega arith)
-            (event_out (suc (7 + 2 * length es)) (AtCompare ds x es) refl (event_out (7 + 2 * length es) (AtJump ds x es) refl (by_test (compares x.op (reg one0.now.core x.reg) x.value) (checks_out (ds ++ x ∷ []) es))) w one P)
+        -- from the jump behind a comparison, to the next one or the instructions that restore
+        over_out : (ds : List Comparison) (x : Comparison) (es : List Comparison) → ((v : Watch) (one' : Watched) → At (checked (ds ++ x ∷ []) es) v one' → GoesOut r k v log1 (thread_of to0) to0.mem (7 + 2 * length es))
+            → (w : Watch) (one : Watched) → At (AtJump ds x es) w one → GoesOut r k w log1 (thread_of to0) to0.mem (suc (7 + 2 * length es))
+        over_out ds x es next = event_out (7 + 2 * length es) (AtJump ds x es) refl (by_test (compares x.op (reg one0.projected.core x.reg) x.value) next)
           where
             by_test : (z : Bool) → ((v : Watch) (one' : Watched) → At (checked (ds ++ x ∷ []) es) v one' → GoesOut r k v log1 (thread_of to0) to0.mem (7 + 2 * length es)) → (v : Watch) (one' : Watched) → At (cond z (checked (ds ++ x ∷ []) es) At4) v one' → GoesOut r k v log1 (thread_of to0) to0.mem (7 + 2 * length es)
             by_test true go v one' P = go v one' P
             by_test false go v one' P = wider v _ _ _ 6 (7 + 2 * length es) (omega arith) (restored_out v one' P)
 
+        -- from a comparison, or the mark, where none is left
+        checks_out : (ds es : List Comparison) (w : Watch) (one : Watched) → At (checked ds es) w one → GoesOut r k w log1 (thread_of to0) to0.mem (7 + 2 * length es)
+        checks_out ds [] w one P = wider w _ _ _ 7 (7 + 2 * length {A = Comparison} []) (omega arith) (event_out 6 At3 refl restored_out w one P)
+        checks_out ds (x ∷ es) w one P =
+            wider w _ _ _ (suc (suc (7 + 2 * length es))) (7 + 2 * length (x ∷ es)) (omega arith)
+            (event_out (suc (7 + 2 * length es)) (AtCompare ds x es) refl (over_out ds x es (checks_out (ds ++ x ∷ []) es)) w one P)
+
         -- a whole event
         event_whole : (w : Watch) (one : Watched) → At At0 w one → GoesOut r k w log1 (thread_of to0) to0.mem (suc (suc (suc (7 + 2 * length cs))))
         event_whole = event_out (suc (suc (7 + 2 * length cs))) At0 refl (event_out (suc (7 + 2 * length cs)) At1 refl (event_out (7 + 2 * length cs) At2 refl (checks_out [] cs)))
+
+        -- from any of its points
+        point_out : (p : Point) → is_inside p ≡ true → (w : Watch) (one : Watched) → At p w one → GoesOut r k w log1 (thread_of to0) to0.mem (suc (suc (suc (7 + 2 * length cs))))
+        point_out At0 i w one P = event_whole w one P
+        point_out At1 i w one P = wider w _ _ _ (suc (suc (7 + 2 * length cs))) _ (omega arith) (event_out (suc (7 + 2 * length cs)) At1 refl (event_out (7 + 2 * length cs) At2 refl (checks_out [] cs)) w one P)
+        point_out At2 i w one P = wider w _ _ _ (suc (7 + 2 * length cs)) _ (omega arith) (event_out (7 + 2 * length cs) At2 refl (checks_out [] cs) w one P)
+        point_out (AtCompare ds x es) i w one P = wider w _ _ _ (7 + 2 * length (x ∷ es)) _ (let l = left_of cs ds x es P.decided.0 in omega (arith, l)) (checks_out ds (x ∷ es) w one P)
+        point_out (AtJump ds x es) i w one P = wider w _ _ _ (suc (7 + 2 * length es)) _ (let l = left_of cs ds x es P.decided.0 in omega (arith, l)) (over_out ds x es (checks_out (ds ++ x ∷ []) es) w one P)
+        point_out At3 i w one P = wider w _ _ _ 7 _ (omega arith) (event_out 6 At3 refl restored_out w one P)
+        point_out At4 i w one P = wider w _ _ _ 6 _ (omega arith) (restored_out w one P)
+        point_out At5 i w one P = wider w _ _ _ 5 _ (omega arith) (event_out 4 At5 refl (event_out 3 At6 refl effect_out) w one P)
+        point_out At6 i w one P = wider w _ _ _ 4 _ (omega arith) (event_out 3 At6 refl effect_out w one P)
+        point_out At7 i w one P = absurd (false≢true i)
 
       -- an event that covers by one store, and then the effect step
       cover_out : site.event ≡ Some (Marks Cover) → site.when ≡ [] → (w : Watch) (one : Watched) → At At0 w one → GoesOut r k w log1 (thread_of to0) to0.mem 4
@@ -489,8 +518,8 @@ module _ (r : Threading) (A : AreEntries r.original r.listed) (S : IsThreadSound
           saved : RingSaved p one.projected.core w.mem
 
         -- no saved byte is new
-        old16 : (one : Watched) → one.projected ≡ one0.now → avoids (is_new r) (flag_slot one.projected.core) 16 ≡ true
-        old16 one e = ap (λ (t : Thread). avoids (is_new r) (flag_slot t.core) 16) e ∙ ap (λ o. avoids (is_new r) (saved_from o one0.now.core) (saved_len o)) (sym ringing) ∙ old0 saves_rax
+        old16 : (one : Watched) → one.projected ≡ one0.projected → avoids (is_new r) (flag_slot one.projected.core) 16 ≡ true
+        old16 one e = ap (λ (t : Thread). avoids (is_new r) (flag_slot t.core) 16) e ∙ ap (λ o. avoids (is_new r) (saved_from o one0.projected.core) (saved_len o)) (sym ringing) ∙ old0 saves_rax
 
         -- one step, and then the rest
         ring_out : (m : ℕ) (p : RingPoint) → is_ringing p ≡ true → ((v : Watch) (one' : Watched) → RingAt (ring_next p) v one' → GoesOut r k v log1 (thread_of to0) to0.mem m)
@@ -514,10 +543,10 @@ module _ (r : Threading) (A : AreEntries r.original r.listed) (S : IsThreadSound
               number = sound.numbers site listed (ap is_some keeps);
             } in
             let room = B.base.ring_room n ringing in
-            let where' : flag_slot c ≡ flag_slot one0.now.core = ap (λ (t : Thread). flag_slot t.core) B.projected in
+            let where' : flag_slot c ≡ flag_slot one0.projected.core = ap (λ (t : Thread). flag_slot t.core) B.projected in
             let C : CanKeep n r.private c w.mem = record {
-              saved_read = lacking_on 4 w0.mem w.mem (flag_slot c) 16 B.perms ∙ ap (λ z. lacking 4 w0.mem z 16) where' ∙ ap (λ o. lacking 4 w0.mem (saved_from o one0.now.core) (saved_len o)) (sym ringing) ∙ read saves_rax;
-              saved_written = lacking_on 2 w0.mem w.mem (flag_slot c) 16 B.perms ∙ ap (λ z. lacking 2 w0.mem z 16) where' ∙ ap (λ o. lacking 2 w0.mem (saved_from o one0.now.core) (saved_len o)) (sym ringing) ∙ written saves_rax;
+              saved_read = lacking_on 4 w0.mem w.mem (flag_slot c) 16 B.perms ∙ ap (λ z. lacking 4 w0.mem z 16) where' ∙ ap (λ o. lacking 4 w0.mem (saved_from o one0.projected.core) (saved_len o)) (sym ringing) ∙ read saves_rax;
+              saved_written = lacking_on 2 w0.mem w.mem (flag_slot c) 16 B.perms ∙ ap (λ z. lacking 2 w0.mem z 16) where' ∙ ap (λ o. lacking 2 w0.mem (saved_from o one0.projected.core) (saved_len o)) (sym ringing) ∙ written saves_rax;
               position_read = room.position.read;
               position_written = room.position.written;
               slots_written = λ j l. (room.slots j l).written;
@@ -543,7 +572,7 @@ module _ (r : Threading) (A : AreEntries r.original r.listed) (S : IsThreadSound
             (rest (after_watch w one f to) (after_thread w one f to) (record {
               before = still_before w one B f to st made q (λ x a b. stale_in w one f u x (saves r one.now.rip) refl (event_inside r A S L.long site listed one.now.rip from below) a
                   (ap (λ o. is_one_of (saved_from o one.now.core) (saved_len o) x) ringing ∙ ap (λ z. is_one_of z 16 x) (same ∙ where')
-                  ∙ ap (λ o. is_one_of (saved_from o one0.now.core) (saved_len o) x) (sym ringing) ∙ (sym (ap (λ z. z && is_saved_by r one0.now.core x) saves_rax) ∙ b))) N.world;
+                  ∙ ap (λ o. is_one_of (saved_from o one0.projected.core) (saved_len o) x) (sym ringing) ∙ (sym (ap (λ z. z && is_saved_by r one0.projected.core x) saves_rax) ∙ b))) N.world;
               here = N.rip;
               core = subst (λ (t : Thread). RingHolds n (ring_next p) t.core to.core) s N.core;
               saved = subst (λ (t : Thread). RingSaved (ring_next p) t.core to.mem) s good.saved;
@@ -553,10 +582,33 @@ module _ (r : Threading) (A : AreEntries r.original r.listed) (S : IsThreadSound
         ring_behind : (w : Watch) (one : Watched) → RingAt Ring12 w one → GoesOut r k w log1 (thread_of to0) to0.mem 3
         ring_behind w one P = effect_out w one (record { before = P.before; here = P.here ∙ ap (λ z. site.place + z) (sym ring_long); core = P.core; decided = tt; saved = tt })
 
+        -- from the last instructions of the event
+        ring_last : (w : Watch) (one : Watched) → RingAt Ring8 w one → GoesOut r k w log1 (thread_of to0) to0.mem 7
+        ring_last = ring_out 6 Ring8 refl (ring_out 5 Ring9 refl (ring_out 4 Ring10 refl (ring_out 3 Ring11 refl ring_behind)))
+
+        -- from the instruction that claims a slot
+        ring_claim : (w : Watch) (one : Watched) → RingAt Ring5 w one → GoesOut r k w log1 (thread_of to0) to0.mem 10
+        ring_claim = ring_out 9 Ring5 refl (ring_out 8 Ring6 refl (ring_out 7 Ring7 refl ring_last))
+
         -- a whole event
         ring_whole : (w : Watch) (one : Watched) → RingAt Ring0 w one → GoesOut r k w log1 (thread_of to0) to0.mem 15
-        ring_whole = ring_out 14 Ring0 refl (ring_out 13 Ring1 refl (ring_out 12 Ring2 refl (ring_out 11 Ring3 refl (ring_out 10 Ring4 refl (ring_out 9 Ring5 refl (ring_out 8 Ring6 refl
-            (ring_out 7 Ring7 refl (ring_out 6 Ring8 refl (ring_out 5 Ring9 refl (ring_out 4 Ring10 refl (ring_out 3 Ring11 refl ring_behind)))))))))))
+        ring_whole = ring_out 14 Ring0 refl (ring_out 13 Ring1 refl (ring_out 12 Ring2 refl (ring_out 11 Ring3 refl (ring_out 10 Ring4 refl ring_claim))))
+
+        -- from any of its points
+        ring_point_out : (p : RingPoint) → is_ringing p ≡ true → (w : Watch) (one : Watched) → RingAt p w one → GoesOut r k w log1 (thread_of to0) to0.mem 15
+        ring_point_out Ring0 i w one P = ring_whole w one P
+        ring_point_out Ring1 i w one P = wider w _ _ _ 14 15 (omega arith) (ring_out 13 Ring1 refl (ring_out 12 Ring2 refl (ring_out 11 Ring3 refl (ring_out 10 Ring4 refl ring_claim))) w one P)
+        ring_point_out Ring2 i w one P = wider w _ _ _ 13 15 (omega arith) (ring_out 12 Ring2 refl (ring_out 11 Ring3 refl (ring_out 10 Ring4 refl ring_claim)) w one P)
+        ring_point_out Ring3 i w one P = wider w _ _ _ 12 15 (omega arith) (ring_out 11 Ring3 refl (ring_out 10 Ring4 refl ring_claim) w one P)
+        ring_point_out Ring4 i w one P = wider w _ _ _ 11 15 (omega arith) (ring_out 10 Ring4 refl ring_claim w one P)
+        ring_point_out Ring5 i w one P = wider w _ _ _ 10 15 (omega arith) (ring_claim w one P)
+        ring_point_out Ring6 i w one P = wider w _ _ _ 9 15 (omega arith) (ring_out 8 Ring6 refl (ring_out 7 Ring7 refl ring_last) w one P)
+        ring_point_out Ring7 i w one P = wider w _ _ _ 8 15 (omega arith) (ring_out 7 Ring7 refl ring_last w one P)
+        ring_point_out Ring8 i w one P = wider w _ _ _ 7 15 (omega arith) (ring_last w one P)
+        ring_point_out Ring9 i w one P = wider w _ _ _ 6 15 (omega arith) (ring_out 5 Ring9 refl (ring_out 4 Ring10 refl (ring_out 3 Ring11 refl ring_behind)) w one P)
+        ring_point_out Ring10 i w one P = wider w _ _ _ 5 15 (omega arith) (ring_out 4 Ring10 refl (ring_out 3 Ring11 refl ring_behind) w one P)
+        ring_point_out Ring11 i w one P = wider w _ _ _ 4 15 (omega arith) (ring_out 3 Ring11 refl ring_behind w one P)
+        ring_point_out Ring12 i w one P = absurd (false≢true i)
 
       -- the thread before the trampoline, at an address, with the registers and flags of its projection
       record Near (x : ℕ) (w : Watch) (one : Watched) : Type 0 where
@@ -623,10 +675,57 @@ module _ (r : Threading) (A : AreEntries r.original r.listed) (S : IsThreadSound
             core = P.core ∙ ap (λ (t : Thread). t.core) (sym q);
           }))
 
+      -- the thread where it is
+      here_before : slice_get w0.threads k ≡ Some one0 → Ground r S M w0.stale w0.mem one0 → one0.projected.rip ≡ site.entry.addr → one0.now.world ≡ one0.projected.world → Before w0 one0
+      here_before e B at world = record { there = e; base = B; log = refl; perms = λ x. refl; staler = λ x a b. a; projected = refl; at = at; world = world }
+
+      -- from a point of an event that marks
+      marked_out : (p : Point) → is_inside p ≡ true → has_point site.event site.when p ≡ true → (w : Watch) (one : Watched) → At p w one → GoesOut r k w log1 (thread_of to0) to0.mem come_most
+      marked_out p i h w one P = by_event site.event (is_saving site.event site.when) refl refl
+        where
+          by_event : (o : Option Kind) (s : Bool) → site.event ≡ o → is_saving site.event site.when ≡ s → GoesOut r k w log1 (thread_of to0) to0.mem come_most
+          by_event (Some (Keeps n)) s e z = absurd (false≢true (sym (ap (λ o. has_point o site.when p) e) ∙ h))
+          by_event (Some (Marks b)) true e z = wider w _ _ _ (suc (suc (suc (7 + 2 * length site.when)))) come_most (omega arith) (point_out b e z p i w one P)
+          by_event (Some (Marks b)) false e z =
+              let q = store_alone b site.when (sym (ap (λ o. is_saving o site.when) e) ∙ z) in
+              let covers : site.event ≡ Some (Marks Cover) = e ∙ ap (λ d. Some (Marks d)) q.0 in
+              let first = at_first p (sym (ap₂ (λ o cs. has_point o cs p) covers q.1) ∙ h) in
+              wider w _ _ _ 4 come_most (omega arith) (cover_out covers q.1 w one (subst (λ z. At z w one) first P))
+          by_event None s e z = absurd (false≢true (sym (ap (λ o. has_point o site.when p) e) ∙ h))
+
+      -- from a point, or where the relocated code begins
+      any_out : (p : Point) → (is_inside p ≡ true → has_point site.event site.when p ≡ true) → (w : Watch) (one : Watched) → At p w one → GoesOut r k w log1 (thread_of to0) to0.mem come_most
+      any_out At7 i w one P = wider w _ _ _ 3 come_most (omega arith) (effect_out w one P)
+      any_out p i w one P = marked_out p refl (i refl) w one P
+
+      -- a thread that stands in an event, or where relocated code begins, goes out
+      pub event_goes : slice_get w0.threads k ≡ Some one0 → Ground r S M w0.stale w0.mem one0 → (p : Point) → (is_inside p ≡ true → has_point site.event site.when p ≡ true) → one0.now.rip ≡ point_at site p
+          → one0.projected.rip ≡ site.entry.addr → Holds site.when p one0.projected.core one0.now.core → IsDecided site.when p one0.projected.core → one0.now.world ≡ one0.projected.world → HasSaved p one0.projected.core w0.mem
+          → GoesOut r k w0 (w0.log ++ record { thread = k; at = one0.projected.rip; core = one0.projected.core } ∷ []) (thread_of to0) to0.mem (12 + 2 * length site.when + cond (is_keeping site.event) 5 0)
+      event_goes e B p i here at core decided world saved = wider w0 _ _ _ come_most (12 + 2 * length site.when + cond (is_keeping site.event) 5 0) (omega arith)
+          (any_out p i w0 one0 (record { before = here_before e B at world; here = here; core = core; decided = decided; saved = saved }))
+
+      -- so does one in an event that keeps a ring
+      pub ring_goes : slice_get w0.threads k ≡ Some one0 → Ground r S M w0.stale w0.mem one0 → (n : ℕ) → site.event ≡ Some (Keeps n) → (p : RingPoint) → is_ringing p ≡ true → one0.now.rip ≡ site.place + ring_offset p
+          → one0.projected.rip ≡ site.entry.addr → RingHolds n p one0.projected.core one0.now.core → one0.now.world ≡ one0.projected.world → RingSaved p one0.projected.core w0.mem
+          → GoesOut r k w0 (w0.log ++ record { thread = k; at = one0.projected.rip; core = one0.projected.core } ∷ []) (thread_of to0) to0.mem (12 + 2 * length site.when + cond (is_keeping site.event) 5 0)
+      ring_goes e B n keeps p i here at core world saved =
+          let five : ◌≡◌ {A = ℕ} (cond (is_keeping site.event) 5 0) 5 = ap (λ o. cond (is_keeping o) 5 0) keeps in
+          wider w0 _ _ _ 15 (12 + 2 * length site.when + cond (is_keeping site.event) 5 0) (omega (arith, five))
+          (ring_point_out n keeps p i w0 one0 (record { before = here_before e B at world; here = here; core = core; saved = saved }))
+
+      -- and one at the second of two jumps
+      pub second_goes : slice_get w0.threads k ≡ Some one0 → Ground r S M w0.stale w0.mem one0 → (j : ByTwoJumps r site.entry.addr site.place) → one0.now.rip ≡ j.second → one0.projected.rip ≡ site.entry.addr
+          → one0.now.core ≡ one0.projected.core → one0.now.world ≡ one0.projected.world
+          → GoesOut r k w0 (w0.log ++ record { thread = k; at = one0.projected.rip; core = one0.projected.core } ∷ []) (thread_of to0) to0.mem (12 + 2 * length site.when + cond (is_keeping site.event) 5 0)
+      second_goes e B j here at core world = wider w0 _ _ _ (suc come_most) (12 + 2 * length site.when + cond (is_keeping site.event) 5 0) (omega arith)
+          (jump_out come_most j.second site.place j.on j.old (and_left (is_start r.listed j.second) (not (is_site r j.second)) j.unlisted) w0 one0 (record { before = here_before e B at world; here = here; core = core })
+          (λ f to st. made_second r A S L M w0 one0 f to st B (ap (is_new r) here ∙ j.old) (record { site = site; listed = listed; jumps = j; here = here; there = at; core = core; world = world })) come_out)
+
       -- from the displaced start, by one jump or by two
-      displaced_out : slice_get w0.threads k ≡ Some one0 → Ground r S M w0.stale w0.mem one0 → is_start r.listed one0.now.rip ≡ true → site.entry.addr ≡ one0.now.rip → is_site r one0.now.rip ≡ true
+      displaced_out : (same0 : one0.now ≡ one0.projected) → slice_get w0.threads k ≡ Some one0 → Ground r S M w0.stale w0.mem one0 → is_start r.listed one0.now.rip ≡ true → site.entry.addr ≡ one0.now.rip → is_site r one0.now.rip ≡ true
           → GoesOut r k w0 log1 (thread_of to0) to0.mem (2 + come_most)
-      displaced_out e B start here is = by_jump (S.sites site listed).jump
+      displaced_out same0 e B start here is = by_jump (S.sites site listed).jump
         where
           old : is_new r one0.now.rip ≡ false
           old = start_old r A S L.long one0.now.rip start
@@ -642,7 +741,7 @@ module _ (r : Threading) (A : AreEntries r.original r.listed) (S : IsThreadSound
               log = refl;
               perms = λ x. refl;
               staler = λ x a b. a;
-              projected = sym same0;
+              projected = refl;
               at = ap (λ (t : Thread). t.rip) (sym same0) ∙ sym here;
               world = ap (λ (t : Thread). t.world) same0;
             };
@@ -723,8 +822,14 @@ module _ (r : Threading) (A : AreEntries r.original r.listed) (S : IsThreadSound
           let further : further_at r.sites one.now.rip ≡ cond (is_keeping q.0.event) 5 0 = further_here one.now.rip q.0 r.sites (λ j t h e'. S.once t q.0 (contains_at r.sites j t h) q.1 (e' ∙ sym q.2)) i.0 i.1 q.2 in
           wider w _ _ _ (2 + (10 + 2 * length q.0.when + cond (is_keeping q.0.event) 5 0)) (12 + 2 * length (when_at r.sites one.now.rip) + further_at r.sites one.now.rip)
           (let z = ap (λ (l : List Comparison). length l) when in omega (arith, z, further))
-          (displaced_out q.0 q.1 R.end.mem w one C.to (C.fields, C.steps) same C.quiet C.ends (λ h. C.read (there h)) (λ h. C.written (there h)) (λ h. C.old (there h))
-          (λ h. subst (λ (z : Fields). reads_nothing_of (is_saved_by r one.now.core) z m ≡ true) g (C.unread (there h))) (subst (λ (z : Fields). reads_nothing_of w.stale z m ≡ true) g C.fresh) e B C.stands q.2 is)
+          (subst (λ (t : Thread). ThreadStep (machine_of R.end.mem t) C.to → IsQuietAt r (machine_of R.end.mem t)
+          → (is_saving q.0.event q.0.when ≡ true → lacking 4 w.mem (saved_from r.ring t.core) (saved_len r.ring) ≡ None) → (is_saving q.0.event q.0.when ≡ true → lacking 2 w.mem (saved_from r.ring t.core) (saved_len r.ring) ≡ None)
+          → (is_saving q.0.event q.0.when ≡ true → avoids (is_new r) (saved_from r.ring t.core) (saved_len r.ring) ≡ true)
+          → (is_saving q.0.event q.0.when ≡ true → reads_nothing_of (is_saved_by r t.core) F (machine_of R.end.mem t) ≡ true) → reads_nothing_of w.stale F (machine_of R.end.mem t) ≡ true
+          → GoesOut r k w (w.log ++ record { thread = k; at = t.rip; core = t.core } ∷ []) (thread_of C.to) C.to.mem (2 + (10 + 2 * length q.0.when + cond (is_keeping q.0.event) 5 0))) (sym same)
+          (λ st quiet read written old unread fresh. displaced_out q.0 q.1 R.end.mem w one C.to st quiet C.ends read written old unread fresh same e B C.stands q.2 is)
+          (C.fields, C.steps) C.quiet (λ h. C.read (there h)) (λ h. C.written (there h)) (λ h. C.old (there h))
+          (λ h. subst (λ (z : Fields). reads_nothing_of (is_saved_by r one.now.core) z m ≡ true) g (C.unread (there h))) (subst (λ (z : Fields). reads_nothing_of w.stale z m ≡ true) g C.fresh))
 
       by_start : (b : Bool) → is_site r one.now.rip ≡ b → GoesOut r k w (w.log ++ record { thread = k; at = one.now.rip; core = one.now.core } ∷ []) (thread_of C.to) C.to.mem (12 + 2 * length (when_at r.sites one.now.rip) + further_at r.sites one.now.rip)
       by_start true is = displaced is (site_of r A S L.long one.now.rip is)

@@ -30,7 +30,7 @@ use Rattle.insn_form.specs.Meaning.{effect}
 use Rattle.insn_form.specs.Machine.{Machine, first, avoids_span, avoids_insn, leaves}
 use Rattle.insn_form.specs.Step.{IsAt, next_after}
 use Rattle.insn_form.specs.Exactly.{after_op, HasOperands}
-use Rattle.thread_runs.specs.ThreadSteps.{thread_task, ThreadStepsBy, ThreadStep}
+use Rattle.event_steps.specs.ThreadSteps.{thread_task, ThreadStepsBy, ThreadStep}
 use Rattle.insn_form.specs.Alike.{IsAlike}
 use Rattle.insn_form.proofs.TaskCopies.{names_it}
 use Rattle.insn_form.proofs.ConditionCodes.{condition_code}
@@ -40,7 +40,7 @@ use Rattle.relocate_insn.proofs.BranchRuns.{branch_insn, taken}
 use Rattle.thread_runs.specs.ThreadCode.{thread_relocated}
 use Rattle.thread_runs.specs.Work.{Tail, InTail, Worked, is_call, is_syscall, call_target}
 use Rattle.thread_runs.specs.Work.Tail.{Out, Back, Jump}
-use Rattle.thread_runs.proofs.KnownCodeSteps.{IsKnown, known_fixed, known_step, known_told, operands_forth, operands_back, both_core, both_mem}
+use Rattle.event_steps.proofs.KnownCodeSteps.{IsKnown, known_fixed, known_step, known_told, operands_forth, operands_back, both_core, both_mem}
 use Rattle.thread_runs.proofs.LockInc.{thread_insn, not_locked}
 use Rattle.thread_runs.proofs.KnownPieces.{jump_op, known_jump, push_op, known_push}
 

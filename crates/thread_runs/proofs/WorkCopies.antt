@@ -18,12 +18,12 @@ use Rattle.insn_form.specs.Step.{IsAt, next_after, question_of}
 use Rattle.insn_form.specs.Laws.{is_steady}
 use Rattle.insn_form.specs.Touched.{reads_none, writes_avoid}
 use Rattle.insn_form.specs.Again.{always_goes, syscall_task}
-use Rattle.thread_runs.specs.ThreadSteps.{is_locked_xadd, thread_task, acting, thread_act, ThreadStepsBy, ThreadStep}
+use Rattle.event_steps.specs.ThreadSteps.{is_locked_xadd, thread_task, acting, thread_act, ThreadStepsBy, ThreadStep}
 use Rattle.insn_form.specs.Alike.{AreAlike, IsAlike, writes_at, still, GoesAlike, GoesAlikeBehind}
 use Rattle.insn_form.proofs.UniqueSteps.{one_instruction}
 use Rattle.insn_form.proofs.AlikeMemories.{alike_syscall, writes_anywhere}
-use Rattle.thread_runs.proofs.Acting.{acting_alike}
-use Rattle.thread_runs.proofs.ThreadSteps.{made, unlocked_task}
+use Rattle.event_steps.proofs.Acting.{acting_alike}
+use Rattle.event_steps.proofs.ThreadSteps.{made, unlocked_task}
 use Rattle.relocate_insn.specs.Relocating.{copy_of}
 use Rattle.relocate_insn.proofs.RelocatedLengths.{copy_length}
 use Rattle.relocate_insn.proofs.PieceSteps.{is_at, next_is}

@@ -35,7 +35,7 @@ use Rattle.thread_runs.specs.ThreadCode.{jump_reg, thread_relocated, thread_work
 use Rattle.trampoline.specs.Atomic.{is_atomic}
 use Rattle.thread_runs.specs.Work.{Tail, InTail, is_call, is_syscall, call_target, IsWork, TailNext, IsTailStep, left}
 use Rattle.thread_runs.specs.Work.Tail.{Out, Back, Jump, Ecx}
-use Rattle.thread_runs.proofs.KnownCodeSteps.{IsKnown, known_step, known_told}
+use Rattle.event_steps.proofs.KnownCodeSteps.{IsKnown, known_step, known_told}
 use Rattle.thread_runs.proofs.KnownPieces.{jump_op, known_jump, ecx_op, known_ecx, reg_fields, reg_length, known_reg, call_reg}
 use Rattle.insn_form.proofs.UniqueSteps.{one_instruction}
 use Rattle.insn_form.proofs.SpellingSlices.{imm_ends}

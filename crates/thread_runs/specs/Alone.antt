@@ -6,10 +6,12 @@ use Rattle.cpu_state.specs.Fixed.{IsFixed}
 use Rattle.cpu_state.specs.Processor.{IsProcessorCore}
 use Rattle.insn_form.specs.Machine.{Machine}
 use Rattle.insn_form.specs.Runs.{IsPath, last_of}
-use Rattle.thread_runs.specs.ThreadSteps.{ThreadStep}
-use Rattle.thread_runs.specs.ThreadCode.{counter_at, thread_event}
+use Rattle.event_steps.specs.ThreadSteps.{ThreadStep}
+use Rattle.trampoline.specs.EventLists.{counter_at}
+use Rattle.thread_runs.specs.ThreadCode.{thread_event}
 use Rattle.thread_runs.specs.Event.{CanMark}
-use Rattle.thread_runs.specs.Threading.{is_one_of, is_saved}
+use Rattle.event_steps.specs.DoneSteps.{is_one_of}
+use Rattle.thread_runs.specs.Threading.{is_saved}
 
 -- a thread stands at the event of site i, which counts; the eight bytes in which rax is saved and those of the counter can be read and written, and lie apart
 pub record CanCountAlone (p i place : ℕ) (s : Machine) : Type 0 where

@@ -6,10 +6,10 @@ use Rattle.cpu_state.specs.Fixed.{IsFixed}
 use Rattle.cpu_state.specs.Processor.{IsProcessorCore}
 use Rattle.insn_form.specs.Machine.{Machine}
 use Rattle.insn_form.specs.Runs.{IsPath, last_of}
-use Rattle.thread_runs.specs.ThreadSteps.{ThreadStep}
+use Rattle.event_steps.specs.ThreadSteps.{ThreadStep}
 use Rattle.thread_runs.specs.ThreadCode.{ring_event, ring_len, is_ring_length, position_at, slot_at, flag_slot}
 use Rattle.thread_runs.specs.RingEvent.{CanKeep}
-use Rattle.thread_runs.specs.Threading.{is_one_of}
+use Rattle.event_steps.specs.DoneSteps.{is_one_of}
 
 -- a thread stands at the event of site i, which keeps a ring of n slots; the bytes that the event uses can be read and written, and the
 -- sixteen in which rax and the flags are saved are none of the position and of the slots

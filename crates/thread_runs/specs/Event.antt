@@ -1,5 +1,5 @@
 -- The events of guest threads, instruction by instruction: seven, and two for each comparison, or one store. Theorems cite it.
-use Rattle.std.specs.Prelude.{◌≡◌, ℕ, ◌+◌, ◌/◌, ◌%◌, ◌^◌, ◌<◌, ◌≤◌, Bool, true, false, not, if◌then◌else◌, List, [], ◌∷◌, ◌++◌, length, Option, Some, None}
+use Rattle.std.specs.Prelude.{◌≡◌, ℕ, ◌+◌, ◌%◌, ◌^◌, ◌<◌, ◌≤◌, Bool, true, false, not, if◌then◌else◌, List, [], ◌∷◌, ◌++◌, length, Option, Some, None}
 use Rattle.pun_base.specs.Memory.{Bytes}
 use Rattle.pun_base.specs.declared.action.Base.{Base}
 use Rattle.pun_base.specs.declared.action.Base.TheVariants.{Cover, Count}
@@ -13,13 +13,14 @@ use Rattle.cpu_state.specs.Processor.{IsProcessorCore}
 use Rattle.insn_form.specs.declared.form.Op.TheVariants.{Lahf}
 use Rattle.insn_form.specs.Operands.{reg, with_reg, with_flags, rax}
 use Rattle.insn_form.specs.Conditions.{is_met}
-use Rattle.insn_form.specs.FlagMoves.{low_flags}
 use Rattle.insn_form.specs.FlagsBack.{core_after, kept_in_ax}
 use Rattle.insn_form.specs.Machine.{Machine}
 use Rattle.cond_action.specs.Conditions.{compares, all_hold}
 use Rattle.cond_action.specs.Codes.{failing}
-use Rattle.thread_runs.specs.ThreadSteps.{ThreadStep}
-use Rattle.thread_runs.specs.ThreadCode.{Kind, Marks, Keeps, mark_at, mark_len, marking_len, compare_len, checking_len, saving_event, saving_len, thread_event, slot}
+use Rattle.event_steps.specs.ThreadSteps.{ThreadStep}
+use Rattle.thread_runs.specs.ThreadCode.{Kind, Marks, Keeps, marking_len, compare_len, checking_len, saving_event, saving_len, thread_event, slot}
+use Rattle.trampoline.specs.EventLists.{mark_at, mark_len}
+use Rattle.event_steps.specs.SavedInAx.{IsGivingBack}
 
 -- the instructions of an event that saves rax, in order: three that save it and the flags, CMP and a jump for
 -- each comparison, which is told with those before it and behind it, one that marks, and three that restore;
@@ -110,15 +111,6 @@ pub record IsCounting (cs : List Comparison) (c d : Core) : Type 0 where
   pub carry : cs ≡ [] → flags.cf ≡ c.flags.cf
   pub rest : flags.rest ≡ c.flags.rest
   pub core : d ≡ with_flags (kept_in_ax c) flags
-
--- between ADD and SAHF: OF is back, and AH still has the five others
-pub record IsGivingBack (c d : Core) : Type 0 where
-  pub value : ℕ
-  pub flags : Flags
-  pub high : value / 256 % 256 ≡ low_flags c.flags
-  pub over : flags.of ≡ c.flags.of
-  pub rest : flags.rest ≡ c.flags.rest
-  pub core : d ≡ with_flags (with_reg c rax value) flags
 
 -- between SAHF and the reload of rax: all flags are back
 pub record IsReloading (c d : Core) : Type 0 where

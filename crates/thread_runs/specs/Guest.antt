@@ -4,7 +4,7 @@ use Rattle.pun_base.specs.Memory.{Bytes}
 use Rattle.cpu_state.specs.declared.state.Core.{Core}
 use Rattle.cpu_state.specs.declared.world.Entry.{Entry}
 use Rattle.insn_form.specs.Machine.{Machine}
-use Rattle.thread_runs.specs.ThreadSteps.{ThreadStep}
+use Rattle.event_steps.specs.ThreadSteps.{ThreadStep}
 
 -- a thread: registers, flags and bases, the instruction pointer, and what is left of a world of its
 -- own

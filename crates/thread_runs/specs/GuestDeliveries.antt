@@ -2,8 +2,8 @@
 use Rattle.std.specs.Prelude.{◌≡◌, ℕ, List, [], ◌∷◌, Some, slice_get, slice_set}
 use Rattle.insn_form.specs.Machine.{put_all}
 use Rattle.start_entries.specs.declared.entry.StartEntry.{StartEntry}
-use Rattle.image_step.specs.declared.delivery.Delivery.{Delivery}
-use Rattle.image_step.specs.Deliveries.{Fits}
+use Rattle.image_runs.specs.declared.delivery.Delivery.{Delivery}
+use Rattle.image_runs.specs.Deliveries.{Fits}
 use Rattle.thread_runs.specs.Guest.{Thread, Guest, machine_of, Moves}
 
 -- an item of a guest's run: a step of thread k, or a delivery to it

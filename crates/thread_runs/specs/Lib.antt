@@ -1,4 +1,3 @@
-pub mod ThreadSteps
 pub mod ThreadCode
 pub mod Building
 pub mod Event
@@ -6,6 +5,7 @@ pub mod RingEvent
 pub mod Work
 pub mod Guest
 pub mod Threading
+pub mod ThreadLists
 pub mod Watching
 pub mod Premises
 pub mod Alone

@@ -1,7 +1,7 @@
 -- LOCK INC and LOCK XADD, the two spellings that interleaved runs read otherwise than a single processor's runs, by their bytes. Theorems cite it.
 use Rattle.std.specs.Prelude.{◌≡◌, ◌↔◌, ℕ, true, [], ◌∷◌}
 use Rattle.length_decode.specs.Spelling.{Fields, IsInstruction, spelling}
-use Rattle.thread_runs.specs.ThreadSteps.{is_locked_inc, is_locked_xadd, unlocked, thread_task}
+use Rattle.event_steps.specs.ThreadSteps.{is_locked_inc, is_locked_xadd, unlocked, thread_task}
 
 -- the spelling of LOCK INC: F0 48 FF 04 25 with four more bytes
 pub record IsLockedInc (f : Fields) : Type 0 where

@@ -6,8 +6,8 @@ use Rattle.cpu_state.specs.Bytes.{Stands, avoids}
 use Rattle.insn_form.specs.Machine.{Machine, leaves}
 use Rattle.insn_form.specs.Step.{next_after}
 use Rattle.insn_form.specs.Touched.{reads_none}
-use Rattle.image_step.specs.Listed.{is_start, is_known_start}
-use Rattle.thread_runs.specs.ThreadSteps.{thread_task}
+use Rattle.image_runs.specs.Listed.{is_start, is_known_start}
+use Rattle.event_steps.specs.ThreadSteps.{thread_task}
 use Rattle.thread_runs.specs.Guest.{machine_of}
 use Rattle.thread_runs.specs.ThreadCode.{saved_from, saved_len}
 use Rattle.thread_runs.specs.Threading.{Threading, is_new, is_hidden, in_event, saves, has_saved, is_saved_by}

@@ -5,9 +5,10 @@ use Rattle.pun_base.specs.declared.action.Base.{Base}
 use Rattle.pun_base.specs.declared.action.Comparison.{Comparison}
 use Rattle.cpu_state.specs.Bytes.{allows, avoids, lacking}
 use Rattle.cpu_state.specs.Processor.{IsProcessorCore, GiveWords}
-use Rattle.image_step.specs.Listed.{is_start}
+use Rattle.image_runs.specs.Listed.{is_start}
 use Rattle.thread_runs.specs.Guest.{Thread, machine_of}
-use Rattle.thread_runs.specs.ThreadCode.{Kind, Marks, Keeps, mark_at, mark_len, position_at, slot_at, slot, flag_slot}
+use Rattle.thread_runs.specs.ThreadCode.{Kind, Marks, Keeps, position_at, slot_at, slot, flag_slot}
+use Rattle.trampoline.specs.EventLists.{mark_at, mark_len}
 use Rattle.thread_runs.specs.Event.{Point, offset, is_inside, has_point, Holds, IsDecided, HasSaved}
 use Rattle.thread_runs.specs.Event.Point.{At0, At7}
 use Rattle.thread_runs.specs.RingEvent.{RingPoint, ring_offset, is_ringing, RingHolds, RingSaved}

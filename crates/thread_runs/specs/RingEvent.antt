@@ -10,9 +10,10 @@ use Rattle.insn_form.specs.declared.form.Op.TheVariants.{Lahf}
 use Rattle.insn_form.specs.Operands.{reg, with_reg, with_flags, rax}
 use Rattle.insn_form.specs.FlagsBack.{core_after, kept_in_ax}
 use Rattle.insn_form.specs.Machine.{Machine}
-use Rattle.thread_runs.specs.ThreadSteps.{ThreadStep}
+use Rattle.event_steps.specs.ThreadSteps.{ThreadStep}
 use Rattle.thread_runs.specs.ThreadCode.{ring_event, ring_len, is_ring_length, position_at, slot_at, slot, flag_slot}
-use Rattle.thread_runs.specs.Event.{IsGivingBack, IsReloading}
+use Rattle.event_steps.specs.SavedInAx.{IsGivingBack}
+use Rattle.thread_runs.specs.Event.{IsReloading}
 
 -- the instructions of an event that keeps a ring, in order: three that save rax and the flags in ax, MOV of ax beside rax, MOV of 1,
 -- LOCK XADD that claims a slot, MOVZX, MOV into the slot, and four that bring flags and rax back; after all of them a thread

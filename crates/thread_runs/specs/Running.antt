@@ -10,12 +10,12 @@ use Rattle.cpu_state.specs.Parts.{core_of}
 use Rattle.cpu_state.specs.Regions.{cell_at}
 use Rattle.elf_read.specs.Image.{image_of}
 use Rattle.cpu_step.specs.declared.stop.Stop.{Stop}
-use Rattle.image_step.specs.Starting.{regions_memory, start_machine}
+use Rattle.image_runs.specs.Starting.{regions_memory, start_machine}
 use Rattle.thread_runs.specs.declared.runner.RunnerThread.{RunnerThread}
 use Rattle.thread_runs.specs.declared.runner.ThreadRunner.{ThreadRunner}
 use Rattle.thread_runs.specs.declared.runner.ScheduleError.{ScheduleError}
 use Rattle.thread_runs.specs.declared.runner.ScheduleError.TheVariants.{NoThread, Stopped}
-use Rattle.thread_runs.specs.ThreadSteps.{ThreadStep}
+use Rattle.event_steps.specs.ThreadSteps.{ThreadStep}
 use Rattle.thread_runs.specs.ThreadJudging.{IsStopped}
 use Rattle.thread_runs.specs.Guest.{Thread, Guest, machine_of, thread_of, Moves, IsInterleaved, last_guest}
 

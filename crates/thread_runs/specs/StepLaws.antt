@@ -15,7 +15,7 @@ use Rattle.insn_form.specs.Machine.{Machine, Task, leaves}
 use Rattle.insn_form.specs.Laws.{is_steady}
 use Rattle.insn_form.specs.Step.{IsAt, next_after}
 use Rattle.insn_form.specs.Touched.{reads_none, writes_none}
-use Rattle.thread_runs.specs.ThreadSteps.{is_locked_inc, is_locked_xadd, thread_task, acting, thread_act, ThreadStepsBy, ThreadStep}
+use Rattle.event_steps.specs.ThreadSteps.{is_locked_inc, is_locked_xadd, thread_task, acting, thread_act, ThreadStepsBy, ThreadStep}
 use Rattle.insn_form.specs.Alike.{IsAlike, GoesAlike, writes_at, still}
 use Rattle.thread_runs.specs.ThreadCode.{thread_work, slot, flag_slot}
 use Rattle.trampoline.specs.Atomic.{thread_len}

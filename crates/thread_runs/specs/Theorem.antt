@@ -9,11 +9,12 @@ use Rattle.cpu_state.specs.Bytes.{number_at, byte_of, lacking, avoids}
 use Rattle.insn_form.specs.Machine.{Machine}
 use Rattle.insn_form.specs.Processor.{IsProcessorState}
 use Rattle.insn_form.specs.Touched.{perms_at}
-use Rattle.image_step.specs.Listed.{is_start}
+use Rattle.image_runs.specs.Listed.{is_start}
 use Rattle.start_entries.specs.Standing.{AreEntries}
-use Rattle.thread_runs.specs.ThreadSteps.{ThreadStepsBy}
+use Rattle.event_steps.specs.ThreadSteps.{ThreadStepsBy}
 use Rattle.thread_runs.specs.Guest.{Guest, machine_of, thread_of, IsInterleaved, last_guest}
-use Rattle.thread_runs.specs.ThreadCode.{Marks, counter_at, mark_at, saved_from, saved_len}
+use Rattle.thread_runs.specs.ThreadCode.{Marks, saved_from, saved_len}
+use Rattle.trampoline.specs.EventLists.{counter_at, mark_at}
 use Rattle.thread_runs.specs.Threading.{Threading, ThreadSite, is_new, is_hidden, is_keeping, is_met_by, is_counted, saves_at, is_saved_by, IsThreadSound}
 use Rattle.thread_runs.specs.Watching.{Watched, EffectStep, Watch, watch_of, Watches}
 use Rattle.thread_runs.specs.Premises.{IsProperRun, IsQuietAt, reads_nothing_of}

@@ -21,25 +21,12 @@ use Rattle.relocate_insn.specs.Relocating.{relocated_by}
 use Rattle.cond_action.specs.Codes.{compare_code, failing, mark_byte}
 use Rattle.trampoline.specs.Trampolines.{back_if}
 use Rattle.trampoline.specs.Events.{put_slot}
+use Rattle.trampoline.specs.EventLists.{counter_at, mark_at}
 
 -- what an event of threads does: it marks as its base says, or keeps its site's number in a ring of n slots
 pub data Kind : Type 0 where
   Marks : Base → Kind
   Keeps : ℕ → Kind
-
--- the counter of site i; p is the first address of the private range
-abbrev pub counter_at : ℕ → ℕ → ℕ
-counter_at p i = p + 64 + 8 * i
-
--- the first byte of what an event of site i marks: the site's byte, or its counter
-abbrev pub mark_at : Base → ℕ → ℕ → ℕ
-mark_at Cover p i = p + 64 + i
-mark_at Count p i = counter_at p i
-
--- how many bytes it marks
-abbrev pub mark_len : Base → ℕ
-mark_len Cover = 1
-mark_len Count = 8
 
 -- MOV [rsp - 136], rax; LAHF; SETO al
 abbrev pub saving_code : List ℕ

@@ -24,7 +24,7 @@ use Rattle.insn_form.specs.Step.{next_after}
 use Rattle.cpu_step.specs.declared.stop.Stop.{Stop}
 use Rattle.cpu_step.specs.declared.stop.Stop.TheVariants.{NoByte}
 use Rattle.cpu_step.specs.Stepping.{Taken, judged_task, unread, machine_of, world_after}
-use Rattle.thread_runs.specs.ThreadSteps.{is_locked_xadd, thread_task, number_read, ThreadStep}
+use Rattle.event_steps.specs.ThreadSteps.{is_locked_xadd, thread_task, number_read, ThreadStep}
 
 -- the step that is judged, with what is read in eax, where the instruction loads it
 abbrev pub loading : Bool → Task → ℕ → Core → Bytes → Result Taken Stop → Result Taken Stop

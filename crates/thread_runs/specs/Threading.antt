@@ -1,5 +1,5 @@
 -- What was rewritten for a guest of several threads, and where a thread stands in it. Theorems cite it.
-use Rattle.std.specs.Prelude.{◌≡◌, ◌⊎◌, ℕ, zero, suc, ◌+◌, ◌^◌, ◌==◌, ◌<◌, ◌≤◌, nat_le, nat_lt, Bool, true, false, not, ◌&&◌, ◌||◌, if◌then◌else◌, List, [], ◌∷◌, length, Option, Some, None, is_some, Contains}
+use Rattle.std.specs.Prelude.{◌≡◌, ◌⊎◌, ℕ, ◌+◌, ◌^◌, ◌==◌, ◌<◌, ◌≤◌, nat_le, nat_lt, Bool, true, false, not, ◌&&◌, ◌||◌, if◌then◌else◌, List, [], ◌∷◌, length, Option, Some, None, is_some, Contains}
 use Rattle.std.specs.List.{list_any}
 use Rattle.pun_base.specs.Memory.{Bytes}
 use Rattle.pun_base.specs.declared.action.Base.{Base}
@@ -7,16 +7,18 @@ use Rattle.pun_base.specs.declared.action.Base.TheVariants.{Cover, Count}
 use Rattle.pun_base.specs.declared.action.Comparison.{Comparison}
 use Rattle.length_decode.specs.Spelling.{Fields, IsInstruction, spelling}
 use Rattle.cpu_state.specs.declared.state.Core.{Core}
-use Rattle.cpu_state.specs.Bytes.{advanced, Stands}
+use Rattle.cpu_state.specs.Bytes.{Stands}
 use Rattle.cpu_state.specs.Fixed.{IsFixed}
 use Rattle.insn_form.specs.Instruction.{insn_of}
 use Rattle.cond_action.specs.Conditions.{all_hold}
 use Rattle.start_entries.specs.declared.entry.StartEntry.{StartEntry}
 use Rattle.start_entries.specs.Leading.{JumpsTo}
-use Rattle.image_step.specs.Listed.{is_start, is_listed_byte}
-use Rattle.thread_runs.specs.ThreadCode.{Kind, Marks, Keeps, mark_at, mark_len, marking_len, checking_len, position_at, slot_at, is_ring_length, is_saving, event_len, code_if, slot, saved_from, saved_len}
+use Rattle.image_runs.specs.Listed.{is_start, is_listed_byte}
+use Rattle.thread_runs.specs.ThreadCode.{Kind, Marks, Keeps, marking_len, checking_len, position_at, slot_at, is_ring_length, is_saving, event_len, code_if, slot, saved_from, saved_len}
+use Rattle.trampoline.specs.EventLists.{mark_at, mark_len}
 use Rattle.thread_runs.specs.Event.{AreFew}
 use Rattle.trampoline.specs.Atomic.{thread_len}
+use Rattle.event_steps.specs.DoneSteps.{is_one_of}
 
 -- a patched site: its number, its instruction, the first address of its trampoline, the event with which the
 -- trampoline begins, where it has one, and the comparisons under which it marks, or none, where it always does
@@ -151,11 +153,6 @@ site_if false s o = o
 abbrev pub relocated_at : List ThreadSite → ℕ → Option ThreadSite
 relocated_at [] x = None
 relocated_at (s ∷ ss) x = site_if (work_at s == x) s (relocated_at ss x)
-
--- x is one of n addresses from a on
-abbrev pub is_one_of : ℕ → ℕ → ℕ → Bool
-is_one_of a zero x = false
-is_one_of a (suc n) x = (x == a) || is_one_of (advanced a 1) n x
 
 -- x is one of the eight bytes in which an event saves rax
 abbrev pub is_saved : Core → ℕ → Bool

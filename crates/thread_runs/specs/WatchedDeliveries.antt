@@ -2,8 +2,8 @@
 use Rattle.std.specs.Prelude.{◌≡◌, ◌≢◌, ℕ, Bool, true, not, ◌==◌, if◌then◌else◌, List, [], ◌∷◌, ◌++◌, Some, slice_get, slice_set}
 use Rattle.insn_form.specs.Machine.{put_all, avoids_writes}
 use Rattle.insn_form.specs.Alike.{still}
-use Rattle.image_step.specs.declared.delivery.Delivery.{Delivery}
-use Rattle.image_step.specs.Deliveries.{Fits}
+use Rattle.image_runs.specs.declared.delivery.Delivery.{Delivery}
+use Rattle.image_runs.specs.Deliveries.{Fits}
 use Rattle.thread_runs.specs.Guest.{Guest, machine_of}
 use Rattle.thread_runs.specs.Threading.{Threading, is_new, has_saved, is_saved_by}
 use Rattle.thread_runs.specs.Watching.{Watched, Watch, watch_of, is_effect, Watches}

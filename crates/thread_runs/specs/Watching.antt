@@ -13,7 +13,7 @@ use Rattle.insn_form.specs.Plan.{number_in}
 use Rattle.insn_form.specs.Machine.{Machine}
 use Rattle.insn_form.specs.Step.{next_after}
 use Rattle.insn_form.specs.Runs.{nowhere}
-use Rattle.thread_runs.specs.ThreadSteps.{thread_task, ThreadStepsBy}
+use Rattle.event_steps.specs.ThreadSteps.{thread_task, ThreadStepsBy}
 use Rattle.insn_form.specs.Alike.{writes_at, still}
 use Rattle.thread_runs.specs.Work.{is_syscall}
 use Rattle.thread_runs.specs.Guest.{Thread, Guest, machine_of, thread_of}

@@ -16,11 +16,11 @@ use Rattle.insn_form.specs.Displacing.{falls, goes_to}
 use Rattle.insn_form.specs.Machine.{Machine, leaves}
 use Rattle.insn_form.specs.Step.{IsAt, next_after}
 use Rattle.insn_form.specs.Touched.{reads_none}
-use Rattle.thread_runs.specs.ThreadSteps.{thread_task, ThreadStepsBy, ThreadStep}
+use Rattle.event_steps.specs.ThreadSteps.{thread_task, ThreadStepsBy, ThreadStep}
 use Rattle.insn_form.specs.Alike.{AreAlike, IsAlike, writes_at, still}
 use Rattle.thread_runs.specs.ThreadCode.{thread_relocated, thread_work}
 use Rattle.trampoline.specs.Atomic.{thread_len}
-pub use Rattle.image_check.specs.Calls.{is_syscall}
+pub use Rattle.sound_images.specs.Calls.{is_syscall}
 
 -- where a thread stands after its effect step: outside, where its instruction leads; at the jump
 -- back; at the jump after the PUSH of a call; or at MOV ecx after SYSCALL

@@ -1,11 +1,12 @@
 //! What holds of runs of several threads, and of single steps of theirs.
 ghost use Rattle.thread_runs.specs.Event.{IsEventStep, EventGoes, IsSavedBack, IsCoverStep, CoverGoes};
 ghost use Rattle.thread_runs.specs.RingEvent.{IsRingStep, RingGoes, AreSavedBack};
+ghost use Rattle.thread_runs.specs.ThreadLists.{AreThreadLists, ThreadEventsRestore, MarksWhereMet, ThreadRingsRestore};
 ghost use Rattle.thread_runs.specs.Alone.{EventCountsAlone};
 ghost use Rattle.thread_runs.specs.AloneWithRing.{EventKeepsAlone};
 ghost use Rattle.thread_runs.specs.WorkedConditions.{ConditionsAreWorked};
 ghost use Rattle.thread_runs.specs.WorkedRing.{RingIsWorked};
-ghost use Rattle.thread_runs.specs.ThreadSteps.{IsThreadStep};
+ghost use Rattle.event_steps.specs.ThreadSteps.{IsThreadStep};
 ghost use Rattle.thread_runs.specs.Work.{IsEffectStep, IsTailStep};
 ghost use Rattle.thread_runs.specs.Theorem.{ThreadsAreFollowed};
 ghost use Rattle.thread_runs.specs.TheoremWithDeliveries.{ThreadsAreFollowedWith};
@@ -35,6 +36,15 @@ pub fn ring_steps()
 pub fn cover_steps()
     ensures step { IsCoverStep }
     ensures goes { CoverGoes }
+{}
+
+/// Events are lists of steps, with their code. Whatever other threads do in between, they restore registers and flags, mark where the condition
+/// holds, and put the number into a slot that there is.
+pub fn events_as_lists()
+    ensures codes { AreThreadLists }
+    ensures restore { ThreadEventsRestore }
+    ensures mark { MarksWhereMet }
+    ensures ring { ThreadRingsRestore }
 {}
 
 /// The event that counts under no condition, of a thread that runs alone, adds one to its counter, and leaves all else as it was.

@@ -1,6 +1,6 @@
 //! Guests of several threads: trampolines that count in one step, and runs of threads that share their memory.
 //!
-//! Stands on `image_check`, `trampoline` and `cpu_step`; `guest_threads` stands on it.
+//! Stands on `sound_images` and `image_step`; `thread_laws` and `guest_threads` stand on it.
 #![tactic(auto)]
 
 mod building;

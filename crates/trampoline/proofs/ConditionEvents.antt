@@ -1,275 +1,294 @@
--- Running the code of an event under a condition: it marks exactly where all comparisons hold.
-use Rattle.std.proofs.Common.{◌≡◌, ℕ, suc, ◌+◌, ◌-◌, ◌*◌, ◌%◌, ◌^◌, ◌<◌, ◌≤◌, Bool, true, false, not, eqb, ◌&&◌, ◌||◌, if◌then◌else◌, List, [], ◌∷◌, ◌++◌, length, map, take, drop, Some, refl, sym, ap, ◌∙◌, subst, arith}
-use Rattle.std.specs.Prelude.{nat_lt}
-use Rattle.std.proofs.lemmas.Bool.Decides.{nat_tests}
-use Rattle.std.proofs.lemmas.List.{set_split}
+-- Events under a condition are recorded by the law of lists.
+use Rattle.std.proofs.Common.{◌≡◌, ◌≢◌, inr, ℕ, zero, suc, ◌+◌, ◌-◌, ◌*◌, ◌%◌, ◌^◌, ◌<◌, ◌≤◌, Bool, true, false, not, if◌then◌else◌, List, [], ◌∷◌, ◌++◌, length, map, Some, set, refl, sym, ap, ◌∙◌, subst, arith, true≢false}
+use Rattle.std.proofs.lemmas.Bool.{and_from, and_left, and_right}
+use Rattle.std.proofs.lemmas.List.{set-set, get_or-set_same}
 use Rattle.pun_base.specs.Memory.{Bytes}
-use Rattle.pun_base.specs.Field.{field, with_field}
-use Rattle.pun_base.specs.Actions.{AreComparisons}
+use Rattle.pun_base.specs.Actions.{listed, AreComparisons}
 use Rattle.pun_base.specs.declared.action.Base.{Base}
-use Rattle.pun_base.specs.declared.action.Base.TheVariants.{Cover, Count}
-use Rattle.pun_base.specs.declared.action.CompareOp.{CompareOp}
-use Rattle.pun_base.specs.declared.action.CompareOp.TheVariants.{Eq, Ne, Lt, Le, Gt, Ge}
+use Rattle.pun_base.specs.declared.action.Base.TheVariants as base
 use Rattle.pun_base.specs.declared.action.Comparison.{Comparison}
-use Rattle.cpu_alu.specs.declared.operation.Width.TheVariants.{W64}
+use Rattle.pun_base.specs.declared.action.Comparisons.{Comparisons}
+use Rattle.pun_base.specs.declared.action.Comparisons.TheVariants.{One, Two, Three}
 use Rattle.cpu_alu.specs.declared.flag_word.Flags.{Flags}
-use Rattle.cpu_alu.proofs.DifferenceFlags.{compared}
+use Rattle.cpu_alu.specs.declared.operation.Width.TheVariants.{W64}
+use Rattle.cpu_alu.specs.declared.operation.AluOp.TheVariants.{Sub, Inc}
+use Rattle.cpu_alu.specs.Arithmetic.{arithmetic}
+use Rattle.cpu_state.specs.declared.state.Core.{Core}
 use Rattle.cpu_state.specs.Bytes.{number_at, put_list, bytes_of}
-use Rattle.cpu_state.specs.Fixed.{IsFixed}
 use Rattle.cpu_state.specs.Processor.{IsProcessorCore}
-use Rattle.cpu_state.proofs.Readback.{bytes_of_length}
-use Rattle.insn_form.specs.Operands.{reg}
+use Rattle.insn_form.specs.Operands.{reg, with_reg, with_flags, rax}
 use Rattle.insn_form.specs.Conditions.{is_met}
-use Rattle.insn_form.specs.Step.{Step}
-use Rattle.insn_form.specs.Runs.{nowhere}
-use Rattle.relocate_insn.specs.Running.{IsPrivate}
-use Rattle.relocate_insn.specs.Pieces.{load_rax}
-use Rattle.relocate_insn.proofs.FixedCode.{fixed_front, fixed_back, fixed_on}
-use Rattle.relocate_insn.proofs.PrivateRange.{private_free}
-use Rattle.relocate_insn.proofs.PieceSteps.{load_step}
 use Rattle.cond_action.specs.Conditions.{compares, all_hold}
-use Rattle.cond_action.specs.Codes.{keep_flags, give_back, compare_code, failing, comparing, recording, mark_byte, count_up, cond_code}
-use Rattle.cond_action.proofs.CodeLengths.{comparing_long, recording_long}
-use Rattle.trampoline.specs.Events.{bytes_at, base_mark, base_room}
-use Rattle.trampoline.proofs.DataParts.{splice, field_written, number_part, bytes_size}
-use Rattle.trampoline.proofs.EventPieces.{mark_step}
-use Rattle.trampoline.proofs.NamedStates.{Others, core_with, now}
-use Rattle.trampoline.proofs.BoundedRuns.{Leads, none, one, onward, ends, Wrote, wrote_more, Marks}
-use Rattle.trampoline.proofs.EventSteps.{flags_64, flags_inc, compare_step, jump_if_step, count_up_step}
-use Rattle.trampoline.proofs.SavedFlags.{kept_rax, AreSaved, still_saved, Saves, saving, giving_back}
+use Rattle.cond_action.specs.Codes.{failing}
+use Rattle.trampoline.proofs.FailedComparisons.{fails, failing_low}
+use Rattle.cpu_state.proofs.Readback.{bytes_of_length}
+use Rattle.insn_form.specs.Meaning.{effect}
+use Rattle.insn_form.specs.FlagsBack.{kept_in_ax, given_back}
+use Rattle.insn_form.proofs.KeptFlags.{gives_flags, kept}
+use Rattle.insn_form.proofs.RegisterSizes.{reg_sized}
+use Rattle.relocate_insn.specs.Running.{IsReady, Inside}
+use Rattle.relocate_insn.proofs.PrivateRange.{put_away}
+use Rattle.trampoline.specs.EventLists.{mark_at, mark_len, marking_step, register_checks, cond_event}
+use Rattle.trampoline.specs.Events.{bytes_at, base_mark, base_room, event_code, event_length}
+use Rattle.trampoline.proofs.DataParts.{bytes_keep}
+use Rattle.event_steps.proofs.FlagsInAx.{same_reg, cut}
+use Rattle.event_steps.specs.EventSteps.{Datum, EventStep, long, AreSteps, code}
+use Rattle.event_steps.specs.MadeSteps.{skipped}
+use Rattle.event_steps.specs.DoneSteps.{Local, started, done, ended, FitsIn}
+use Rattle.event_steps.specs.WholeEvents.{left_in, FitAll}
+use Rattle.event_steps.specs.EventSteps.Mode.{Alone}
+use Rattle.event_steps.specs.EventSteps.EventStep.{Compare, SkipIf, Put, Load, LoadLow, FromAl, FromAh}
+use Rattle.trampoline.specs.Recording.{AreLaid, SaysEnough, coming, any_data}
+use Rattle.event_steps.proofs.LocalSteps.{is_putting}
+use Rattle.trampoline.proofs.PrivateData.{listed_recorded}
+use Rattle.trampoline.proofs.PlainEvents.{register_over, covered, counted, cond_code_is}
+use Rattle.pun_base.specs.declared.action.Action.TheVariants as action
+use Rattle.insn_form.specs.Machine.{Machine}
+use Rattle.trampoline.specs.Running.{Recorded}
 
--- The jump is taken exactly where the comparison fails, by the flags of a difference,
-fails_by : (op : CompareOp) (x n : ℕ) (f : Flags) → f.cf ≡ nat_lt x n → f.zf ≡ eqb x n → is_met (failing op) f ≡ not (compares op x n)
-unfolding is_met
-fails_by Eq x n f b e = ap not e
-fails_by Ne x n f b e = e ∙ grind (arith, nat_tests)
-fails_by Lt x n f b e = ap not b
-fails_by Le x n f b e = (λ j. not (b j) && not (e j)) ∙ grind (arith, nat_tests)
-fails_by Gt x n f b e = (λ j. b j || e j) ∙ grind (arith, nat_tests)
-fails_by Ge x n f b e = b ∙ grind (arith, nat_tests)
+-- registers and numbers with other flags
+abbrev pub flagged : Local → Flags → Local
+flagged l f = record { core = with_flags l.core f; held = l.held; marked = l.marked }
 
--- which CMP leaves.
-pub fails : (op : CompareOp) (x n : ℕ) (f : Flags) → x < 2 ^ 64 → n < 2 ^ 31 → is_met (failing op) (flags_64 x n f) ≡ not (compares op x n)
-fails op x n f h k =
-    let a : x % 2 ^ 64 % 2 ^ 64 ≡ x = omega (arith, h) in
-    let b : n % 2 ^ 64 ≡ n = omega (arith, k) in
-    let q = compared W64 (x % 2 ^ 64) n f in
-    fails_by op x n (flags_64 x n f) (q.below ∙ λ j. nat_lt (a j) (b j)) (q.equal ∙ λ j. eqb (a j) (b j))
+-- What holds in front of steps that are left out, and of comparisons and jumps, if it does behind them, holds in front of a condition's checks, if it
+-- does in front of what marks where all hold, and behind it where one fails.
+module _ (Q : ℕ → List EventStep → Local → Type 0) (on : (s : EventStep) (k : ℕ) (ss : List EventStep) (l : Local) → Q k ss l → Q (suc k) (s ∷ ss) l)
+    (compare : (r n : ℕ) (ss : List EventStep) (l : Local) → Q 0 ss (done (Compare r n) l) → Q 0 (Compare r n ∷ ss) l)
+    (skip : (cc k : ℕ) (ss : List EventStep) (l : Local) → Q (skipped (SkipIf cc k) l.core) ss l → Q 0 (SkipIf cc k ∷ ss) l)
+    (mark : EventStep) (back : List EventStep) where
+  over_checks : (cs : List Comparison) (l : Local) → Q 0 back l → Q (2 * length cs + 1) (register_checks cs ++ (mark ∷ back)) l
+  over_checks [] l q = on mark 0 back l q
+  over_checks (c ∷ cs) l q =
+      let e : suc (suc (2 * length cs + 1)) ≡ 2 * suc (length cs) + 1 = omega arith in
+      subst (λ (k : ℕ). Q k (register_checks (c ∷ cs) ++ (mark ∷ back)) l) e
+      (on (Compare c.reg c.value) (suc (2 * length cs + 1)) (SkipIf (failing c.op) (2 * length cs + 1) ∷ (register_checks cs ++ (mark ∷ back))) l
+      (on (SkipIf (failing c.op) (2 * length cs + 1)) (2 * length cs + 1) (register_checks cs ++ (mark ∷ back)) l (over_checks cs l q)))
 
--- the condition code of the jump behind a comparison is one of six
-pub failing_low : (op : CompareOp) → (2 ≤ failing op) × (failing op < 8)
-failing_low Eq = (omega arith, omega arith)
-failing_low op = (omega arith, omega arith)
-
--- so many steps lead from an address to another one, and change flags alone
-record Compared (k lo hi : ℕ) (o : Others) (x : ℕ) (g : Flags) (m : Bytes) (at to : ℕ) : Type 0 where
-  flags : Flags
-  rest : flags.rest ≡ g.rest
-  leads : Leads k lo hi (now o x g m at) (now o x flags m to)
-
--- the address behind so many comparisons where all hold, and otherwise the one eight bytes further
-abbrev behind : ℕ → ℕ → Bool → ℕ
-behind at k b = if b then at + 9 * k else at + 9 * k + 8
-
-module _ (o : Others) (x : ℕ) (m : Bytes) (lo hi : ℕ) (more : List ℕ)
-    (small : (r : ℕ) → (g : Flags) → reg (core_with o x g) r < 2 ^ 64) (h : hi ≤ 2 ^ 31) where
-  abbrev regs : List ℕ
-  regs = x ∷ o.regs
-
-  -- behind a comparison and its jump, from what the others do
-  compared_by : (k at : ℕ) (g g1 : Flags) (all b : Bool) → g1.rest ≡ g.rest → lo ≤ at + 1 → at + 9 * suc k + 8 < hi → Step nowhere (now o x g m at) (now o x g1 m (at + 7))
-      → Step nowhere (now o x g1 m (at + 7)) (now o x g1 m (if not b then at + 7 + 2 + (9 * k + 8) else at + 7 + 2))
-      → Compared (2 * k) lo hi o x g1 m (at + 7 + 2) (behind (at + 7 + 2) k all)
-      → Compared (2 * suc k) lo hi o x g m at (behind at (suc k) (b && all))
-  compared_by k at g g1 all true rest i l s1 s2 r =
-      let n : at + 7 + 2 + 9 * k ≡ at + 9 * suc k = omega arith in
-      record {
-        flags = r.flags;
-        rest = r.rest ∙ rest;
-        leads = ends (omega arith) (λ j. now o x r.flags m (if all then n j else n j + 8))
-            (onward (one s1 (omega (arith, i)) (omega (arith, l))) (onward (one s2 (omega (arith, i)) (omega (arith, l))) r.leads));
-      }
-  compared_by k at g g1 all false rest i l s1 s2 r =
-      let n : at + 7 + 2 + (9 * k + 8) ≡ at + 9 * suc k + 8 = omega arith in
-      record {
-        flags = g1;
-        rest = rest;
-        leads = ends (omega arith) (λ j. now o x g1 m (n j))
-            (onward (one s1 (omega (arith, i)) (omega (arith, l))) (one s2 (omega (arith, i)) (omega (arith, l))));
-      }
-
-  -- the comparisons that are left, from an address on
-  all_compared : (cs : List Comparison) (g : Flags) (at : ℕ) → AreComparisons cs → length cs ≤ 3 → IsFixed m at (comparing cs ++ more)
-      → lo ≤ at + 1 → at + 9 * length cs + 8 < hi
-      → Compared (2 * length cs) lo hi o x g m at (behind at (length cs) (all_hold cs regs))
-  all_compared [] g at a few c i l =
-      let e : at ≡ at + 9 * 0 = omega arith in record { flags = g; rest = refl; leads = ends (omega arith) (λ j. now o x g m (e j)) none }
-  all_compared (c ∷ cs) g at a few code i l =
-      let v = reg (core_with o x g) c.reg in
-      let g1 = flags_64 v c.value g in
-      let k = length cs in
-      let cc = failing c.op in
-      let cmp = compare_code c.reg c.value in
-      let jump = (0x70 + cc) ∷ (9 * k + 8) ∷ [] in
-      let rest = comparing cs ++ more in
-      let low = failing_low c.op in
-      let c1 = fixed_back m at cmp (jump ++ rest) (omega (arith, l, h)) code in
-      let c2 = fixed_back m (at + 7) jump rest (omega (arith, l, h)) c1 in
-      let s1 = compare_step o x g m at c.reg c.value (omega (arith, l, h)) a.0 a.1 (fixed_front m at cmp (jump ++ rest) code) in
-      let s2 = jump_if_step o x g1 m (at + 7) cc (9 * k + 8) (omega (arith, l, h)) low.0 low.1 (omega (arith, few))
-      (fixed_front m (at + 7) jump rest c1) in
-      compared_by k at g g1 (all_hold cs regs) (compares c.op v c.value) refl i l s1
-      (subst (λ (b : Bool). Step nowhere (now o x g1 m (at + 7)) (now o x g1 m (if b then at + 7 + 2 + (9 * k + 8) else at + 7 + 2)))
-      (fails c.op v c.value g (small c.reg g) a.1) s2)
-      (all_compared cs g1 (at + 7 + 2) a.2 (omega (arith, few)) c2 (omega (arith, i)) (omega (arith, l)))
-
--- A base is noted: one step, behind which flags may be others.
-record Noted (set' : ℕ → Bool) (private n : ℕ) (m : Bytes) (o : Others) (x : ℕ) (f g : Flags) (w : Bytes) (at : ℕ)
-    (bytes : List ℕ) : Type 0 where
-  flags : Flags
-  after : Bytes
-  rest : flags.rest ≡ g.rest
-  step : Step nowhere (now o x g w at) (now o x flags after (at + 8))
-  wrote : Wrote set' private n m after
-  saved : AreSaved private x f after
-  part : bytes_at after (private + 64) (n - 64) ≡ map Some bytes
-
-module _ (set' : ℕ → Bool) (private n : ℕ) (m : Bytes) (o : Others) (x i : ℕ) (f g : Flags) (w : Bytes) (at : ℕ) (bytes : List ℕ)
-    (l : at + 8 < 2 ^ 31) (wrote : Wrote set' private n m w) (saved : AreSaved private x f w)
-    (part : bytes_at w (private + 64) (n - 64) ≡ map Some bytes) where
-  low : private + n ≤ 0x7FFF0000
-  low = wrote.range.low
-
-  noted : (b : Base) → base_room b i ≤ n → IsFixed m at (recording b private i)
-      → Noted set' private n m o x f g w at (base_mark b i bytes)
-  noted Cover room c =
-      let a = private + 64 + i in
-      let free = private_free set' private n w a 1 wrote.range (omega arith) (omega (arith, room)) in
-      let st = mark_step (now o x g w at) at a l (omega (arith, low, room)) refl free.0 (fixed_on m w at (mark_byte a) wrote.code c) in
-      let k = bytes_size w (private + 64) (n - 64) bytes part in
-      let z : i + 1 ≡ suc i = omega arith in
-      record {
-        flags = g;
-        after = put_list w a (1 ∷ []);
-        rest = refl;
-        step = st;
-        wrote = wrote_more a (1 ∷ []) st refl (omega arith) (omega (arith, room)) wrote;
-        saved = still_saved private x f w a (1 ∷ []) (omega arith) (omega (arith, low, room)) saved;
-        part = splice w (private + 64) i (n - 64) bytes (1 ∷ []) (omega (arith, low)) (omega (arith, room)) part
-            ∙ ap (λ z. map Some (take i bytes ++ (1 ∷ drop z bytes))) z
-            ∙ ap (map Some) (sym (set_split bytes i 1 (omega (arith, k, room))));
-      }
-  noted Count room c =
-      let a = private + 64 + 8 * i in
-      let old = number_at w a 8 in
-      let free = private_free set' private n w a 8 wrote.range (omega arith) (omega (arith, room)) in
-      let st = count_up_step o x g w at a l (omega (arith, low, room)) free.1 free.0 (fixed_on m w at (count_up a) wrote.code c) in
-      let v = (old + 1) % 2 ^ 64 in
-      let k = bytes_of_length 8 v in
-      let e : old ≡ field 8 (8 * i) bytes =
-      number_part w (private + 64) (8 * i) (n - 64) bytes 8 (omega (arith, low)) (omega (arith, room)) part in
-      record {
-        flags = flags_inc old g;
-        after = put_list w a (bytes_of 8 v);
-        rest = refl;
-        step = st;
-        wrote = wrote_more a (bytes_of 8 v) st refl (omega arith) (omega (arith, k, room)) wrote;
-        saved = still_saved private x f w a (bytes_of 8 v) (omega arith) (omega (arith, k, low, room)) saved;
-        part = field_written w (private + 64) (n - 64) bytes a (8 * i) 8 v (omega (arith, low)) (omega (arith, room)) refl part
-            ∙ ap (λ z. map Some (with_field 8 (8 * i) ((z + 1) % 2 ^ 64) bytes)) e;
-      }
-
--- The code of an event under a condition marks.
-module _ (set' : ℕ → Bool) (private n i at : ℕ) (base : Base) (cs : List Comparison) (bytes : List ℕ) (o : Others) (x : ℕ) (f : Flags)
-    (m : Bytes) (core : IsProcessorCore (core_with o x f)) (range : IsPrivate set' private n m)
-    (held : bytes_at m (private + 64) (n - 64) ≡ map Some bytes) (room : base_room base i ≤ n) (enough : 64 ≤ n)
-    (l : at + (53 + 9 * length cs) < 2 ^ 31) (few : length cs ≤ 3) where
-  low' : private + n ≤ 0x7FFF0000
-  low' = range.low
-
-  abbrev hi : ℕ
-  hi = at + (53 + 9 * length cs) + 1
-
-  -- the addresses behind the pieces of code
-  abbrev q1 : ℕ
-  q1 = at + 19
-
-  abbrev q2 : ℕ
-  q2 = q1 + 8
-
-  abbrev q3 : ℕ
-  q3 = q2 + 9 * length cs
-
-  abbrev q4 : ℕ
-  q4 = q3 + 8
-
-  -- what gives back ends where the event does
-  there : q4 + 18 ≡ at + (53 + 9 * length cs)
-  there = omega arith
-
-  -- whether all hold, and the data then
-  abbrev held_by : Bool
-  held_by = all_hold cs (x ∷ o.regs)
-
-  abbrev done : Bool → List ℕ
-  done b = if b then base_mark base i bytes else bytes
-
-  -- the code of the event marks the data where all comparisons hold, and else leaves it
-  pub cond_marks : AreComparisons cs → IsFixed m at (cond_code base cs private i)
-      → Marks set' private n at (53 + 9 * length cs) o x f m (done held_by)
-  cond_marks are c =
-      let long1 = comparing_long cs in
-      let long2 = recording_long base private i in
-      -- the code, piece by piece
-      let tail3 = recording base private i ++ give_back private in
-      let tail2 = comparing cs ++ tail3 in
-      let tail1 = load_rax private ++ tail2 in
-      let c1 = fixed_back m at (keep_flags private) tail1 (omega (arith, l)) c in
-      let c2 = fixed_back m q1 (load_rax private) tail2 (omega (arith, l)) c1 in
-      let c3 = subst (λ (z : ℕ). IsFixed m (q2 + z) tail3) long1 (fixed_back m q2 (comparing cs) tail3 (omega (arith, l, long1)) c2) in
-      let c4 = subst (λ (z : ℕ). IsFixed m (q3 + z) (give_back private)) long2
-      (fixed_back m q3 (recording base private i) (give_back private) (omega (arith, l, long2)) c3) in
-      -- rax and the flags are saved, and rax comes back
-      let s = saving set' private n o x f m core range enough at hi bytes (fixed_front m at (keep_flags private) tail1 c)
-      (omega arith) (omega (arith, l)) held in
-      let kept = kept_rax x f in
-      let m1 = s.after in
-      let small : x < 2 ^ 64 = core.small 0 in
-      let cut : x % 2 ^ 64 % 2 ^ 64 ≡ x = omega (arith, small) in
-      let p = private_free set' private n m1 private 8 s.wrote.range (omega arith) (omega (arith, enough)) in
-      let s1 = subst (λ (z : ℕ). Step nowhere (now o kept f m1 q1) (now o z f m1 q2)) (ap (λ z. z % 2 ^ 64 % 2 ^ 64) s.saved.rax ∙ cut)
-      (load_step (now o kept f m1 q1) q1 private (omega (arith, l)) (omega (arith, low')) refl p.1
-      (fixed_on m m1 q1 (load_rax private) s.wrote.code (fixed_front m q1 (load_rax private) tail2 c1))) in
-      -- the comparisons
-      let t = all_compared o x m1 (at + 1) hi tail3 (λ r g. core.small r) (omega (arith, l)) cs f q2 are few
-      (fixed_on m m1 q2 tail2 s.wrote.code c2) (omega arith) (omega (arith, l)) in
-      by_test s t (fixed_front m q3 (recording base private i) (give_back private) c3) c4 (one s1 (omega arith) (omega arith)) held_by refl
+  pub checked : (cs : List Comparison) (l : Local) → AreComparisons cs → ((r : ℕ) → reg l.core r < 2 ^ 64)
+      → ((f : Flags) → f.rest ≡ l.core.flags.rest → all_hold cs l.core.regs ≡ true → Q 0 (mark ∷ back) (flagged l f))
+      → ((f : Flags) → f.rest ≡ l.core.flags.rest → all_hold cs l.core.regs ≡ false → Q 0 back (flagged l f)) → Q 0 (register_checks cs ++ (mark ∷ back)) l
+  checked [] l are small all none = all l.core.flags refl refl
+  checked (c ∷ cs) l are small all none =
+      let f1 = (arithmetic Sub W64 (reg l.core c.reg % 2 ^ 64) c.value l.core.flags).flags in
+      let rest = register_checks cs ++ (mark ∷ back) in
+      let b = compares c.op (reg l.core c.reg) c.value in
+      compare c.reg c.value (SkipIf (failing c.op) (2 * length cs + 1) ∷ rest) l
+      (skip (failing c.op) (2 * length cs + 1) rest (flagged l f1)
+      (by_test b refl (fails c.op (reg l.core c.reg) c.value l.core.flags (small c.reg) are.1)
+      (λ e. checked cs (flagged l f1) are.2 small (λ f r h. all f r (and_from b (all_hold cs l.core.regs) e h)) (λ f r h. none f r (and_right b (all_hold cs l.core.regs) h)))
+      (λ e. over_checks cs (flagged l f1) (none f1 refl (and_left b (all_hold cs l.core.regs) e)))))
     where
-      -- what records runs where all hold; then the flags and rax come back
-      by_test : (s : Saves set' private n at hi o x f m bytes)
-          → (t : Compared (2 * length cs) (at + 1) hi o x f s.after q2 (behind q2 (length cs) held_by))
-          → IsFixed m q3 (recording base private i) → IsFixed m q4 (give_back private)
-          → Leads 1 (at + 1) hi (now o (kept_rax x f) f s.after q1) (now o x f s.after q2)
-          → (b : Bool) → held_by ≡ b → Marks set' private n at (53 + 9 * length cs) o x f m (done b)
-      by_test s t c3 c4 run true e =
-          let k = noted set' private n m o x i f t.flags s.after q3 bytes (omega (arith, l)) s.wrote s.saved s.part base room c3 in
-          let run1 = ends {k = 2 * length cs} (omega arith) (λ j. now o x t.flags s.after (behind q2 (length cs) (e j))) t.leads in
-          let back = giving_back set' private n o x f m core range enough x k.flags k.after (k.rest ∙ t.rest) k.wrote k.saved q4 at hi c4
-          (omega arith) (omega (arith, l)) (omega (arith, l)) in
-          record {
-            after = k.after;
-            leads = ends (omega (arith, few)) (λ j. now o x f k.after (there j))
-                (onward s.leads (onward run (onward run1 (onward (one k.step (omega arith) (omega arith)) back))));
-            wrote = k.wrote;
-            part = k.part;
-          }
-      by_test s t c3 c4 run false e =
-          let run1 = ends {k = 2 * length cs} (omega arith) (λ j. now o x t.flags s.after (behind q2 (length cs) (e j))) t.leads in
-          let back = giving_back set' private n o x f m core range enough x t.flags s.after t.rest s.wrote s.saved q4 at hi c4
-          (omega arith) (omega (arith, l)) (omega (arith, l)) in
-          record {
-            after = s.after;
-            leads = ends (omega (arith, few)) (λ j. now o x f s.after (there j)) (onward s.leads (onward run (onward run1 back)));
-            wrote = s.wrote;
-            part = s.part;
-          }
+      by_test : (b : Bool) → compares c.op (reg l.core c.reg) c.value ≡ b
+          → is_met (failing c.op) (arithmetic Sub W64 (reg l.core c.reg % 2 ^ 64) c.value l.core.flags).flags ≡ not (compares c.op (reg l.core c.reg) c.value)
+          → (compares c.op (reg l.core c.reg) c.value ≡ true
+          → Q 0 (register_checks cs ++ (mark ∷ back)) (flagged l (arithmetic Sub W64 (reg l.core c.reg % 2 ^ 64) c.value l.core.flags).flags))
+          → (compares c.op (reg l.core c.reg) c.value ≡ false
+          → Q (2 * length cs + 1) (register_checks cs ++ (mark ∷ back)) (flagged l (arithmetic Sub W64 (reg l.core c.reg % 2 ^ 64) c.value l.core.flags).flags))
+          → Q (if is_met (failing c.op) (arithmetic Sub W64 (reg l.core c.reg % 2 ^ 64) c.value l.core.flags).flags then 2 * length cs + 1 else 0) (register_checks cs ++ (mark ∷ back))
+          (flagged l (arithmetic Sub W64 (reg l.core c.reg % 2 ^ 64) c.value l.core.flags).flags)
+      by_test true e m go by =
+          subst (λ (z : Bool). Q (if z then 2 * length cs + 1 else 0) (register_checks cs ++ (mark ∷ back)) (flagged l (arithmetic Sub W64 (reg l.core c.reg % 2 ^ 64) c.value l.core.flags).flags))
+          (sym (m ∙ ap not e)) (go e)
+      by_test false e m go by =
+          subst (λ (z : Bool). Q (if z then 2 * length cs + 1 else 0) (register_checks cs ++ (mark ∷ back)) (flagged l (arithmetic Sub W64 (reg l.core c.reg % 2 ^ 64) c.value l.core.flags).flags))
+          (sym (m ∙ ap not e)) (by e)
+
+-- the checks are steps, if those behind them are
+checks_are : (b : Base) (n : ℕ) (ds : List Datum) (cs : List Comparison) (back : List EventStep) → AreComparisons cs → length cs ≤ 3 → AreSteps Alone ds (marking_step b false n ∷ back)
+    → AreSteps Alone ds (register_checks cs ++ (marking_step b false n ∷ back))
+checks_are b n ds [] back a few h = h
+checks_are b n ds (c ∷ cs) back a few h =
+    let q = register_over b false n cs back in
+    ((a.0, a.1), tt, omega arith, (failing_low c.op, tt, omega (arith, q, few), checks_are b n ds cs back a.2 (omega (arith, few)) h))
+
+-- what marks and what gives back are steps
+rest_are : (b : Base) (cs : List Comparison) (p i : ℕ) → AreSteps Alone (cond_event b cs p i).uses (marking_step b false 2 ∷ LoadLow 1 ∷ FromAl ∷ FromAh ∷ Load 0 ∷ [])
+rest_are base.Cover cs p i = (tt, (omega arith, refl, refl), omega arith, (tt, (omega arith, refl, refl), omega arith, (tt, tt, omega arith, (tt, tt, omega arith, (tt, (omega arith, refl, refl), omega arith, tt)))))
+rest_are base.Count cs p i = (tt, (omega arith, refl, refl), omega arith, (tt, (omega arith, refl, refl), omega arith, (tt, tt, omega arith, (tt, tt, omega arith, (tt, (omega arith, refl, refl), omega arith, tt)))))
+
+-- how many there are
+checks_many : (cs : List Comparison) (rest : List EventStep) → length (register_checks cs ++ rest) ≡ 2 * length cs + length rest
+checks_many [] rest = omega arith
+checks_many (c ∷ cs) rest = let q = checks_many cs rest in omega (arith, q)
+
+-- and how long they are
+checks_size : (b : Base) (cs : List Comparison) (n : ℕ) (back : List EventStep) → long (register_checks cs ++ (marking_step b false n ∷ back)) ≡ 9 * length cs + 8 + long back
+checks_size base.Cover [] n back = omega arith
+checks_size base.Count [] n back = omega arith
+checks_size b (c ∷ cs) n back = let q = checks_size b cs n back in omega (arith, q)
+
+-- rax back beside the flags in ax: all is as before
+pub rax_back : (c : Core) (x : ℕ) → x ≡ reg c rax → with_reg (kept_in_ax c) rax x ≡ c
+unfolding effect is_met
+rax_back c x e =
+    let q = set-set (set c.regs 0 _) 0 _ x ∙ set-set c.regs 0 _ x in
+    (λ j. record { regs = q j; flags = c.flags; fs = c.fs; gs = c.gs }) ∙ same_reg c x e
+
+-- the flags back from the number in which they are saved, and then rax
+pub low_back : (c : Core) (f : Flags) (y x : ℕ) → IsProcessorCore c → f.rest ≡ c.flags.rest → y ≡ reg (kept_in_ax c) rax % 2 ^ 32 → x ≡ reg c rax
+    → with_reg (given_back (with_reg (with_flags c f) rax (y % 2 ^ 32))) rax x ≡ c
+unfolding effect is_met
+low_back c f y x h r e k =
+    let d = with_reg (with_flags c f) rax (y % 2 ^ 32) in
+    let hd = reg_sized (with_flags c f) rax (y % 2 ^ 32) (record { count = h.count; small = h.small }) (omega arith) in
+    let here : reg d rax ≡ y % 2 ^ 32 = get_or-set_same c.regs 0 (y % 2 ^ 32) 0 (omega (arith, h.count)) in
+    let low : reg d rax % 2 ^ 16 ≡ reg (kept_in_ax c) rax % 2 ^ 16 = ap (λ z. z % 2 ^ 16) (here ∙ ap (λ z. z % 2 ^ 32) e) ∙ cuts (reg (kept_in_ax c) rax) in
+    let flags = gives_flags c d h hd low r in
+    let regs = set-set (set c.regs 0 (y % 2 ^ 32)) 0 _ x ∙ set-set c.regs 0 (y % 2 ^ 32) x in
+    (λ j. record { regs = regs j; flags = flags j; fs = c.fs; gs = c.gs }) ∙ same_reg c x k
+  where
+    cuts : (z : ℕ) → z % 2 ^ 32 % 2 ^ 32 % 2 ^ 16 ≡ z % 2 ^ 16
+    cuts z = omega arith
+
+-- rax is a number of 64 bits
+pub rax_is : (c : Core) → IsProcessorCore c → reg c rax % 2 ^ 64 % 2 ^ 64 ≡ reg c rax
+rax_is c h = ap (λ z. z % 2 ^ 64) (cut (reg c rax) (h.small 0)) ∙ cut (reg c rax) (h.small 0)
+
+-- the step that marks marks the data part
+marked_left : (b : Base) (cs : List Comparison) (p i n : ℕ) (c : Core) (f : Flags) (x y : ℕ) (u : Bool) (m w : Bytes) (bytes : List ℕ) → base_room b i ≤ n → p + n ≤ 0x7FFF0000
+    → bytes_at m (p + 64) (n - 64) ≡ map Some bytes → bytes_at w (p + 64) (n - 64) ≡ map Some bytes
+    → bytes_at (left_in (cond_event b cs p i).uses c 0 (marking_step b false 2 ∷ LoadLow 1 ∷ FromAl ∷ FromAh ∷ Load 0 ∷ [])
+    (record { core = with_flags c f; held = x ∷ y ∷ number_at m (mark_at b p i) (mark_len b) ∷ []; marked = u }) w) (p + 64) (n - 64) ≡ map Some (base_mark b i bytes)
+marked_left base.Cover cs p i n c f x y u m w bytes room low held still = covered p i n w bytes room low still
+marked_left base.Count cs p i n c f x y u m w bytes room low held still = counted p i n m w bytes room low held still
+
+-- it lies behind what is saved
+laid_by : (b : Base) (cs : List Comparison) (p i n : ℕ) → base_room b i ≤ n → AreLaid p (p + n) (cond_event b cs p i).uses
+laid_by base.Cover cs p i n room = ((omega arith, omega (arith, room)), ((omega arith, omega (arith, room)), ((omega arith, omega (arith, room)), tt)))
+laid_by base.Count cs p i n room = ((omega arith, omega (arith, room)), ((omega arith, omega (arith, room)), ((omega arith, omega (arith, room)), tt)))
+
+room_enough : (b : Base) (i n : ℕ) → base_room b i ≤ n → 64 ≤ n
+room_enough base.Cover i n room = omega (arith, room)
+room_enough base.Count i n room = omega (arith, room)
+
+-- steps that put no number into an array
+abbrev pub ArePlain : List EventStep → Type 0
+ArePlain [] = Unit {0}
+ArePlain (s ∷ ss) = (is_putting s ≡ false) × ArePlain ss
+
+fits_plain : (ds : List Datum) (s : EventStep) (m : Local) → is_putting s ≡ false → FitsIn ds s m
+fits_plain ds (Put k i) m h = absurd (true≢false h)
+fits_plain ds s m h = tt
+
+mark_plain : (b : Base) (t : Bool) (k : ℕ) → is_putting (marking_step b t k) ≡ false
+mark_plain base.Cover t k = refl
+mark_plain base.Count t k = refl
+
+-- no check puts a number into an array
+checks_fit : (ds : List Datum) (cs : List Comparison) (k : ℕ) (rest : List EventStep) (l : Local) → ((j : ℕ) (m : Local) → FitAll ds j rest m) → FitAll ds k (register_checks cs ++ rest) l
+checks_fit ds [] k rest l h = h k l
+checks_fit ds (c ∷ cs) zero rest l h = (tt, (tt, checks_fit ds cs _ rest _ h))
+checks_fit ds (c ∷ cs) (suc zero) rest l h = (tt, checks_fit ds cs _ rest _ h)
+checks_fit ds (c ∷ cs) (suc (suc k)) rest l h = checks_fit ds cs k rest l h
+
+pub no_puts : (ds : List Datum) (ss : List EventStep) → ArePlain ss → (j : ℕ) (m : Local) → FitAll ds j ss m
+no_puts ds [] h j m = tt
+no_puts ds (s ∷ ss) h (suc j) m = no_puts ds ss h.1 j m
+no_puts ds (s ∷ ss) h zero m = (fits_plain ds s m h.0, no_puts ds ss h.1 (skipped s m.core) (done s m))
+
+-- what gives back gives all back, also behind the mark
+gives : (c : Core) (f : Flags) (x : ℕ) (u : Bool) → IsProcessorCore c → f.rest ≡ c.flags.rest
+    → (ended 0 (LoadLow 1 ∷ FromAl ∷ FromAh ∷ Load 0 ∷ []) (record { core = with_flags c f; held = (reg c rax % 2 ^ 64) ∷ (reg (kept_in_ax c) rax % 2 ^ 32) ∷ x ∷ []; marked = u })).core ≡ c
+gives c f x u h r = low_back c f (reg (kept_in_ax c) rax % 2 ^ 32) (reg c rax % 2 ^ 64 % 2 ^ 64) h r refl (rax_is c h)
+
+gives_marked : (b : Base) (c : Core) (f : Flags) (x : ℕ) (u : Bool) → IsProcessorCore c → f.rest ≡ c.flags.rest
+    → (ended 0 (marking_step b false 2 ∷ LoadLow 1 ∷ FromAl ∷ FromAh ∷ Load 0 ∷ []) (record { core = with_flags c f; held = (reg c rax % 2 ^ 64) ∷ (reg (kept_in_ax c) rax % 2 ^ 32) ∷ x ∷ []; marked = u })).core ≡ c
+gives_marked base.Cover c f x u h r = gives c f 1 true h r
+gives_marked base.Count c f x u h r = gives c (arithmetic Inc W64 (x % 2 ^ 64) 1 f).flags ((x + 1) % 2 ^ 64) true h r
+
+module _ (b : Base) (cs : List Comparison) (p i : ℕ) where
+  abbrev ds : List Datum
+  ds = (cond_event b cs p i).uses
+
+  abbrev back : List EventStep
+  back = LoadLow 1 ∷ FromAl ∷ FromAh ∷ Load 0 ∷ []
+
+  abbrev mark_step : EventStep
+  mark_step = marking_step b false 2
+
+  abbrev checking : List EventStep
+  checking = register_checks cs ++ (mark_step ∷ back)
+
+  -- in front of the checks: registers and flags are as before, and what is saved is held
+  abbrev saved : Core → Bytes → List ℕ
+  saved c m = (reg c rax % 2 ^ 64) ∷ (reg (kept_in_ax c) rax % 2 ^ 32) ∷ number_at m (mark_at b p i) (mark_len b) ∷ []
+
+  abbrev ready : Core → Bytes → Local
+  ready c m = started c (saved c m)
+
+  -- memory there
+  abbrev saved_in : Core → Bytes → Bytes
+  saved_in c m = put_list (put_list m p (bytes_of 8 (reg c rax % 2 ^ 64))) (p + 8) (bytes_of 4 (reg (kept_in_ax c) rax % 2 ^ 32))
+
+  module _ (are : AreComparisons cs) (few : length cs ≤ 3) where
+    -- it restores
+    restores : (c : Core) (m : Bytes) → IsProcessorCore c → (ended 0 (cond_event b cs p i).steps (coming ds c m)).core ≡ c
+    restores c m h =
+        ap (λ (z : Core). (ended 0 checking (started z (saved c m))).core) (rax_back c (reg c rax % 2 ^ 64 % 2 ^ 64) (rax_is c h))
+        ∙ checked (λ k ss l. (ended k ss l).core ≡ c) (λ s k ss l q. q) (λ r n ss l q. q) (λ cc k ss l q. q) mark_step back cs (ready c m) are h.small
+        (λ f r a. gives_marked b c f (number_at m (mark_at b p i) (mark_len b)) false h r) (λ f r a. gives c f (number_at m (mark_at b p i) (mark_len b)) false h r)
+
+    -- the data part is as before where rax and the flags are saved
+    still : (n : ℕ) (c : Core) (m : Bytes) (bytes : List ℕ) → 64 ≤ n → p + n ≤ 0x7FFF0000 → bytes_at m (p + 64) (n - 64) ≡ map Some bytes → bytes_at (saved_in c m) (p + 64) (n - 64) ≡ map Some bytes
+    still n c m bytes enough low held =
+        let own = bytes_of 8 (reg c rax % 2 ^ 64) in
+        let word = bytes_of 4 (reg (kept_in_ax c) rax % 2 ^ 32) in
+        let w1 = bytes_of_length 8 (reg c rax % 2 ^ 64) in
+        let w2 = bytes_of_length 4 (reg (kept_in_ax c) rax % 2 ^ 32) in
+        bytes_keep m (saved_in c m) (p + 64) (n - 64)
+        (λ x k l. put_away (put_list m p own) (p + 8) word x (omega (arith, w2, low, enough)) (inr (omega (arith, w2))) ∙ put_away m p own x (omega (arith, w1, low, enough)) (inr (omega (arith, w1))))
+        ∙ held
+
+    -- it marks where all comparisons hold
+    marks_by : (n : ℕ) (c : Core) (m : Bytes) (bytes : List ℕ) → IsProcessorCore c → base_room b i ≤ n → 64 ≤ n → p + n ≤ 0x7FFF0000 → bytes_at m (p + 64) (n - 64) ≡ map Some bytes
+        → bytes_at (left_in ds c 0 (cond_event b cs p i).steps (coming ds c m) m) (p + 64) (n - 64) ≡ map Some (if all_hold cs c.regs then base_mark b i bytes else bytes)
+    marks_by n c m bytes h room enough low held =
+        ap (λ (z : Core). bytes_at (left_in ds c 0 checking (started z (saved c m)) (saved_in c m)) (p + 64) (n - 64)) (rax_back c (reg c rax % 2 ^ 64 % 2 ^ 64) (rax_is c h))
+        ∙ checked (λ k ss l. bytes_at (left_in ds c k ss l (saved_in c m)) (p + 64) (n - 64) ≡ map Some (if all_hold cs c.regs then base_mark b i bytes else bytes)) (λ s k ss l q. q) (λ r n ss l q. q)
+        (λ cc k ss l q. q) mark_step back cs (ready c m) are h.small
+        (λ f r a. marked_left b cs p i n c f (reg c rax % 2 ^ 64) (reg (kept_in_ax c) rax % 2 ^ 32) false m (saved_in c m) bytes room low held (still n c m bytes enough low held) ∙ ap (λ (z : Bool). map Some (if z then base_mark b i bytes else bytes)) (sym a))
+        (λ f r a. still n c m bytes enough low held ∙ ap (λ (z : Bool). map Some (if z then base_mark b i bytes else bytes)) (sym a))
+
+    -- so it says enough
+    pub cond_says : (n : ℕ) → base_room b i ≤ n → SaysEnough (cond_event b cs p i) p n any_data (λ regs bytes. if all_hold cs regs then base_mark b i bytes else bytes)
+    cond_says n room = record {
+      steps = (tt, (omega arith, refl, refl), omega arith, (tt, tt, omega arith, (tt, tt, omega arith, (tt, (omega arith, refl, refl), omega arith, (tt, (omega arith, refl, refl), omega arith, checks_are b 2 ds cs back are few (rest_are b cs p i))))));
+      laid = laid_by b cs p i n room;
+      few = (let q = checks_many cs (mark_step ∷ back) in omega (arith, q, few));
+      fits = λ c m bytes h low held good. (tt, (tt, (tt, (tt, (tt, checks_fit ds cs 0 (mark_step ∷ back) _ (no_puts ds (mark_step ∷ back) (mark_plain b false 2, (refl, (refl, (refl, (refl, tt)))))))))));
+      restores = λ c m h. restores c m h;
+      marked = λ c m bytes h low held good. marks_by n c m bytes h room (room_enough b i n room) low held;
+    }
+
+-- at most three comparisons are listed
+few_listed : (list : Comparisons) → length (listed list) ≤ 3
+few_listed (One a) = omega arith
+few_listed (Two a b) = omega arith
+few_listed (Three a b c) = omega arith
+
+-- what `EventsAreRecorded` says of the events under a condition
+abbrev pub WhenEventsAreRecorded : Type 0
+WhenEventsAreRecorded = (set : ℕ → Bool) (b : Base) (list : Comparisons) (i private n place : ℕ) (rest bytes : List ℕ) (s t : Machine) → AreComparisons (listed list) → base_room b i ≤ n
+    → place + event_length (action.When b list) < 2 ^ 31 → IsReady set private n place (event_code (action.When b list) private i ++ rest) s t → bytes_at t.mem (private + 64) (n - 64) ≡ map Some bytes
+    → (us : List Machine) × Recorded set (Some (record { action = action.When b list; number = i })) private n place bytes s t us
+
+-- and is recorded
+pub when_recorded : WhenEventsAreRecorded
+when_recorded set' b list i private n place rest bytes s t are room low ready held =
+    let cs = listed list in
+    let e = cond_event b cs private i in
+    let z : long e.steps ≡ 53 + 9 * length cs = (let k = checks_size b cs 2 (LoadLow 1 ∷ FromAl ∷ FromAh ∷ Load 0 ∷ []) in omega (arith, k)) in
+    let q = listed_recorded set' e private n place any_data (λ regs xs. if all_hold cs regs then base_mark b i xs else xs) rest bytes s t (cond_says b cs private i are (few_listed list) n room) (omega (arith, z, low))
+    (subst (λ (code : List ℕ). IsReady set' private n place (code ++ rest) s t) (sym (cond_code_is private i b cs)) ready) held refl in
+    let r = q.1 in (
+      q.0,
+      record {
+        run = r.run;
+        few = r.few;
+        there = r.there ∙ ap (λ k. place + k) z;
+        inside = subst (λ k. Inside (place + 1) (place + k + 1) q.0) z r.inside;
+        seen = λ j. record { core = r.core j; rip = 0; mem = r.hidden j; world = r.world j };
+        marked = r.marked;
+        kept = r.kept;
+      },
+    )

@@ -1,34 +1,26 @@
--- The instructions of events that relocated code doesn't have, and with which instruction an event begins.
-use Rattle.std.proofs.Common.{◌≡◌, ◌≢◌, ℕ, ◌+◌, ◌*◌, ◌%◌, ◌^◌, ◌<◌, false, List, [], ◌∷◌, ◌++◌, Some, None, ℤ, refl, sym, ap, ◌∙◌, subst, arith}
+-- With which instruction an event begins.
+use Rattle.std.proofs.Common.{◌≡◌, ◌≢◌, ℕ, ◌+◌, ◌*◌, false, List, [], ◌∷◌, ◌++◌, Some, ℤ, refl, sym, ap, ◌∙◌, arith}
 use Rattle.pun_base.specs.Memory.{Bytes}
 use Rattle.pun_base.specs.declared.action.Action.TheVariants.{Cover, Count, Ring, When}
 use Rattle.pun_base.specs.Actions.{listed}
-use Rattle.cpu_alu.specs.declared.operation.Width.TheVariants.{W8, W64}
-use Rattle.cpu_state.specs.Bytes.{Stands, lacking, put_list}
-use Rattle.cpu_state.specs.Fixed.{IsFixed}
+use Rattle.cpu_alu.specs.declared.operation.Width.TheVariants.{W8}
+use Rattle.cpu_state.specs.Bytes.{Stands}
 use Rattle.cpu_state.proofs.StandingBytes.{front}
 use Rattle.length_decode.specs.declared.escape_bytes.Escape.TheVariants.{OneByte}
 use Rattle.length_decode.specs.Spelling.{Fields, IsInstruction, spelling}
-use Rattle.insn_form.specs.declared.form.Seg.TheVariants.{Plain}
-use Rattle.insn_form.specs.declared.form.MemForm.{MemForm}
 use Rattle.insn_form.specs.declared.form.Insn.TheVariants.{Exact}
 use Rattle.insn_form.specs.declared.form.Op.{Op}
-use Rattle.insn_form.specs.declared.form.Op.TheVariants.{Mov, Lea, Jmp}
+use Rattle.insn_form.specs.declared.form.Op.TheVariants.{Mov, Jmp}
 use Rattle.insn_form.specs.declared.form.Spot.TheVariants.{Mem}
 use Rattle.insn_form.specs.declared.form.Target.TheVariants.{Rel}
 use Rattle.insn_form.specs.declared.form.Value.TheVariants as value
-use Rattle.insn_form.specs.Operands.{reg, with_reg}
 use Rattle.insn_form.specs.Classes.{template}
-use Rattle.insn_form.specs.Filling.{filled, integer_of}
+use Rattle.insn_form.specs.Filling.{filled}
 use Rattle.insn_form.specs.Instruction.{insn_of}
-use Rattle.insn_form.specs.Resolving.{resolved_insn}
-use Rattle.insn_form.specs.Meaning.{effect}
 use Rattle.insn_form.specs.Machine.{Machine}
-use Rattle.insn_form.specs.Step.{Step}
-use Rattle.insn_form.specs.Runs.{nowhere}
 use Rattle.insn_form.proofs.UniqueSteps.{one_instruction}
 use Rattle.relocate_insn.specs.Pieces.{four, store_rax, load_rax}
-use Rattle.relocate_insn.proofs.PieceSteps.{op_step, at_fixed, fixed_place, store_fields, store_is, store_insn}
+use Rattle.relocate_insn.proofs.PieceSteps.{at_fixed, store_fields, store_is, store_insn}
 use Rattle.cond_action.specs.Codes.{store_eax, load_eax, give_back, comparing, recording}
 use Rattle.trampoline.specs.Events.{add_one, put_slot, next_slot}
 use Rattle.trampoline.specs.Running.{BeginsWithNoJump}
@@ -47,59 +39,6 @@ mark_is a = record {
 mark_insn : (a : ℕ) → insn_of (mark_fields a) ≡ Exact (Mov W8 (Mem (at_fixed (four a))) (value.Imm 1))
 unfolding template filled
 mark_insn a = refl
-
--- the state after it
-abbrev pub marked_at : Machine → ℕ → ℕ → Machine
-marked_at v a rip = record { core = v.core; rip = rip; mem = put_list v.mem a (1 ∷ []); world = v.world }
-
--- where the byte at the address can be written, it has a step to that state
-pub mark_step : (v : Machine) (at a : ℕ) → at + 8 < 2 ^ 31 → a < 2 ^ 31 → v.rip ≡ at → lacking 2 v.mem a 1 ≡ None
-    → IsFixed v.mem at (0xc6 ∷ 0x04 ∷ 0x25 ∷ (four a ++ 1 ∷ [])) → Step nowhere v (marked_at v a (at + 8))
-unfolding effect
-mark_step v at a l k r w c =
-    let p = fixed_place v.core a k in
-    let o = Mov W8 (Mem (at_fixed (four a))) (value.Imm 1) in
-    let st = op_step v at (mark_fields a) o (mark_is a) (omega arith) r c (ap (resolved_insn (at + 8)) (mark_insn a))
-    (record { read = refl; write = ap (λ z. lacking 2 v.mem z 1) p ∙ w }) refl in
-    subst (λ (z : Machine). Step nowhere v z)
-    (λ j. record { core = v.core; rip = at + 8; mem = put_list v.mem (p j) (1 ∷ []); world = v.world }) st
-
--- LEA rax, [rax + 1]
-abbrev add_fields : Fields
-add_fields = record { prefixes = 0x48 ∷ []; escape = OneByte; opcode = 0x8d; modrm = Some 0x40; sib = None; disp = 1 ∷ []; imm = [] }
-
-add_is : IsInstruction add_fields
-add_is = record {
-  formed = record { prefixes = refl; escape = refl; opcode = refl; known = refl; modrm = refl; operand = (refl, refl); imm = refl };
-  short = omega arith;
-}
-
-abbrev behind_rax : MemForm
-behind_rax = record {
-  base = Some 0;
-  index = None;
-  scale = 1;
-  disp = integer_of (1 ∷ []);
-  rip = false;
-  seg = Plain;
-  short = false;
-  tail =
-      2;
-}
-
-add_insn : insn_of add_fields ≡ Exact (Lea W64 0 behind_rax)
-unfolding template filled
-add_insn = refl
-
--- the state after it
-abbrev pub raised : Machine → ℕ → Machine
-raised v rip = record { core = with_reg v.core 0 ((reg v.core 0 + 0 * 1 + 1) % 2 ^ 64 % 2 ^ 64); rip = rip; mem = v.mem; world = v.world }
-
--- it has a step to that state
-pub raise_step : (v : Machine) (at : ℕ) → at + 4 < 2 ^ 31 → v.rip ≡ at → IsFixed v.mem at add_one → Step nowhere v (raised v (at + 4))
-unfolding effect
-raise_step v at l r c = op_step v at add_fields (Lea W64 0 behind_rax) add_is (omega arith) r c (ap (resolved_insn (at + 4)) add_insn)
-    (record { read = refl; write = refl }) refl
 
 -- The code of an event begins with one of these, which is no jump.
 some_state : Bytes → ℕ → Machine

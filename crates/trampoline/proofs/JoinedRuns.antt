@@ -8,6 +8,7 @@ use Rattle.insn_form.specs.Laws.{SameView}
 use Rattle.insn_form.specs.Touched.{perms_at}
 use Rattle.relocate_insn.specs.Running.{IsPrivate, Inside}
 use Rattle.relocate_insn.proofs.PrivateRange.{step_perms}
+pub use Rattle.event_steps.proofs.EventRuns.{inside_more}
 
 -- a run changes no permission
 pub run_perms : (s : Machine) (ts : List Machine) → IsRun Step s ts → (x : ℕ) → perms_at (last_of s ts).mem x ≡ perms_at s.mem x
@@ -32,11 +33,6 @@ run_append u (x ∷ xs) ys p q = (p.0, run_append x xs ys p.1 q)
 pub last_append : (u v : Machine) (xs : List Machine) → last_of u (xs ++ v ∷ []) ≡ v
 last_append u v [] = refl
 last_append u v (x ∷ xs) = last_append x v xs
-
--- states within an extent are within each larger one
-pub inside_more : (lo hi lo' hi' : ℕ) (xs : List Machine) → lo' ≤ lo → hi ≤ hi' → Inside lo hi xs → Inside lo' hi' xs
-inside_more lo hi lo' hi' [] l h i = tt
-inside_more lo hi lo' hi' (x ∷ xs) l h i = (omega (arith, i.0), omega (arith, i.1), inside_more lo hi lo' hi' xs l h i.2)
 
 -- what lies within an extent one behind the other lies within it together
 pub inside_append : (lo hi : ℕ) (xs ys : List Machine) → Inside lo hi xs → Inside lo hi ys → Inside lo hi (xs ++ ys)

@@ -2,13 +2,11 @@ pub mod TrampolineBytes
 pub mod JoinedRuns
 pub mod DataParts
 pub mod EventPieces
-pub mod NamedStates
-pub mod BoundedRuns
-pub mod FlagEventInstructions
-pub mod EventSteps
-pub mod SavedFlags
-pub mod RingEvents
+pub mod FailedComparisons
+pub mod PrivateData
+pub mod PlainEvents
 pub mod ConditionEvents
+pub mod RingEvents
 pub mod EventRuns
 pub mod EventData
 pub mod TrampolineRuns

@@ -1,5 +1,7 @@
 //! What holds of events and of the code of trampolines.
 ghost use Rattle.trampoline.specs.Events.{HasEventLength, HasEventCode, IsRoomForEach, HasFewPages, ZerosAreData, MarksKeepData, MarksKeepLength};
+ghost use Rattle.trampoline.specs.EventLists.{AreLists};
+ghost use Rattle.trampoline.specs.Recording.{ListedEventsAreRecorded};
 ghost use Rattle.trampoline.specs.Running.{DataIsHeld, EventsAreRecorded, BeginsWithNoJump, TrampolinesWork};
 ghost use Rattle.trampoline.specs.Worked.{AreRecords, AreCodes, AreMet};
 
@@ -25,6 +27,16 @@ pub fn events_keep_data()
 /// The data part of a private range always holds some bytes.
 pub fn data_is_held()
     ensures { DataIsHeld }
+{}
+
+/// The event of each action is a list of steps, whose code is the event's.
+pub fn events_are_lists()
+    ensures { AreLists }
+{}
+
+/// Where the code of a list of steps stands that gives registers and flags back, but for what may change, and marks the data part, it is recorded.
+pub fn listed_events()
+    ensures { ListedEventsAreRecorded }
 {}
 
 /// The code of an event records it, whatever follows: the state then looks as before, and the data part has the mark.

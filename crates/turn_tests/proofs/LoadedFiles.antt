@@ -14,7 +14,7 @@ use Rattle.cpu_state.specs.Regions.{cell_at}
 use Rattle.cpu_step.specs.Stepping.{machine_of}
 use Rattle.elf_read.specs.Entries.{entry_of}
 use Rattle.elf_read.specs.Image.{image_of}
-use Rattle.image_step.specs.Starting.{regions_memory}
+use Rattle.image_runs.specs.Starting.{regions_memory}
 use Rattle.elf_read.specs.Refusals.{refusal}
 use Rattle.page_group.specs.Pages.{AreDisjoint}
 use Rattle.page_group.specs.Grouping.{GroupsState, IsGrouping}

@@ -6,11 +6,11 @@ ghost use Rattle.cpu_state.specs.Regions.{cell_at};
 ghost use Rattle.elf_read.specs.Entries.{entry_of};
 ghost use Rattle.elf_read.specs.Image.{image_of};
 ghost use Rattle.pun_base.specs.Memory.{joined};
-ghost use Rattle.image_step.specs.Starting.{regions_memory};
+ghost use Rattle.image_runs.specs.Starting.{regions_memory};
 ghost use Rattle.loader_form.specs.Kernel.{IsAnswer};
 ghost use Rattle.loader_form.specs.Answers.{AreAnswers};
 
-use crate::loader_files::{TEXT, loaded};
+use crate::loader_files::loaded;
 use cpu_alu::unpack;
 use cpu_state::processor::processor_core;
 use cpu_state::state::State;
@@ -23,7 +23,6 @@ use loader_form::kernel::{MapAnswer, StubEnd};
 use loader_form::stub_run::stub_run;
 use pun_base::memory_desk::MemDesk;
 use std::alloc::{AllocError, Global};
-use std::test::Fail;
 
 /// A number of its own in each register.
 const REGS: [u64; 16] = [
@@ -97,37 +96,6 @@ struct Seen {
     front: usize,
 }
 
-impl Seen {
-    /// Whether registers, flags and bases are those of the start.
-    fn is_same(&self) -> bool {
-        self.state.regs == REGS
-            && self.state.flags == unpack(FLAGS)
-            && self.state.fs == 0x201
-            && self.state.gs == 0x202
-    }
-
-    /// Whether it ended at the call that ends the program with status 127, after so many steps, with the first so many pages mapped.
-    fn is_exit(&self, steps: u64, pages: usize) -> bool {
-        self.end == StubEnd::Exit { steps }
-            && self.state.regs[0] == 231
-            && self.state.regs[7] == 127
-            && self.has_mapped(pages)
-    }
-
-    /// Whether it ended at the original's entry with the start's registers, after so many steps, with so many pages mapped.
-    fn is_entry(&self, steps: u64, pages: usize) -> bool {
-        self.end == StubEnd::Entry { steps }
-            && self.state.rip == 0x40_1000
-            && self.is_same()
-            && self.has_mapped(pages)
-    }
-
-    /// Whether the first so many pages for code can be executed, and no others.
-    fn has_mapped(&self, pages: usize) -> bool {
-        self.mapped == pages && self.front == pages
-    }
-}
-
 /// Whether all of a page can be executed.
 fn is_mapped(state: &State, page: u32) -> bool {
     state.mem.lacking(1, u64::from(page), 4096).is_none()
@@ -147,36 +115,36 @@ fn count_front(state: &State, pages: &[u32]) -> usize {
 }
 
 /// The run by these answers, from the start of a program's file.
-fn run_by(alloc: Global, program: &Program, answers: &[MapAnswer]) -> Result<Seen, Fail> {
+fn run_by(alloc: Global, program: &Program, answers: &[MapAnswer]) -> Option<Seen> {
     let file = program.file.as_slice();
-    let mut desk = MemDesk::new(alloc, &[])?;
+    let mut desk = MemDesk::new(alloc, &[]).ok()?;
     let loading = loaded(alloc, file, &program.starts, &program.sites, &[], &mut desk);
     let Some(found) = loading else {
-        return Err(Fail::from("not planned"));
+        return None;
     };
     let Ok(places) = found else {
-        return Err(Fail::from("not laid"));
+        return None;
     };
     let Ok(original) = read_elf(alloc, file) else {
-        return Err(Fail::from("not read"));
+        return None;
     };
     let entry = original.entry();
     let Some(written) = desk.get("O") else {
-        return Err(Fail::from("not held"));
+        return None;
     };
     let Ok(elf) = read_written(alloc, written) else {
-        return Err(Fail::from("not read again"));
+        return None;
     };
     let Ok(mut state) = start_state(alloc, &elf) else {
-        return Err(Fail::from("no memory"));
+        return None;
     };
     if !are_answers(answers) {
-        return Err(Fail::from("no answers of a kernel"));
+        return None;
     }
-    let end = stub_run(alloc, &elf, entry, &mut state, answers)?;
+    let end = stub_run(alloc, &elf, entry, &mut state, answers).ok()?;
     let mapped = count_mapped(&state, &program.pages);
     let front = count_front(&state, &program.pages);
-    Ok(Seen {
+    Some(Seen {
         end,
         state,
         stub: places.0.lo,
@@ -185,69 +153,21 @@ fn run_by(alloc: Global, program: &Program, answers: &[MapAnswer]) -> Result<See
     })
 }
 
-/// The program of one displaced instruction, whose file names this entry.
+/// The program of one displaced instruction, `mov eax, 60`, whose file names this entry.
 fn one_mov_from(alloc: Global, entry: u64) -> Result<Program, AllocError> {
-    let segment = load_entry(PF_R | PF_X, 0x1000, 0x40_1000, TEXT.len() as u64);
+    let segment = load_entry(PF_R | PF_X, 0x1000, 0x40_1000, 7);
     Ok(Program {
-        file: file_with(alloc, entry, &[segment], 0x1000, &TEXT)?,
+        file: file_with(
+            alloc,
+            entry,
+            &[segment],
+            0x1000,
+            &[0xB8, 0x3C, 0, 0, 0, 0x90, 0x90],
+        )?,
         starts: vec![in alloc; 0x40_1000, 0x40_1005, 0x40_1006]?,
         sites: vec![in alloc; 0x40_1000]?,
         pages: vec![in alloc; 0x2_1000]?,
     })
-}
-
-/// The program of one displaced instruction, which begins with it.
-fn one_mov(alloc: Global) -> Result<Program, AllocError> {
-    one_mov_from(alloc, 0x40_1000)
-}
-
-#[test]
-fn stub_of_one_mov(rt: HostRuntime) -> Result<(), Fail> {
-    let program = one_mov(rt.alloc())?;
-    let answers = [MapAnswer::Ok(3), MapAnswer::Failed(12)];
-    let seen = run_by(rt.alloc(), &program, &answers)?;
-    assert!(rt; seen.is_exit(35, 0));
-    let answers = [MapAnswer::Ok(3), MapAnswer::Ok(0), MapAnswer::Ok(0)];
-    let seen = run_by(rt.alloc(), &program, &answers)?;
-    assert!(rt; seen.is_entry(48, 1));
-    let seen = run_by(rt.alloc(), &program, &[])?;
-    assert!(rt; seen.end == StubEnd::Short { steps: 13 } && seen.has_mapped(0));
-    Ok(())
-}
-
-#[test]
-fn answers_run_out(rt: HostRuntime) -> Result<(), Fail> {
-    let program = one_mov(rt.alloc())?;
-    let seen = run_by(rt.alloc(), &program, &[MapAnswer::Ok(0)])?;
-    assert!(rt; seen.end == StubEnd::Short { steps: 27 } && seen.has_mapped(0));
-    let answers = [MapAnswer::Ok(0), MapAnswer::Ok(0)];
-    let seen = run_by(rt.alloc(), &program, &answers)?;
-    assert!(rt; seen.end == StubEnd::Short { steps: 36 } && seen.has_mapped(1));
-    assert!(rt; !seen.is_same());
-    Ok(())
-}
-
-/// Errors: EPERM, ENOMEM, and the greatest.
-const ERRORS: [u16; 3] = [1, 12, 4095];
-
-/// The ends where open, mmap and close fails with an error.
-fn fails_with(alloc: Global, error: u16) -> Result<bool, Fail> {
-    let program = one_mov(alloc)?;
-    let failed = MapAnswer::Failed(error);
-    let number = MapAnswer::Ok(u32::MAX);
-    let open = run_by(alloc, &program, &[failed, number, number])?;
-    let mmap = run_by(alloc, &program, &[number, failed, number])?;
-    let close = run_by(alloc, &program, &[number, number, failed])?;
-    Ok(open.is_exit(19, 0) && mmap.is_exit(35, 0) && close.is_entry(48, 1))
-}
-
-#[test]
-fn calls_fail(rt: HostRuntime) -> Result<(), Fail> {
-    for error in &ERRORS {
-        let ends = fails_with(rt.alloc(), *error)?;
-        assert!(rt; ends);
-    }
-    Ok(())
 }
 
 /// The opcodes of add, push and mov with an operand of four bytes.
@@ -301,140 +221,60 @@ fn far_program(alloc: Global, runs: u32) -> Result<Program, AllocError>
     })
 }
 
-/// So many numbers, and an error in the place of one.
-fn answers_with(
-    alloc: Global,
-    count: u32,
-    failing: u32,
-    error: u16,
-) -> Result<Vec<MapAnswer>, AllocError> {
+/// The answers of a kernel as words: numbers, and errors with a minus sign, with commas between them; `-` where there is none.
+fn answers_of(alloc: Global, words: &str) -> Option<Vec<MapAnswer>> {
     let mut answers = Vec::new(alloc);
-    for number in 0..count {
-        answers.push(if number == failing {
-            MapAnswer::Failed(error)
-        } else {
-            MapAnswer::Ok(number)
-        })?;
+    for word in words.split(',').filter(|word| *word != "-") {
+        answers
+            .push(match word.strip_prefix('-') {
+                Some(error) => MapAnswer::Failed(u16::from_str_radix(error, 10).ok()?),
+                None => MapAnswer::Ok(u32::from_str_radix(word, 10).ok()?),
+            })
+            .ok()?;
     }
-    Ok(answers)
+    Some(answers)
 }
 
-/// Whether the stub of so many runs comes to the entry where each call is answered, and where close fails.
-fn comes_to_the_entry(alloc: Global, runs: u32) -> Result<bool, Fail> {
-    if runs > 65_535 {
-        return Ok(false);
+/// How the run ended, and after how many steps.
+fn push_end(text: &mut String, end: &StubEnd) -> Option<()> {
+    match end {
+        StubEnd::Entry { steps } => write!(text, "entry {steps}").ok(),
+        StubEnd::Exit { steps } => write!(text, "exit {steps}").ok(),
+        StubEnd::Short { steps } => write!(text, "short {steps}").ok(),
     }
-    let program = far_program(alloc, runs)?;
-    let steps = 36 + 12 * u64::from(runs);
-    let answers = answers_with(alloc, runs + 2, u32::MAX, 0)?;
-    let given = run_by(alloc, &program, &answers)?;
-    let answers = answers_with(alloc, runs + 2, runs + 1, 9)?;
-    let unclosed = run_by(alloc, &program, &answers)?;
-    Ok(given.is_entry(steps, runs as usize) && unclosed.is_entry(steps, runs as usize))
 }
 
-/// Whether it ends the program where mmap of this run fails, the first being 1.
-fn stops_at(alloc: Global, runs: u32, failing: u32) -> Result<bool, Fail> {
-    if runs > 65_535 || failing == 0 || failing > runs {
-        return Ok(false);
+/// The end, where the run stands, whether the state is that of the start, where the stub begins, how many pages for code can be executed, and
+/// how many from the first one on; where the stub ends the program, rax and rdi.
+fn seen_text(alloc: Global, seen: &Seen) -> Option<String> {
+    let mut text = String::new(alloc);
+    push_end(&mut text, &seen.end)?;
+    let state = &seen.state;
+    let is_same = state.regs == REGS
+        && state.flags == unpack(FLAGS)
+        && state.fs == 0x201
+        && state.gs == 0x202;
+    write!(text, " {:x} {is_same}", state.rip).ok()?;
+    write!(text, " {:x} {} {}", seen.stub, seen.mapped, seen.front).ok()?;
+    if let StubEnd::Exit { .. } = seen.end {
+        write!(text, " {} {}", state.regs[0], state.regs[7]).ok()?;
     }
-    let program = far_program(alloc, runs)?;
-    let answers = answers_with(alloc, runs + 2, failing, 12)?;
-    let stopped = run_by(alloc, &program, &answers)?;
-    Ok(stopped.is_exit(23 + 12 * u64::from(failing), failing as usize - 1))
+    Some(text)
 }
 
-/// So many runs.
-const RUNS: [u32; 3] = [1, 2, 300];
-
-#[test]
-fn many_runs(rt: HostRuntime) -> Result<(), Fail> {
-    for runs in &RUNS {
-        let comes = comes_to_the_entry(rt.alloc(), *runs)?;
-        assert!(rt; comes);
-    }
-    Ok(())
-}
-
-/// How many runs, and which of them can't be mapped.
-const FAILING: [(u32, u32); 5] = [(2, 1), (2, 2), (300, 1), (300, 150), (300, 300)];
-
-#[test]
-fn one_of_many_fails(rt: HostRuntime) -> Result<(), Fail> {
-    for (runs, failing) in &FAILING {
-        let stops = stops_at(rt.alloc(), *runs, *failing)?;
-        assert!(rt; stops);
-    }
-    Ok(())
-}
-
-/// Answers to open, mmap and close: all are given, close fails, mmap fails, open fails.
-const GIVEN: [MapAnswer; 3] = [MapAnswer::Ok(3), MapAnswer::Ok(0), MapAnswer::Ok(0)];
-
-const UNCLOSED: [MapAnswer; 3] = [MapAnswer::Ok(3), MapAnswer::Ok(0), MapAnswer::Failed(9)];
-
-const UNMAPPED: [MapAnswer; 2] = [MapAnswer::Ok(3), MapAnswer::Failed(12)];
-
-const UNOPENED: [MapAnswer; 1] = [MapAnswer::Failed(2)];
-
-/// An entry in the code of the stub at 0x22000, answers, how the run ends by them, and how many pages are mapped then.
-const INSIDE: [(u64, &[MapAnswer], StubEnd, usize); 21] = [
-    // the stub's first byte
-    (0x2_2000, &[], StubEnd::Entry { steps: 0 }, 0),
-    (0x2_2000, &GIVEN, StubEnd::Entry { steps: 0 }, 0),
-    // SYSCALL of open, and what stands behind it
-    (0x2_205F, &[], StubEnd::Entry { steps: 13 }, 0),
-    (0x2_2061, &[], StubEnd::Short { steps: 13 }, 0),
-    (0x2_2061, &UNOPENED, StubEnd::Entry { steps: 14 }, 0),
-    (0x2_2061, &GIVEN, StubEnd::Entry { steps: 14 }, 0),
-    // SYSCALL of exit_group
-    (0x2_2071, &UNOPENED, StubEnd::Entry { steps: 19 }, 0),
-    (0x2_2071, &UNMAPPED, StubEnd::Entry { steps: 35 }, 0),
-    (0x2_2071, &GIVEN, StubEnd::Entry { steps: 48 }, 1),
-    // the loop's head, which is passed twice
-    (0x2_2082, &GIVEN, StubEnd::Entry { steps: 20 }, 0),
-    // behind mmap
-    (0x2_209F, &UNOPENED, StubEnd::Exit { steps: 19 }, 0),
-    (0x2_209F, &UNMAPPED, StubEnd::Entry { steps: 28 }, 0),
-    (0x2_209F, &GIVEN, StubEnd::Entry { steps: 28 }, 1),
-    // the jump to the exit, for an mmap that fails
-    (0x2_20A9, &UNMAPPED, StubEnd::Entry { steps: 32 }, 0),
-    (0x2_20A9, &GIVEN, StubEnd::Entry { steps: 48 }, 1),
-    // behind close
-    (0x2_20B5, &UNMAPPED, StubEnd::Exit { steps: 35 }, 0),
-    (0x2_20B5, &UNCLOSED, StubEnd::Entry { steps: 37 }, 1),
-    // inside the first instruction
-    (0x2_2001, &[], StubEnd::Short { steps: 13 }, 0),
-    (0x2_2001, &UNMAPPED, StubEnd::Exit { steps: 35 }, 0),
-    (0x2_2001, &GIVEN, StubEnd::Entry { steps: 48 }, 1),
-    // the last byte of the code's page
-    (0x2_2FFF, &UNCLOSED, StubEnd::Entry { steps: 48 }, 1),
-];
-
-/// Whether the run of a stub in whose code the entry lies ends so.
-fn ends_so(
-    alloc: Global,
-    entry: u64,
-    answers: &[MapAnswer],
-    end: StubEnd,
-    pages: usize,
-) -> Result<bool, Fail> {
-    let program = one_mov_from(alloc, entry)?;
-    let seen = run_by(alloc, &program, answers)?;
-    let at_entry = matches!(end, StubEnd::Entry { .. });
-    Ok(
-        seen.stub == 0x2_2000
-            && seen.end == end
-            && seen.has_mapped(pages)
-            && (seen.state.rip == entry) == at_entry,
-    )
-}
-
-#[test]
-fn entry_in_the_stub(rt: HostRuntime) -> Result<(), Fail> {
-    for (entry, answers, end, pages) in &INSIDE {
-        let ends = ends_so(rt.alloc(), *entry, *answers, *end, *pages)?;
-        assert!(rt; ends);
-    }
-    Ok(())
+/// What is told of a stub: of the program of one displaced instruction with this entry, or of one with so many runs.
+pub fn told(alloc: Global, words: &[&str]) -> Option<String> {
+    let [entry, runs, answers] = words else {
+        return None;
+    };
+    let runs = u32::from_str_radix(runs, 10).ok()?;
+    let program = if runs == 0 {
+        one_mov_from(alloc, u64::from_str_radix(entry, 16).ok()?).ok()?
+    } else if runs < 65_536 {
+        far_program(alloc, runs).ok()?
+    } else {
+        return None;
+    };
+    let answers = answers_of(alloc, answers)?;
+    seen_text(alloc, &run_by(alloc, &program, &answers)?)
 }

@@ -1,6 +1,6 @@
 """Each block has its count in the margin, and lines of source, if there are any, stand above their instructions.
-Without FUNCTION all functions that were executed are shown, those with the most work first. A function that was inlined
-everywhere is shown at each place."""
+Without FUNCTION all functions that were executed are shown, those with the most work first; without symbols they are
+those that evidence shows, by their addresses. A function that was inlined everywhere is shown at each place."""
 import argparse
 import os
 import shutil
@@ -25,7 +25,7 @@ PAGER = ("less", "-R", "-F", "-X")
 def add_words(level: Level, name: str) -> None:
     add_file(level, "program", metavar="PROGRAM", help="the original")
     level.add_argument("function", metavar="FUNCTION", nargs="?",
-                       help="only this function, as its symbol or the source names it")
+                       help="only this function, as its symbol or the source names it, or by an address in it")
     add_file(level, "--record", metavar="RECORD", action="append", dest="records", default=[],
              help="what a run wrote, in place of the last record; may be repeated")
     add_output(level, "--html", metavar="FILE", help="write a page for a browser")

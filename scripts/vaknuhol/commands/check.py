@@ -14,9 +14,10 @@ from vaknuhol.messages import painted, progress
 from vaknuhol.program.kernel import entry_of
 from vaknuhol.program.program_file import read_bytes
 from vaknuhol.recording.actions import Action, ActionError, action_of
-from vaknuhol.recording.kept_patches import all_of, folder_of, kept_fact
+from vaknuhol.recording.kept_patches import all_of, folder_of, kept_base, kept_fact
 from vaknuhol.recording.patch_files import RunFiles
 from vaknuhol.recording.patching import find_tool, threads_action
+from vaknuhol.recording.settling import settled_again
 
 NAMES = {"check": "judge the patched files of a program"}
 STATUS = "exit status: 0 if each is sound, else 1; 2 if something is refused"
@@ -72,8 +73,9 @@ def do(words: argparse.Namespace) -> int:
     for stem in stems:
         files = RunFiles(stem)
         progress(f"checking {files.patched}")
-        has_stub = entry_of(files.patched) != entry_of(words.program)
-        text, is_sound = (check_again if has_stub else check)(words.program, files)
+        program = settled_again(words.program, kept_base(stem))
+        has_stub = entry_of(files.patched) != entry_of(program)
+        text, is_sound = (check_again if has_stub else check)(program, files)
         progress("")
         print(f"{os.path.relpath(files.patched)}: {painted(text, 'green' if is_sound else 'red', sys.stdout)}")
         sound = sound and is_sound

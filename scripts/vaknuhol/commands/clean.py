@@ -23,7 +23,7 @@ def do(words: argparse.Namespace) -> int:
         raise Refusal(f"{folder} is not here: no stand-in of {words.program} records its runs there (--records names "
                       "another folder)")
     records, others = paths_in(folder), halves_in(folder)
-    old = records[:len(records) - words.keep] if words.keep else records
+    old = records[:-words.keep] if words.keep else records
     if os.path.isfile(os.path.join(folder, UNRECORDED)):
         others.append(os.path.join(folder, UNRECORDED))
     for path in (*old, *others):

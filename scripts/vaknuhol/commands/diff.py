@@ -52,7 +52,7 @@ def do(words: argparse.Namespace) -> int:
     if old.action.is_ring or new.action.is_ring:
         raise Refusal("a ring's record has no counts, so there is nothing to compare")
     coverage = Coverage(words.program, old, words.source)
-    new.check_program(coverage.program)
+    new.check_program(coverage.program, words.program)
     where = {row.first: place for row, place in coverage.places()}
     names = namer(where.values())
     others = {(row.first, row.end): row for row in new.rows if row.count is not None}

@@ -3,9 +3,7 @@ of different choices can be added. The records themselves are kept."""
 import argparse
 
 from vaknuhol.levels import Level, add_file, add_output
-from vaknuhol.recording.record_file import Record
-from vaknuhol.recording.record_folder import expanded
-from vaknuhol.recording.record_sum import Sum
+from vaknuhol.recording.record_folder import expanded, sum_of
 
 NAMES = {"merge": "add up records of several runs"}
 
@@ -16,5 +14,5 @@ def add_words(level: Level, name: str) -> None:
 
 
 def do(words: argparse.Namespace) -> int:
-    Sum([Record(path) for path in expanded(words.records)]).write(words.sum)
+    sum_of(expanded(words.records)).write(words.sum)
     return 0

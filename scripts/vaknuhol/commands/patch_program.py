@@ -51,7 +51,7 @@ def main() -> int:
     program, listing, blocks = read_program(words, words.action)
     print(f"{listing.summary()}; {len(blocks)} blocks chosen", flush=True)
     if not words.threads:
-        warn_of_threads(program, listing)
+        warn_of_threads(program, listing, words.program)
     files = RunFiles.of_program(words.program, action, words.into, words.threads)
     way = ThreadPatching if words.threads else Patching
     patching = way(words.program, action, blocks, words.reserve, files, words.loader)

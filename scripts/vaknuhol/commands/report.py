@@ -8,19 +8,22 @@ from collections.abc import Callable
 from vaknuhol.arguments import STANDARD, Refusal
 from vaknuhol.commands.run import LAST
 from vaknuhol.levels import Level, add_file, add_output
+from vaknuhol.messages import note
 from vaknuhol.outputs import write_outputs
-from vaknuhol.program.program_file import Program
 from vaknuhol.recording.kept_patches import folder_of
 from vaknuhol.recording.record_file import Record
 from vaknuhol.recording.record_folder import FOLDER, expanded, in_one, note_records, paths_in
-from vaknuhol.views import callgrind, cobertura, drcov, json_report, lcov
+from vaknuhol.recording.settling import read_kind
+from vaknuhol.views import callgrind, cobertura, drcov, folded, json_report, lcov
+from vaknuhol.views.call_text import print_calls
 from vaknuhol.views.code_pages import write_code_pages
+from vaknuhol.views.costs import Costs
 from vaknuhol.views.coverage import Coverage
 from vaknuhol.views.record_table import print_histories, print_runs, print_table
 from vaknuhol.views.source_pages import write_html
 from vaknuhol.views.summary import summary
 
-OUTPUTS = ("lcov", "cobertura", "json", "drcov", "callgrind", "html")
+OUTPUTS = ("lcov", "cobertura", "json", "drcov", "callgrind", "folded", "html")
 NAMES = {"report": "show a record, or write it for other programs"}
 
 
@@ -36,13 +39,17 @@ def add_words(level: Level, name: str) -> None:
     add_output(level, "--drcov", metavar="FILE",
                help="write the executed blocks as DynamoRIO's drcov does, for plugins of IDA, Ghidra, Binary Ninja")
     add_output(level, "--callgrind", metavar="FILE",
-               help="write executed instructions, lines, functions and direct calls, for KCachegrind")
+               help="write executed instructions, lines, functions and calls, for KCachegrind and callgrind_annotate")
+    add_output(level, "--folded", metavar="FILE",
+               help="write executed instructions by folded stacks, an estimate, for flamegraph.pl and speedscope")
     add_file(level, "--html", metavar="FOLDER",
              help="write pages for a browser: of source lines, by lcov's genhtml, or without lines of functions and "
                   "instructions")
     add_file(level, "--source", metavar="FOLDER", help="only lines of source files under this folder")
     level.add_argument("--all", action="store_true", help="lines of all source files, libraries included")
     level.add_argument("--per-run", action="store_true", help="print a line for each record, and nothing else")
+    level.add_argument("--calls", action="store_true",
+                       help="print the call graph, with executed instructions, as gprof does")
     level.add_argument("--table", action="store_true", help="print a line for each block")
 
 
@@ -61,7 +68,7 @@ def paths_of(words: argparse.Namespace) -> list[str]:
         note_records(folder, len(found))
     last = os.path.join(folder_of(words.program), LAST)
     if not found and not os.path.exists(last):
-        Program(words.program)
+        read_kind(words.program)
         raise Refusal(f"{last} is not here: vaknuhol cover, count and ring write it where they are called; name a "
                       "record that stands elsewhere")
     return found or [last]
@@ -76,16 +83,28 @@ def refuse_what_it_lacks(coverage: Coverage, words: argparse.Namespace) -> None:
     if coverage.record.action.is_ring and has_output(words):
         raise Refusal(f"{coverage.record.path} is the record of a ring: it has no counts; "
                       "without these options its last events are shown")
-    if words.callgrind and not coverage.record.action.adds:
-        raise Refusal(f"--callgrind: {coverage.record.path} has no counts: record by vaknuhol count")
+    action = coverage.record.action
+    for name in ("callgrind", "folded", "calls"):
+        if getattr(words, name) and not action.adds:
+            raise Refusal(f"--{name}: {coverage.record.path} has no counts: record by vaknuhol count")
+        if getattr(words, name) and action.condition:
+            raise Refusal(f"--{name}: {coverage.record.path} has only executions where {action.condition}: record "
+                          "without --when")
     if (words.lcov or words.cobertura) and not coverage.files:
         raise Refusal("no block has a file and a line: was the program built with -g, and are its files its own "
                       "(--all)?")
 
 
+def note_what_profiles_lack(coverage: Coverage, words: argparse.Namespace) -> None:
+    """A profile of the first blocks of functions has counts of calls, and hardly any costs."""
+    if (words.callgrind or words.folded or words.calls) and not Costs(coverage).are_of_functions():
+        note("few blocks of these functions were recorded, so their costs are not in it: vaknuhol count --blocks "
+             "records all")
+
+
 def refuse_beside_runs(words: argparse.Namespace) -> None:
     """With --per-run nothing else is shown or written."""
-    others = [f"--{name}" for name in (*OUTPUTS, "source", "all", "table") if getattr(words, name)]
+    others = [f"--{name}" for name in (*OUTPUTS, "source", "all", "table", "calls") if getattr(words, name)]
     if words.per_run and others:
         raise Refusal(f"{others[0]}: not allowed with argument --per-run")
 
@@ -93,18 +112,20 @@ def refuse_beside_runs(words: argparse.Namespace) -> None:
 def do(words: argparse.Namespace) -> int:
     if words.all and words.source:
         raise Refusal("--all: not allowed with argument --source")
-    if words.table and STANDARD in (words.lcov, words.cobertura, words.json, words.drcov, words.callgrind):
-        raise Refusal("--table: it is printed on standard output, and so is what goes to -")
+    for name in ("table", "calls"):
+        if getattr(words, name) and STANDARD in (getattr(words, output) for output in OUTPUTS):
+            raise Refusal(f"--{name}: it is printed on standard output, and so is what goes to -")
     refuse_beside_runs(words)
     if words.per_run:
         print_runs([Record(path) for path in paths_of(words)])
         return 0
     coverage = Coverage(words.program, record_of(words), words.source, words.all)
     refuse_what_it_lacks(coverage, words)
+    note_what_profiles_lack(coverage, words)
     texts: list[tuple[str, Callable[[Coverage], str | bytes]]]
     texts = [(words.lcov, lcov.text), (words.cobertura, cobertura.text), (words.json, json_report.text),
              (words.drcov, drcov.log),
-             (words.callgrind, callgrind.text)]
+             (words.callgrind, callgrind.text), (words.folded, folded.text)]
     write_outputs([(name, text(coverage)) for name, text in texts if name])
     if words.html:
         (write_html if coverage.files else write_code_pages)(words.html, coverage)
@@ -112,6 +133,8 @@ def do(words: argparse.Namespace) -> int:
         print_histories(coverage, True)
     elif words.table:
         print_table(coverage)
+    elif words.calls:
+        print_calls(coverage)
     elif not has_output(words):
         for line in summary(coverage):
             print(line)

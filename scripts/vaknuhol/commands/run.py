@@ -10,12 +10,12 @@ from vaknuhol.arguments import Refusal, add_loader, address_range
 from vaknuhol.levels import Level, add_file, add_output, whole_number
 from vaknuhol.messages import manner, note
 from vaknuhol.outputs import as_file
-from vaknuhol.program.program_file import Program
 from vaknuhol.recording.action_options import action_of_type
 from vaknuhol.recording.actions import Action, action_of
 from vaknuhol.recording.default_choice import add_choice, complete
 from vaknuhol.recording.kept_patches import Kept, folder_of
 from vaknuhol.recording.runs import run
+from vaknuhol.recording.settling import add_base, base_of, read_kind, settled
 from vaknuhol.recording.thread_use import started_by
 from vaknuhol.views.coverage import Coverage
 from vaknuhol.views.summary import summary
@@ -37,7 +37,7 @@ def add_patch_words(level: Level, name: str) -> None:
         level.add_argument("--when", metavar="C", type=action_of_type("cover when {}"),
                            help="record only executions in which registers meet C: one to three comparisons, as in "
                                 "'rdi == 2 and rsi < 100'")
-    add_file(level, "program", metavar="PROGRAM", help="the original, linked by gcc -static -no-pie")
+    add_file(level, "program", metavar="PROGRAM", help="the original, linked by gcc -static, or -static-pie")
     add_choice(level)
     how = "claims a slot of the ring, fills it" if name == "ring" else "records in one instruction"
     level.add_argument("--threads", action=argparse.BooleanOptionalAction,
@@ -45,6 +45,7 @@ def add_patch_words(level: Level, name: str) -> None:
                        "program starts threads")
     level.add_argument("--reserve", metavar="LO-HI", type=address_range, action="append", default=[],
                        help="addresses to keep free of new code; may be repeated")
+    add_base(level)
     add_loader(level)
     level.add_argument("--entries", metavar="N", type=whole_number,
                        help="write at most N program headers, for a kernel that takes no more (Debian 12: 73); by "
@@ -95,11 +96,20 @@ def prepare_folder(folder: str) -> None:
 def choose_threads(words: argparse.Namespace) -> None:
     """Where the words leave it open, a program that starts threads is patched for them."""
     if words.threads is None:
-        started = started_by(words.program, words.into or folder_of(words.program))
+        started = started_by(words.program, words.into or folder_of(words.named))
         words.threads = bool(started)
         if started:
-            note(f"{words.program} has {started}, so it is patched for threads (--no-threads leaves that)")
+            note(f"{words.named} has {started}, so it is patched for threads (--no-threads leaves that)")
     words.threads = bool(words.threads)
+
+
+def settle_program(words: argparse.Namespace) -> None:
+    """Puts the settled file in place of a static PIE, whose name is kept as `named`."""
+    words.named = words.program
+    words.program = settled(words.named, words.into or folder_of(words.named), words.base)
+    words.settled_at = base_of(words.program) if words.program != words.named else None
+    if words.settled_at is not None:
+        note(f"{words.named} is position independent: patched at base {words.settled_at:x}, not randomised")
 
 
 def record_path(words: argparse.Namespace) -> str:
@@ -109,10 +119,11 @@ def record_path(words: argparse.Namespace) -> str:
 def kept_of(words: argparse.Namespace, alone: str = "", is_run: bool = False) -> Kept:
     """The patched files that the words ask for; `alone` says why there may be one only, where that is so. A program
     that may not be executed isn't run, as it wouldn't be without us."""
-    Program(words.program)
+    read_kind(words.program)
     if is_run and not os.access(words.program, os.X_OK):
         raise Refusal(f"{words.program} may not be executed: chmod +x, or --patch-only")
     prepare_folder(words.into or folder_of(words.program))
+    settle_program(words)
     choose_threads(words)
     action = action_of_words(words)
     complete(words)
@@ -127,10 +138,10 @@ def do(words: argparse.Namespace) -> int:
             print(part.files.patched)
         return 0
     with as_file(record_path(words)) as path:
-        status, record = run(kept, [words.program, *(words.own_words or [])], path)
+        status, record = run(kept, [words.named, *(words.own_words or [])], path)
         del kept  # its reports take more room than the record
     manner.results = sys.stderr
     if record and not words.quiet:
-        for line in summary(Coverage(words.program, record, words.source, folder=words.into)):
+        for line in summary(Coverage(words.named, record, words.source, folder=words.into)):
             print(line, file=sys.stderr)
     return status

@@ -9,9 +9,11 @@ from vaknuhol.arguments import Refusal
 from vaknuhol.levels import Level, add_file, add_output
 from vaknuhol.outputs import write_outputs
 from vaknuhol.program.program_file import read_bytes
+from vaknuhol.recording.kept_patches import kept_base, kept_fact
 from vaknuhol.recording.patch_files import RunFiles
 from vaknuhol.recording.patching import find_tool
 from vaknuhol.recording.process_memory import PATCHED
+from vaknuhol.recording.settling import unsettled
 
 NAMES = {"unpatch": "give the original of a patched file back, byte for byte"}
 
@@ -31,7 +33,7 @@ def report_of(patched: str) -> str:
 
 
 def restored(patched: str, report: str) -> bytes:
-    """The original's bytes."""
+    """The original's bytes: of a static PIE its own, not those of its settled file."""
     with tempfile.TemporaryDirectory(prefix="vaknuhol.") as folder:
         path = os.path.join(folder, "original")
         done = subprocess.run([find_tool(), "unpatch", patched, report, path], capture_output=True, text=True,
@@ -39,7 +41,9 @@ def restored(patched: str, report: str) -> bytes:
                               check=False)
         if done.returncode:
             raise Refusal(f"e9tool answers: {(done.stdout or done.stderr).strip() or done.returncode}")
-        return read_bytes(path)
+        data = read_bytes(path)
+    is_own = kept_fact(patched.removesuffix(PATCHED), "made of") and kept_base(patched.removesuffix(PATCHED)) is None
+    return data if is_own else unsettled(data)
 
 
 def do(words: argparse.Namespace) -> int:

@@ -37,6 +37,8 @@ def add_words(level: Level, name: str) -> None:
                  help="the folder for the records, in place of PROGRAM.vak/records")
         inner.add_argument("--keep", metavar="N", type=whole_number,
                            help="keep only the newest N records, and remove older ones")
+        inner.add_argument("--quiet", action="store_true",
+                           help="don't print the executable's name, nor what was patched")
 
 
 def stand_in(patched: str, run_file: str, records: str, keep: int) -> bytes:
@@ -65,6 +67,6 @@ def do(words: argparse.Namespace) -> int:
     records = words.records or os.path.join(words.into or folder_of(words.program), FOLDER)
     os.makedirs(records, exist_ok=True)
     write_outputs([(words.output, stand_in(path, table, records, words.keep or 0))], is_program=True)
-    if words.output != STANDARD:
+    if words.output != STANDARD and not words.quiet:
         print(words.output)
     return 0

@@ -2,6 +2,7 @@
 import subprocess
 
 from vaknuhol.arguments import Refusal
+from vaknuhol.program.settled import own_file
 
 
 def run(*words: str) -> list[str]:
@@ -13,3 +14,9 @@ def run(*words: str) -> list[str]:
     if done.returncode != 0:
         raise Refusal(f"{words[0]} refuses the file: {(done.stderr.strip() or 'no reason').splitlines()[-1]}")
     return done.stdout.splitlines()
+
+
+def disassembly(path: str, low: int, high: int, how: str) -> list[str]:
+    """The lines of objdump on the code between two addresses of a program."""
+    return run("objdump", how, "--no-show-raw-insn", f"--start-address={low:#x}", f"--stop-address={high:#x}",
+               own_file(path).path)

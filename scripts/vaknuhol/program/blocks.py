@@ -6,6 +6,7 @@ from collections.abc import Iterator
 from typing import Protocol
 
 from vaknuhol.program.listing import Instructions, Listing
+from vaknuhol.program.listing_file import HAS_NAME, IS_CALLED
 from vaknuhol.program.program_file import Program
 
 LOWEST_NUMBER = 0x10000
@@ -78,4 +79,5 @@ def distances(program: Program, table: int, listing: Listing) -> Iterator[int]:
 def blocks_of(listing: Listing, only_functions: bool = False) -> list[Block]:
     """The blocks in order, without padding: all, or those that begin a function, which has a name or is called."""
     rows = zip(listing.file.block_first, listing.file.block_size, listing.file.begins_function)
-    return [Block(listing, first, count) for first, count, begins in rows if begins or not only_functions]
+    return [Block(listing, first, count) for first, count, begins in rows
+            if begins & (HAS_NAME | IS_CALLED) or not only_functions]

@@ -12,6 +12,7 @@ import subprocess
 
 from vaknuhol.arguments import Refusal
 from vaknuhol.native import program
+from vaknuhol.program.settled import own_file
 
 MAGIC, FORM, HEAD = b"VAKLINES", 2, struct.Struct("<Q")
 INLINED, ARTIFICIAL, RETURNS_VALUE = 1, 2, 4
@@ -28,7 +29,8 @@ TABLES = (("text", "B"), ("file_name", "I"),
 
 def tables_of(path: str) -> dict[str, "array.array[int]"]:
     """The tables of a program, by their names."""
-    done = subprocess.run([program("vaknuhol-lines"), path], capture_output=True, check=False)
+    own = own_file(path)
+    done = subprocess.run([program("vaknuhol-lines"), own.path], capture_output=True, check=False)
     if done.returncode:
         why = (done.stderr.decode(errors="replace").strip() or "no reason").splitlines()[-1]
         raise Refusal(f"{path}: its debugging information can't be read ({why.rpartition(': ')[2]}): build it by "
@@ -41,6 +43,10 @@ def tables_of(path: str) -> dict[str, "array.array[int]"]:
         found[name] = array.array(kind)
         found[name].frombytes(data[at + 8:at + 8 + length])
         at += 8 + length + -length % 8
+    if own.base:
+        for name, kind in TABLES:
+            if kind == "Q":  # an address; an entry that isn't told is 0
+                found[name] = array.array(kind, (it and it + own.base for it in found[name]))
     return found
 
 

@@ -3,7 +3,8 @@ from collections.abc import Iterator
 from typing import NamedTuple
 
 from vaknuhol.program.listing import Listing
-from vaknuhol.program.listing_file import BREAK, DATA, DOUBTFUL, KERNEL, NO_LENGTH, SHARED, UNSURE, Range
+from vaknuhol.program.listing_file import (BREAK, DATA, DOUBTFUL, KERNEL, NO_LENGTH, RESTARTED, SHARED, TABLE, UNSURE,
+                                           Range)
 
 SHOWN = 4
 AVOID_EVEX = "GLIBC_TUNABLES=glibc.cpu.hwcaps=-AVX512F,-AVX512VL"
@@ -51,7 +52,9 @@ def of_ranges(listing: Listing) -> Iterator[Finding]:
 
 
 def of_instructions(listing: Listing) -> Iterator[Finding]:
-    shared, unknown, unsure = (marked(listing, mark) for mark in (SHARED, NO_LENGTH, UNSURE))
+    shared, unknown = marked(listing, SHARED), marked(listing, NO_LENGTH)
+    unsure = [addr for addr, marks, level in zip(listing.addr, listing.marks, listing.file.level)
+              if marks & UNSURE and level == TABLE]
     if shared:
         yield Finding(False, f"{count_of(len(shared), 'instruction')} share bytes, as when a jump skips a prefix "
                              f"(from {shared[0]:x} on): "
@@ -80,16 +83,19 @@ def sets_handlers(listing: Listing) -> int:
 def findings(listing: Listing) -> list[Finding]:
     """All that the listing shows."""
     found = [*of_ranges(listing), *of_instructions(listing)]
+    sequences = listing.ranges(RESTARTED)
+    if sequences:
+        found.append(Finding(False, f"{count_of(len(sequences), 'restartable sequence')} (rseq), "
+                                    f"{range_text(sequences)}: the blocks of each, and what begins it, are left"))
     handlers = sets_handlers(listing)
     if handlers:
         found.append(Finding(False, f"it can set signal handlers (at {handlers:x}): vaknuhol holds signals back while "
-                                    "they would disturb an event; run by itself, only a patch for `cover` is safe with "
-                                    "them"))
+                                    "they would disturb an event; run by itself, only a patch for `cover --threads` "
+                                    "without `--when` is safe with them"))
     return found
 
 
-def warning(listing: Listing) -> str:
+def warning(listing: Listing, path: str) -> str:
     """One line where there is an obstacle to patching, else nothing."""
     against = sum(1 for finding in of_ranges(listing) if finding.is_against)
-    path = listing.path
     return f"parts of the text of {path} may be no code: vaknuhol fit {path} shows which" if against else ""

@@ -13,6 +13,7 @@ import itertools
 from collections.abc import Iterable, Sequence
 
 from vaknuhol.program.blocks import Span, distances, held_numbers, words_of
+from vaknuhol.program.functions import choosing_functions
 from vaknuhol.program.jump_tables import JumpTables
 from vaknuhol.program.listing import NOT_FALLING, Listing
 from vaknuhol.program.listing_file import (BRANCH, CALL, CALL_INDIRECT, FALLS, JUMP as JUMP_ALWAYS, JUMP_INDIRECT,
@@ -62,7 +63,7 @@ def held_addresses(program: Program, listing: Listing, tables: JumpTables) -> se
     if not listing.addr:
         return set()
     numbers = held_numbers(listing)
-    found = {number for number in numbers if listing.is_start(number)}
+    found = {address for address in numbers | set(choosing_functions(program).values()) if listing.is_start(address)}
     for number in numbers - found:
         if number % 4 == 0 and number not in tables.tables and program.is_loaded(number):
             found.update(distances(program, number, listing))

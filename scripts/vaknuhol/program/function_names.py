@@ -6,16 +6,18 @@ import subprocess
 from typing import Callable, Iterable
 
 COPY = re.compile(r"(\.(constprop|isra|part|cold|lto_priv|localalias)(\.[0-9]+)*)+$")  # what gcc adds to copies
-HASH = re.compile(r"::h[0-9a-f]{16}$")  # what rustc adds to each function's name
+GENERIC = re.compile(r"::<.*>$")  # the types of a generic function of Rust
 IN_MODULE = re.compile(r"__\w+?_MOD_(\w+)")  # how gfortran spells a procedure of a module
 
 
 @functools.cache
 def demangled(names: tuple[str, ...]) -> dict[str, str]:
-    """A map from names to what c++filt makes of them; a name stays as it is where there is no c++filt."""
+    """A map from names to what c++filt makes of them, without the hashes that rustc adds; a name stays as it is where
+    there is no c++filt."""
     if not names or not shutil.which("c++filt"):
         return {}
-    done = subprocess.run(["c++filt"], input="\n".join(names), capture_output=True, text=True, check=False)
+    done = subprocess.run(["c++filt", "--no-verbose"], input="\n".join(names), capture_output=True, text=True,
+                          check=False)
     return dict(zip(names, done.stdout.splitlines()))
 
 
@@ -25,7 +27,7 @@ def spellings(symbol: str, source: str) -> set[str]:
     arguments, and without what compilers add."""
     plain, bare = COPY.sub("", symbol), source.partition("(")[0]
     module = IN_MODULE.fullmatch(plain)
-    return {symbol, plain, source, bare, HASH.sub("", bare), module.group(1) if module else symbol}
+    return {symbol, plain, source, bare, GENERIC.sub("", bare), module.group(1) if module else symbol}
 
 
 def namer(names: Iterable[str]) -> Callable[[str], str]:

@@ -53,8 +53,11 @@ def takes(entries: int, folder: str) -> bool | None:
     tell."""
     with tempfile.TemporaryDirectory(prefix="asking.", dir=folder) as place:
         path = os.path.join(place, "asking")
-        with open(path, "wb") as file:
-            file.write(asking_file(entries))
+        try:
+            with open(path, "wb") as file:
+                file.write(asking_file(entries))
+        except OSError as error:
+            raise OSError(error.errno, error.strerror, path) from None
         os.chmod(path, 0o755)
         try:
             return subprocess.run([path], stdin=subprocess.DEVNULL).returncode == 0

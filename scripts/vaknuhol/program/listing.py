@@ -11,13 +11,14 @@ import os
 from collections.abc import Iterator
 from typing import Optional
 
-from vaknuhol.program.listing_file import (BRANCH, CALL, CALL_INDIRECT, DOUBTFUL, END, FALLS, IS_CALLED, JUMP,
+from vaknuhol.program.listing_file import (BEGINS, BRANCH, CALL, CALL_INDIRECT, DOUBTFUL, END, FALLS, IS_CALLED, JUMP,
                                            JUMP_INDIRECT, KERNEL, NOTHING, RETURN, SHARED, TRAP, Range, list_of,
                                            starts_of)
 from vaknuhol.program.program_file import Program
 
 NOT_FALLING = frozenset((JUMP, RETURN, JUMP_INDIRECT, END))
 OF_CALLED = bytes(number & IS_CALLED for number in range(256))
+OF_BEGINNING = bytes(number & BEGINS for number in range(256))
 
 
 class Instruction:
@@ -160,8 +161,16 @@ class Listing:
 
     def call_targets(self) -> set[int]:
         """The instructions to which direct calls lead."""
-        begins = bytes(self.file.begins_function).translate(OF_CALLED)
-        return {self.addr[first] for first in itertools.compress(self.file.block_first, begins)}
+        return set(self.marked(OF_CALLED))
+
+    def function_firsts(self) -> list[int]:
+        """Where functions begin, ascending: what has a name or a frame, or is called from outside of its extent."""
+        return self.marked(OF_BEGINNING)
+
+    def marked(self, table: bytes) -> list[int]:
+        """The first addresses of the blocks of which a mark tells that."""
+        begins = bytes(self.file.begins_function).translate(table)
+        return [self.addr[first] for first in itertools.compress(self.file.block_first, begins)]
 
     def between(self, first: int, end: int) -> list[int]:
         """The addresses of the instructions from one on, each of which begins where the one before it ends."""

@@ -9,6 +9,7 @@ import glob
 import hashlib
 import mmap
 import os
+import signal
 import struct
 import subprocess
 import tempfile
@@ -27,8 +28,8 @@ FALLS, BRANCH, JUMP, CALL, RETURN, JUMP_INDIRECT, CALL_INDIRECT, END, KERNEL, TR
 SHARED, FAULTS, READS, WRITES, FIXED, NO_LENGTH, NOTHING, UNSURE, BESIDE = (1 << number for number in range(9))
 MARKS = 1 << 9  # sets of marks
 ENTRY, DIRECT, AFTER_CALL, EXTENT, WORD, NUMBER, TABLE, SWEEP = range(1, 9)
-DOUBTFUL, DATA, BREAK, CLONE, WITHOUT_SUPPORT = range(1, 6)
-HAS_NAME, IS_CALLED = 1, 2
+DOUBTFUL, DATA, BREAK, CLONE, WITHOUT_SUPPORT, RESTARTED = range(1, 7)
+HAS_NAME, IS_CALLED, BEGINS = 1, 2, 4
 OF_INSTRUCTIONS = {"addr": "I", "target": "I", "held": "I", "number": "I", "reads": "I", "writes": "I",
                    "flags_read": "H", "flags_written": "H",
                    "marks": "H", "size": "B", "kind": "B", "level": "B"}
@@ -97,8 +98,9 @@ def write_list(program: str, path: str) -> None:
                           check=False)
     if done.returncode:
         lines = done.stderr.strip().splitlines()
-        raise Refusal(lines[-1].removeprefix(f"{LISTER}: ") if lines
-                      else f"{LISTER} ended with {done.returncode} on {program}")
+        limit = ": files may be no longer (ulimit -f)" if done.returncode == -signal.SIGXFSZ else ""
+        raise Refusal(lines[-1].removeprefix(f"{LISTER}: ") if lines and not limit
+                      else f"{LISTER} ended with {done.returncode} on {program}, as it wrote {path}{limit}")
 
 
 def forget_lists(folder: str) -> None:

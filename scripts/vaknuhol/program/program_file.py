@@ -5,9 +5,10 @@ import os
 import struct
 
 from vaknuhol.arguments import Refusal
+from vaknuhol.program.settled import entries_of, front_of, relocated
 
-PT_LOAD, PT_DYNAMIC, PT_INTERP, ET_EXEC, EM_X86_64 = 1, 2, 3, 2, 62
-EXECUTABLE, HEADER = 1, 64
+PT_LOAD, PT_DYNAMIC, PT_INTERP, PT_GNU_RELRO, ET_REL, ET_EXEC, ET_DYN, EM_X86_64 = 1, 2, 3, 0x6474E552, 1, 2, 3, 62
+EXECUTABLE, WRITABLE, HEADER = 1, 2, 64
 # stands before the names in an executable that vaknuhol wrap wrote (standin.c)
 STAND_IN = b"vakstandin 2".ljust(16, b"\0")
 
@@ -39,9 +40,42 @@ def file_hash(path: str) -> str:
     return hash_as_it_stands(os.path.realpath(path), state.st_ino, state.st_size, state.st_mtime_ns)
 
 
+def is_static_pie(data: bytes) -> bool:
+    """Whether an ELF file is loaded anywhere, by no other program, and starts in code of its own."""
+    if len(data) < HEADER or struct.unpack_from("<H", data, 16)[0] != ET_DYN or is_cut_off(data):
+        return False
+    entry, entries = struct.unpack_from("<Q", data, 24)[0], list(entries_of(data))
+    return all(kind != PT_INTERP for kind, *_ in entries) and any(
+        kind == PT_LOAD and flags & EXECUTABLE and addr <= entry < addr + size
+        for kind, flags, _, addr, _, _, size, _ in entries)
+
+
+def is_cut_off(data: bytes) -> bool:
+    table, count = struct.unpack_from("<Q", data, 32)[0], struct.unpack_from("<H", data, 56)[0]
+    return bool(table + 56 * count > len(data))
+
+
+def why_refused(data: bytes) -> str:
+    """What an ELF file for x86-64 is that is loaded at no addresses of its own, or by another program; nothing of a
+    static one at fixed addresses."""
+    kind, entries = struct.unpack_from("<H", data, 16)[0], list(entries_of(data))
+    if any(kind in (PT_DYNAMIC, PT_INTERP) for kind, *_ in entries) and (
+            kind == ET_EXEC or any(kind == PT_INTERP for kind, *_ in entries)):
+        return "is dynamic, so its libraries are loaded as it runs: link with gcc -static -no-pie"
+    if is_static_pie(data):
+        return ("is position independent: e9tool settle makes a program at fixed addresses of it (vaknuhol cover, "
+                "count, ring, wrap and fit do so by themselves)")
+    if kind == ET_DYN:
+        return "is a shared library: name a program that was linked with gcc -static, with its code in it"
+    if kind == ET_REL:
+        return "is an object file: link it with gcc -static -no-pie"
+    return "" if kind == ET_EXEC else "is no program"
+
+
 class Program:
     """The loaded segments of a static x86-64 program, original or patched, and where the memory of the last of them
-    ends; another file is refused."""
+    ends; another file is refused. Of a settled file `base` is where the program behind its front is loaded, whose
+    addresses its words have; of any other it is 0."""
 
     def __init__(self, path: str) -> None:
         data = read_bytes(path)
@@ -49,26 +83,41 @@ class Program:
             raise Refusal(f"{path} is no ELF file")
         if data.partition(STAND_IN)[2][:1].strip(b"\0"):
             raise Refusal(f"{path} is a stand-in that vaknuhol wrap wrote: name the original in its place")
-        kind, machine = struct.unpack_from("<HH", data, 16)
+        machine = struct.unpack_from("<H", data, 18)[0]
         if data[4:6] != b"\x02\x01" or machine != EM_X86_64:
             raise Refusal(f"{path} is not for x86-64")
-        if kind != ET_EXEC:
-            raise Refusal(f"{path} is position independent or dynamic: link with gcc -static -no-pie")
+        if is_cut_off(data):
+            raise Refusal(f"{path} is cut off: its program header table is past its end")
+        if why_refused(data):
+            raise Refusal(f"{path} {why_refused(data)}")
         self.path, self.end = path, 0
+        self.entry = struct.unpack_from("<Q", data, 24)[0]
         self.segments: list[tuple[int, int, bytes]] = []  # the address of each, its flags and its bytes
         self.code: list[tuple[int, memoryview]] = []  # of the executable ones
-        table, count = struct.unpack_from("<Q", data, 32)[0], struct.unpack_from("<H", data, 56)[0]
-        if table + 56 * count > len(data):
-            raise Refusal(f"{path} is cut off: its program header table is past its end")
-        for number in range(count):
-            kind, flags, offset, addr, _, length, size, _ = struct.unpack_from("<IIQQQQQQ", data, table + 56 * number)
-            if kind in (PT_DYNAMIC, PT_INTERP):
-                raise Refusal(f"{path} is dynamic: link with gcc -static -no-pie")
+        self.protected = range(0)  # what can't be written once the program has started
+        for kind, flags, offset, addr, _, length, size, _ in entries_of(data):
+            if kind == PT_GNU_RELRO:
+                self.protected = range(addr, addr + size)
             if kind == PT_LOAD:
                 self.segments.append((addr, flags, data[offset:offset + length]))
                 self.end = max(self.end, addr + size)
                 if flags & EXECUTABLE:
                     self.code.append((addr, memoryview(data)[max(offset, HEADER):offset + length]))
+        front = front_of(data)
+        self.base = front.base if front else 0
+        if front:
+            self.entry = self.base + struct.unpack_from("<Q", data, front.length + 24)[0]
+            self.relocate(data[front.length:])
+
+    def relocate(self, own: bytes) -> None:
+        """Puts addresses of its own where the program will have them as it runs."""
+        words = relocated(own, self.base)
+        for number, (start, flags, data) in enumerate(self.segments):
+            changed = bytearray(data)
+            for addr, word in words.items():
+                if start <= addr and addr + 8 <= start + len(data):
+                    struct.pack_into("<Q", changed, addr - start, word)
+            self.segments[number] = start, flags, bytes(changed)
 
     @functools.cached_property
     def code_hash(self) -> str:
@@ -92,6 +141,13 @@ class Program:
             if start <= addr < start + len(data):
                 return data[addr - start:addr - start + length]
         return b""
+
+    def fixed_word(self, addr: int) -> int | None:
+        """The eight bytes at an address as a number, where they don't change once the program has started."""
+        is_fixed = addr in self.protected or any(start <= addr < start + len(data) and not flags & WRITABLE
+                                                 for start, flags, data in self.segments)
+        word = self.read(addr, 8) if is_fixed else b""
+        return int.from_bytes(word, "little") if len(word) == 8 else None
 
     def has_segment_below(self, limit: int) -> bool:
         return any(0 < len(data) and addr < limit for addr, _, data in self.segments)

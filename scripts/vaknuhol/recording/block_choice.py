@@ -7,7 +7,7 @@ from vaknuhol.arguments import Refusal, address_range, file_name, regular_expres
 from vaknuhol.messages import note, progress
 from vaknuhol.program.blocks import Block, blocks_of
 from vaknuhol.program.listing import Listing
-from vaknuhol.program.listing_file import BRANCH, JUMP
+from vaknuhol.program.listing_file import BRANCH, JUMP, KERNEL, RESTARTED
 from vaknuhol.program.program_file import Program
 from vaknuhol.recording.actions import Action
 from vaknuhol.recording.site_choice import with_sites
@@ -43,7 +43,7 @@ def named_blocks(path: str, blocks: list[Block], listing: Listing, pattern: re.P
 
 def choose(path: str, listing: Listing, words: argparse.Namespace) -> list[Block]:
     """The blocks that the words of a command choose."""
-    blocks = blocks_of(listing, words.functions)
+    blocks = [b for b in blocks_of(listing, words.functions) if b.first >= listing.program.base]  # none of a front
     if words.symbols:
         blocks = named_blocks(path, blocks, listing, words.symbols)
     elif words.jumps:
@@ -63,16 +63,28 @@ def read_original(path: str, folder: Optional[str] = None) -> tuple[Program, Lis
     return program, Listing(path, folder)
 
 
-def with_support(blocks: list[Block], listing: Listing, action: Action) -> list[Block]:
-    """The blocks in which a site may stand, with the best; how many others there are is told."""
-    kept = with_sites(blocks, listing, action)
+def is_restarted(block: Block, listing: Listing) -> bool:
+    """Whether a block is one of a restartable sequence, or stands before one."""
+    return any(block.first < span.high and span.low <= block.end for span in listing.ranges(RESTARTED))
+
+
+def with_support(blocks: list[Block], listing: Listing, action: Action, for_threads: bool = False) -> list[Block]:
+    """The blocks in which a site may stand, with the best; how many others there are is told. A system call is a block
+    of its own. For threads it is none of these: the thread that a clone begins would begin within a trampoline, and
+    which call it is shows only as it is made."""
+    tried = [block for block in blocks if not for_threads or listing.kind[block.number] != KERNEL]
+    kept = with_sites(tried, listing, action)
     if not kept:
-        raise Refusal("each of these blocks stands beside bytes that may be no code, so none is patched: choose others "
-                      "(--help)")
-    if len(kept) < len(blocks):
-        lost = len(blocks) - len(kept)
-        note(f"{lost} block{'s' * (lost > 1)} beside bytes that are not listed as code {'are' if lost > 1 else 'is'} "
-             "not patched")
+        why = "stands beside bytes that may be no code" if tried else "is a system call"
+        raise Refusal(f"each of these blocks {why}, so none is patched: choose others (--help)")
+    firsts = {block.first for block in kept}
+    lost = [block for block in tried if block.first not in firsts]
+    restarted = [block for block in lost if is_restarted(block, listing)]
+    for count, what in ((len(restarted), "of restartable sequences (rseq)"),
+                        (len(blocks) - len(tried), "that may begin a thread (system calls)"),
+                        (len(lost) - len(restarted), "beside bytes that are not listed as code")):
+        if count:
+            note(f"{count} block{'s' * (count > 1)} {what} {'are' if count > 1 else 'is'} not patched")
     return kept
 
 
@@ -90,7 +102,7 @@ def wanted_blocks(program: Program, listing: Listing, words: argparse.Namespace)
 def read_program(words: argparse.Namespace, action: Action) -> tuple[Program, Listing, list[Block]]:
     """The program that the words name, its listing, and the blocks that they choose: as many as one file can have."""
     program, listing = read_original(words.program)
-    blocks = with_support(wanted_blocks(program, listing, words), listing, action)
+    blocks = with_support(wanted_blocks(program, listing, words), listing, action, getattr(words, "threads", False))
     if len(blocks) > MOST:
         last = blocks[MOST].first
         raise Refusal(f"{len(blocks)} blocks; at most {MOST} can be patched: --within 0-{last:x} keeps the first of "

@@ -27,7 +27,7 @@ def is_made(words: argparse.Namespace) -> bool:
 def complete(words: argparse.Namespace) -> None:
     """Puts the default where the words choose nothing."""
     if not is_made(words):
-        progress(f"reading source lines of {words.program}")
+        progress(f"reading source lines of {words.named}")
         from vaknuhol.program.source_lines import has_own_lines
         words.own = not words.source and has_own_lines(words.program)
         words.blocks = words.own or bool(words.source)
@@ -48,12 +48,12 @@ def choice_text(words: argparse.Namespace) -> str:
     return " ".join(parts)
 
 
-def own_blocks(path: str, blocks: list[Block]) -> list[Block]:
+def own_blocks(path: str, blocks: list[Block], name: str) -> list[Block]:
     """The blocks that have a line of a file of the program's own."""
     from vaknuhol.program.source_lines import with_lines
     kept = with_lines(path, blocks)
     if not kept:
-        raise Refusal(f"--own: no such block has a line of a source file of {path}'s own: was it built with -g?")
+        raise Refusal(f"--own: no such block has a line of a source file of {name}'s own: was it built with -g?")
     return kept
 
 
@@ -61,10 +61,11 @@ def read_chosen(words: argparse.Namespace, action: Action, folder: str) -> tuple
     """The program, its listing, which is kept in the folder, and the blocks in parts: as many as one file can have in
     each."""
     program, listing = read_original(words.program, folder)
+    progress(f"choosing blocks of {words.named}")
     blocks = wanted_blocks(program, listing, words)
     if words.own:
-        blocks = own_blocks(words.program, blocks)
-    blocks = with_support(blocks, listing, action)
+        blocks = own_blocks(words.program, blocks, words.named)
+    blocks = with_support(blocks, listing, action, words.threads)
     progress("")
     parts = -(-len(blocks) // MOST)
     each = -(-len(blocks) // parts)

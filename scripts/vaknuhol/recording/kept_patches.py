@@ -58,6 +58,13 @@ class Part:
         return entries_of(self.files.patched)
 
 
+def fewer(parts: list[list[int]]) -> str:
+    """How one file can do, in words; a part has the first addresses of its blocks."""
+    bounds = [*(part[0] for part in parts), parts[-1][-1] + 1]
+    ranges = ", ".join(f"--within {low:x}-{high:x}" for low, high in zip(bounds, bounds[1:]))
+    return f"choose fewer (--own, --functions), or a part at a time ({ranges})"
+
+
 class Kept:
     """The patched files of one choice: made, or found as they were made before. `alone` says why there may be one file
     only, where that is so."""
@@ -72,6 +79,8 @@ class Kept:
         reserve = [f"{low:x}-{high:x}" for low, high in words.reserve]
         self.what = {"choice": choice_text(words), "reserve": reserve, "entries": self.most, "loader": words.loader,
                      "threads": words.threads}
+        if words.settled_at is not None:
+            self.what["base"] = f"{words.settled_at:x}"
         mark = hashlib.sha256(json.dumps([self.action.name, self.what]).encode()).hexdigest()[:8]
         self.folder = os.path.join(top, f"{file_part_of(action, words.threads)}-{mark}")
         self.made_of = {**self.what, "action": self.action.name, "program": file_hash(words.program),
@@ -84,10 +93,15 @@ class Kept:
     def refuse_several(self, parts: list[list[int]]) -> None:
         """Refuses several files where one has to do; a part has the first addresses of its blocks."""
         if self.alone and len(parts) > 1:
-            bounds = [*(part[0] for part in parts), parts[-1][-1] + 1]
-            ranges = ", ".join(f"--within {low:x}-{high:x}" for low, high in zip(bounds, bounds[1:]))
             raise Refusal(f"{sum(len(part) for part in parts)} blocks; one file holds 65536, and {self.alone}: "
-                          f"choose fewer (--own, --functions), or a part at a time ({ranges})")
+                          f"{fewer(parts)}")
+
+    def tell_of_several(self, parts: list[list[int]]) -> None:
+        """Before several files are made, that the program will run once with each."""
+        if len(parts) > 1 and not self.words.patch_only:
+            note(f"{sum(len(part) for part in parts)} blocks; one file holds 65536, so there will be {len(parts)}, and "
+                 f"the program will run {len(parts)} times: where a second run would do harm, stop this, and "
+                 f"{fewer(parts)}")
 
     def files(self, number: int) -> RunFiles:
         return RunFiles(os.path.join(self.folder, f"{os.path.basename(self.words.program)}.{number}"))
@@ -108,16 +122,18 @@ class Kept:
 
     def made(self) -> list[Part]:
         program, listing, parts = read_chosen(self.words, self.action, os.path.dirname(self.folder))
-        self.refuse_several([[block.first for block in part] for part in parts])
+        firsts = [[block.first for block in part] for part in parts]
+        self.refuse_several(firsts)
+        self.tell_of_several(firsts)
         if not self.words.threads:
-            warn_of_threads(program, listing)
-        if warning(listing):
-            warn(warning(listing))
+            warn_of_threads(program, listing, self.words.named)
+        if text_warning := warning(listing, self.words.named):
+            warn(text_warning)
         if os.path.exists(os.path.join(self.folder, NAME)):
             os.remove(os.path.join(self.folder, NAME))
         reserved = {number: self.patch(program, listing, blocks, number, len(parts)) for number,
                     blocks in enumerate(parts, 1)}
-        text = {"program": os.path.realpath(self.words.program), "parts": len(parts), "reserved": reserved,
+        text = {"program": os.path.realpath(self.words.named), "parts": len(parts), "reserved": reserved,
                 "made of": self.made_of}
         write_whole({os.path.join(self.folder, NAME): json.dumps(text, indent=1) + "\n"})
         progress("")
@@ -126,6 +142,8 @@ class Kept:
     def patch(self, program: Program, listing: Listing, blocks: list[Block], number: int, parts: int) -> list[str]:
         """Makes the files of a part; all RESERVE words of its patched file."""
         files, way = self.files(number), ThreadFitting if self.words.threads else Fitting
+        if self.words.fast:
+            progress(f"choosing the fewest blocks of {self.words.named} from which the others follow")
         fast = fast_choice(blocks, program, listing) if self.words.fast else None
         for _ in range(ROUNDS):
             sites = fast.measured() if fast else blocks
@@ -136,6 +154,7 @@ class Kept:
             left = (block.first for block, site in zip(sites, patching.sites) if site in patching.left)
             if not fast or not fast.leave(set(left)):
                 break
+        progress(f"writing which blocks of {self.words.named} are patched")
         of_block = {block.first: site for block, site in zip(sites, patching.sites)}
         write_whole({files.blocks: blocks_text(program, self.action, files, blocks,
                                                [of_block.get(block.first, block.first) for block in blocks])})
@@ -168,6 +187,12 @@ def kept_fact(stem: str, *names: str) -> Any:
         return facts
     except (OSError, ValueError, KeyError, TypeError):
         return None
+
+
+def kept_base(stem: str) -> int | None:
+    """The base at which a static PIE was patched; None of any other kept patched file."""
+    base = kept_fact(stem, "made of", "base")
+    return None if base is None else int(base, 16)
 
 
 def program_of(stem: str) -> str | None:

@@ -1,10 +1,11 @@
 """What the kernel tells an original of itself: where its program header table is loaded, how many entries that has, and
 where the program starts. The patched file has another table, and vaknuhol-run tells it of this one in its place
-(native/vaknuhol-run/vector.c)."""
+(native/lib/process.c)."""
 import struct
 
 from vaknuhol.arguments import Refusal
 from vaknuhol.program.program_file import PT_LOAD, read_bytes
+from vaknuhol.program.settled import LONGEST, Front, front_of
 from vaknuhol.recording.patch_report import Origin, Report
 
 ENTRY = struct.Struct("<IIQQQQQQ")
@@ -18,6 +19,12 @@ def original_front(path: str, origin: Origin, end: int) -> bytes:
     struct.pack_into("<QQ", front, ENTRY_FIELD, origin.entry, origin.phoff)
     struct.pack_into("<H", front, COUNT_FIELD, origin.phnum)
     return bytes(front)
+
+
+def settled_front(report: Report, path: str) -> Front | None:
+    """The front of the settled file that was patched; None of any other original."""
+    origin = report.origin()
+    return front_of(original_front(path, origin, LONGEST)) if origin else None
 
 
 def table_address(front: bytes, origin: Origin) -> int:

@@ -12,6 +12,7 @@ PATCHED = ".patched"
 DELETED = " (deleted)"
 CURRENT_SIGNAL = struct.Struct("<12xh")  # linux/elfcore.h, struct elf_prstatus: pr_info, and pr_cursig
 DEBIAN = "/usr/lib/python3/dist-packages"
+RUNNER = "vaknuhol-run"
 if TYPE_CHECKING:
     from elftools.common.exceptions import ELFError
     from elftools.elf.elffile import ELFFile
@@ -40,6 +41,23 @@ def readers() -> "tuple[type[ELFFile], type[ELFError]]":
     return ELFFile, ELFError
 
 
+def facts_of(pid: str) -> dict[str, str]:
+    """What /proc/PID/status says."""
+    try:
+        with open(f"/proc/{pid}/status", encoding="utf-8", errors="replace") as file:
+            return {name: value.strip() for name, _, value in (line.partition(":") for line in file)}
+    except OSError:
+        return {}
+
+
+def traced_by(pid: int) -> list[str]:
+    """The processes that a runner follows, or the runner that a `vaknuhol` has started, lowest number first."""
+    everyone = {other: facts_of(other) for other in os.listdir("/proc") if other.isdigit()}
+    runners = {other for other, facts in everyone.items() if facts.get("Name") == RUNNER
+               and str(pid) in (other, facts.get("PPid"))}
+    return sorted((other for other, facts in everyone.items() if facts.get("TracerPid") in runners), key=int)
+
+
 class Process:
     """A process that runs on: its memory is read as it stands, and it isn't stopped."""
 
@@ -62,6 +80,9 @@ class Process:
         if self.image.endswith(DELETED):
             raise Refusal(f"the process {self.pid} runs {self.image.removesuffix(DELETED)}, "
                           "which was patched again or removed meanwhile")
+        traced = [] if self.image.endswith(PATCHED) else traced_by(self.pid)
+        if traced:
+            raise Refusal(f"the process {self.pid} runs no program, but follows {' '.join(traced)}: dump {traced[0]}")
         if not self.image.endswith(PATCHED):
             raise Refusal(f"the process {self.pid} runs {self.image}, which is no patched file by its name: "
                           "name its report by --report")

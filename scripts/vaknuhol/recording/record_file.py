@@ -7,6 +7,7 @@
     for threads             where it was a patch for threads; else there is no such line
     state ended             or `running`: what was recorded until then
     processes 3 threads 0 execs 1
+                            and `unrecorded 1`, where no memory could be had for the record of so many processes
     00401136 00401150 0040113a 12
     00401150 00401158 00401150 Shared
     end
@@ -28,24 +29,19 @@ from collections.abc import Iterable, Iterator, Mapping
 from typing import NamedTuple, Protocol
 
 from vaknuhol.arguments import Refusal
-from vaknuhol.messages import counted as number_of
 from vaknuhol.outputs import write_whole
-from vaknuhol.program.program_file import Program, read_text
-from vaknuhol.recording.actions import Action, ActionError, Ring, action_of
+from vaknuhol.program.program_file import Program
+from vaknuhol.recording.actions import Action, Ring
 from vaknuhol.recording.patch_files import Run
 from vaknuhol.recording.patch_report import LEFT, Report, outcome_counts
+from vaknuhol.recording.record_head import FOR_THREADS, HEAD, NOT_KNOWN, SEEN, RecordHead
 
-HEAD = "vakrecord 1"
-FOR_THREADS, NOT_KNOWN = "for threads", "-"
 LINE = re.compile(rf"^([0-9a-f]{{8}}) ([0-9a-f]{{8}}) ([0-9a-f]{{8}}) (?:([0-9]+)|{NOT_KNOWN}|({'|'.join(LEFT)}))$",
                   re.M)
 ROW = "%08x %08x %08x %s"
 LEFT_OF_RING = re.compile(r"left ([0-9]+) ?(.*)")
 EVENT = re.compile(r"([0-9a-f]{8}) ([0-9a-f]{8}) ([0-9a-f]{8})")
 PROCESS = re.compile(r"process ([0-9]+) (exit [0-9]+|signal [0-9]+|exec|running)")
-HASH = r"([0-9a-f]{64})"
-HEADS = re.compile(rf"{HEAD}\naction (.+)\nprogram (-|[0-9a-f]{{64}})\nreport {HASH}\n({FOR_THREADS}\n)?"
-                   r"state (ended|running)\nprocesses ([0-9]+) threads ([0-9]+) execs ([0-9]+)\n")
 
 
 class Recorded(Protocol):
@@ -138,7 +134,7 @@ def record_rows(report: Report, run: Run, numbers: "array.array[int]", ended: st
 def write_record(path: str, report: Recorded, program_hash: str | None, rows: Iterable[str], state: str,
                  seen: Mapping[str, int]) -> None:
     """Writes a record of these lines."""
-    counts = " ".join(f"{name} {number}" for name, number in seen.items())
+    counts = " ".join(f"{name} {number}" for name, number in seen.items() if number or name != SEEN[-1])
     lines = [HEAD, f"action {report.action.name}", f"program {program_hash or '-'}", f"report {report.hash}",
              *([FOR_THREADS] if report.for_threads else []), f"state {state}", counts]
     write_whole({path: "".join(f"{line}\n" for line in (*lines, *rows, "end"))})
@@ -152,30 +148,28 @@ def matched(form: re.Pattern[str], line: str) -> re.Match[str]:
     return found
 
 
-class Record:
+class Record(RecordHead):
     def __init__(self, path: str) -> None:
-        text = read_text(path)
-        heads = HEADS.match(text)
-        if not heads or not text.endswith("\nend\n"):
-            raise Refusal(f"{path} is no record of run_and_record")
-        body = text[heads.end():].removesuffix("end\n")
-        self.path, self.left, self.why_left = path, 0, ""
+        super().__init__(path)
+        self.take_body()
+
+    @classmethod
+    def of(cls, head: RecordHead) -> "Record":
+        """The record whose head was read."""
+        record = cls.__new__(cls)
+        vars(record).update(vars(head))
+        record.take_body()
+        return record
+
+    def take_body(self) -> None:
+        self.left, self.why_left = 0, ""
         self.rows: list[Row] = []
         self.histories: list[History] = []
-        action, self.program_hash, self.report_hash, for_threads, self.state = heads.groups()[:5]
-        self.processes, self.threads, self.execs = (int(number) for number in heads.groups()[5:])
-        self.for_threads = for_threads is not None
-        try:
-            self.action = action_of(action)
-        except ActionError:
-            raise self.no_record(f"action {action}") from None
         if self.action.is_ring:
-            self.take_events(body)
+            self.take_events(self.body)
         else:
-            self.take_rows(body)
-
-    def no_record(self, line: str) -> Refusal:
-        return Refusal(f"{self.path} is no record of run_and_record: {line}")
+            self.take_rows(self.body)
+        self.body = ""
 
     def take_rows(self, body: str) -> None:
         found = LINE.findall(body)
@@ -218,30 +212,22 @@ class Record:
             history.number += self.processes
         self.histories += other.histories
         self.rows += other.rows
-        self.processes, self.threads, self.execs = (getattr(self, name) + getattr(other, name)
-                                                    for name in ("processes", "threads", "execs"))
-
-    def is_plain(self) -> bool:
-        """Whether one process ran by itself."""
-        return (self.processes, self.threads, self.execs) == (1, 0, 0)
-
-    def run_text(self) -> str:
-        """How many processes and threads there were, in words."""
-        of = "of" if self.action.is_ring or self.processes == 1 else "the sum of"
-        seen = " and ".join(number_of(number, name) for number, name in ((self.threads, "thread"), (self.execs, "exec"))
-                            if number)
-        return f"{of} {number_of(self.processes, 'process', 'processes')}" + (f", with {seen}" if seen else "")
+        for name in SEEN:
+            setattr(self, name, getattr(self, name) + getattr(other, name))
 
     def left_text(self) -> str:
         """How many blocks were left, in words, and why, as far as that is told."""
         return f"{self.left} {'was' if self.left == 1 else 'were'} left" + (f" ({self.why_left})" if self.why_left
                                                                             else "")
 
-    def check_program(self, program: Program) -> None:
-        """Refuses every program but the one whose blocks these are."""
+    def is_of(self, program: Program) -> bool:
+        """Whether these may be blocks of a program."""
         if self.program_hash == "-":
-            known = all(program.is_code(row.first) for row in self.rows)
-        else:
-            known = program.code_hash == self.program_hash
-        if not known:
-            raise Refusal(f"{self.path} is of another program: {program.path} is not the original that was patched")
+            return all(program.is_code(row.first) for row in self.rows)
+        return program.code_hash == self.program_hash
+
+    def check_program(self, program: Program, name: str) -> None:
+        """Refuses every program but the one whose blocks these are."""
+        if not self.is_of(program):
+            raise Refusal(f"{self.path} is of another program: {name} is not the original that was patched"
+                          + (f", or was patched at another base than {program.base:x}" if program.base else ""))

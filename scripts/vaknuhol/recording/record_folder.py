@@ -3,10 +3,12 @@ oldest come first."""
 import glob
 import os
 import re
+from collections.abc import Iterator
 
 from vaknuhol.arguments import Refusal
-from vaknuhol.messages import note
+from vaknuhol.messages import counted, note, progress
 from vaknuhol.recording.record_file import Record
+from vaknuhol.recording.record_head import RecordHead
 from vaknuhol.recording.record_sum import Sum
 
 FOLDER, UNRECORDED, HALF = "records", "unrecorded", ".part"
@@ -51,15 +53,27 @@ def expanded(paths: list[str]) -> list[str]:
 
 def in_one(paths: list[str], name: str) -> Record:
     """The records as one: counts are added up, and of rings each keeps its histories, which are numbered anew."""
-    records = [Record(path) for path in paths]
-    if len(records) == 1:
-        return records[0]
-    if not records[0].action.is_ring:
-        return Sum(records).as_record(name)
-    for other in records[1:]:
-        Sum.compare(records[0], other)
-        records[0].add_histories(other)
-    return records[0]
+    first = RecordHead(paths[0])
+    if len(paths) > 1 and not first.action.is_ring:
+        return Sum(heads_of(first, paths[1:])).as_record(name)
+    record = Record.of(first)
+    for other in map(Record, paths[1:]):
+        Sum.compare(record, other)
+        record.add_histories(other)
+    return record
+
+
+def heads_of(first: RecordHead, paths: list[str]) -> Iterator[RecordHead]:
+    """The records of a sum, one after the other."""
+    yield first
+    for number, path in enumerate(paths, 2):
+        progress(f"adding up {len(paths) + 1} records: {number}")
+        yield RecordHead(path)
+    progress("")
+
+
+def sum_of(paths: list[str]) -> Sum:
+    return Sum(heads_of(RecordHead(paths[0]), paths[1:]))
 
 
 def record_at(path: str) -> Record:
@@ -70,5 +84,6 @@ def record_at(path: str) -> Record:
 def note_records(folder: str, records: int) -> None:
     """What stands in a folder that wasn't named."""
     missing = unrecorded_runs(folder)
-    note(f"{records} record{'s' if records != 1 else ''} of {folder}"
-         + (f"; {missing} runs were not recorded ({os.path.join(folder, UNRECORDED)} says why)" if missing else ""))
+    note(f"{counted(records, 'record')} of {folder}"
+         + (f"; {counted(missing, 'run was', 'runs were')} not recorded ({os.path.join(folder, UNRECORDED)} says why)"
+            if missing else ""))

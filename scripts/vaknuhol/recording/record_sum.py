@@ -1,38 +1,98 @@
-"""Records of one program added up: a block's count is the sum over the records that know it."""
-import copy
+"""Records of one program added up: a block's count is the sum over the records that know it.
+
+Most records that are added up have the same blocks, as runs of one patched file have: the rows of the first of these
+are read, and of the others the counts alone."""
 import hashlib
+import operator
+from collections.abc import Iterable
 
 from vaknuhol.arguments import Refusal
 from vaknuhol.recording.record_file import Record, Row, write_record
+from vaknuhol.recording.record_head import SEEN, RecordHead
 
-WORD, SEEN = 1 << 64, ("processes", "threads", "execs")
+WORD = 1 << 64
+COUNT_AT = len("00401136 00401150 0040113a ")
+
+
+class SameBlocks:
+    """Records with the blocks of one that was read: their counts, added up. The lines of these blocks are put together
+    anew with the counts of a record, and if that is its text, it has no other line."""
+
+    def __init__(self, record: Record, body: str) -> None:
+        lines = body.splitlines()
+        self.firsts = [row.first for row in record.rows]
+        self.blocks = [line[:COUNT_AT] for line in lines]
+        self.left = [(number, lines[number][COUNT_AT:]) for number, row in enumerate(record.rows) if row.count is None]
+        self.join = operator.add if record.action.adds else operator.or_
+        self.counts = [0] * len(lines)
+
+    def take(self, body: str) -> bool:
+        """Adds the counts of a record's rows; false where it has other blocks, or other ones were left."""
+        values = body.split()[3::4]
+        if len(values) != len(self.blocks) or "\n".join(map(operator.add, self.blocks, values)) + "\n" != body:
+            return False
+        for number, outcome in self.left:
+            if values[number] != outcome:
+                return False
+            values[number] = "0"
+        digits = "".join(values)
+        if not (digits.isascii() and digits.isdigit()):
+            return False
+        self.counts = list(map(self.join, self.counts, map(int, values)))
+        return True
 
 
 class Sum:
-    """The sum, in the place of a report, as records are written of them."""
+    """The sum, in the place of a report, as records are written of them; of records whose head alone was read, too."""
 
-    def __init__(self, records: list[Record], of_one_run: bool = False) -> None:
-        self.first = first = records[0]
-        for record in records[1:]:
-            self.compare(first, record)
+    def __init__(self, records: Iterable[RecordHead], of_one_run: bool = False) -> None:
+        self.rows: dict[int, Row] = {}
+        self.same: list[SameBlocks] = []
+        heads: list[RecordHead] = []
+        for head in records:
+            if heads:
+                self.compare(heads[0], head)
+            if not head.action.is_ring:
+                self.add(head)
+            head.body = ""
+            heads.append(head)
+        self.first = first = heads[0]
         if first.action.is_ring:
             raise Refusal(f"{first.path} is the record of a ring: the order of two rings is unknown, so they "
                           "can't be added")
         self.action, self.program_hash = first.action, None if first.program_hash == "-" else first.program_hash
-        hashes = sorted({record.report_hash for record in records})
+        self.add_same()
+        self.take_heads(heads, of_one_run)
+
+    def take_heads(self, heads: list[RecordHead], of_one_run: bool) -> None:
+        hashes = sorted({record.report_hash for record in heads})
         self.hash = hashes[0] if len(hashes) == 1 else hashlib.sha256("".join(hashes).encode()).hexdigest()
-        self.state = "running" if any(record.state == "running" for record in records) else "ended"
-        self.for_threads = (any(record.for_threads for record in records)
-                            and all(record.for_threads or not record.threads for record in records))
-        seen = {name: [getattr(record, name) for record in records] for name in SEEN}
+        self.state = "running" if any(record.state == "running" for record in heads) else "ended"
+        self.for_threads = (any(record.for_threads for record in heads)
+                            and all(record.for_threads or not record.threads for record in heads))
+        seen = {name: [getattr(record, name) for record in heads] for name in SEEN}
         self.seen = {name: max(numbers) if of_one_run else sum(numbers) for name, numbers in seen.items()}
-        self.rows: dict[int, Row] = {}
-        for record in records:
-            for row in record.rows:
-                self.take(record, row)
+
+    def add(self, head: RecordHead) -> None:
+        """Adds a record: by its counts alone where its blocks are known."""
+        if not isinstance(head, Record):
+            if any(same.take(head.body) for same in self.same):
+                return
+            body, head = head.body, Record.of(head)
+            self.same.insert(0, SameBlocks(head, body))
+        for row in head.rows:
+            self.take(head, row)
+
+    def add_same(self) -> None:
+        """Adds what was added up by itself."""
+        for same in self.same:
+            for first, count in zip(same.firsts, same.counts):
+                known = self.rows[first]
+                if count and known.count is not None:
+                    known.count = same.join(known.count, count) % WORD
 
     @staticmethod
-    def compare(first: Record, record: Record) -> None:
+    def compare(first: RecordHead, record: RecordHead) -> None:
         if record.action.name != first.action.name:
             raise Refusal(f"{first.path} is of the action {first.action.name}, and {record.path} of "
                           f"{record.action.name}")
@@ -50,7 +110,7 @@ class Sum:
         if known.count is None:
             self.rows[row.first] = row
         else:
-            known.count = (known.count + row.count) % WORD if self.action.adds else known.count | row.count
+            known.count = (known.count + row.count) % WORD if record.action.adds else known.count | row.count
 
     def sorted_rows(self) -> list[Row]:
         return [row for _, row in sorted(self.rows.items())]
@@ -60,9 +120,10 @@ class Sum:
 
     def as_record(self, name: str) -> Record:
         """The sum as a record that was read, which goes by a name in messages."""
-        record = copy.copy(self.first)
+        record = Record.of(self.first)
         record.path, record.report_hash = name, self.hash
         record.state, record.for_threads = self.state, self.for_threads
-        record.processes, record.threads, record.execs = (self.seen[name] for name in SEEN)
+        for what in SEEN:
+            setattr(record, what, self.seen[what])
         record.take_over(self.sorted_rows())
         return record

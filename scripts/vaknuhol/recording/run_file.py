@@ -10,18 +10,21 @@ import tempfile
 from collections.abc import Iterator
 
 from vaknuhol.outputs import write_whole
+from vaknuhol.program.settled import own_file
 from vaknuhol.recording.actions import MOST_COMPARISONS, REGISTERS, SIGNS, Action
 from vaknuhol.recording.call_frames import rules_of
 from vaknuhol.recording.event_undo import undo_of
-from vaknuhol.recording.original_headers import told_to_original
+from vaknuhol.recording.original_headers import settled_front, told_to_original
 from vaknuhol.recording.patch_files import Run, RunFiles
-from vaknuhol.recording.patch_report import SCRATCH, Report, outcome_counts
-from vaknuhol.recording.record_file import FOR_THREADS, NOT_KNOWN, line_of
+from vaknuhol.recording.patch_report import SCRATCH, WRITES, Report, outcome_counts
+from vaknuhol.recording.record_file import line_of
+from vaknuhol.recording.record_head import FOR_THREADS, NOT_KNOWN
 from vaknuhol.recording.thread_use import MEANT, SHARING
 
-MARK, ENDING, PAGE = b"vakrun 6\n", "run", 4096
+MARK, ENDING, PAGE = b"vakrun 7\n", "run", 4096
 FRONT = struct.Struct("<16s512s")
-BODY = struct.Struct(f"<128s512s11I4x6Q{MOST_COMPARISONS * 'IIQ'}80s")
+BODY = struct.Struct(f"<128s512s12I6Q{MOST_COMPARISONS * 'IIQ'}80s")
+COVERED = struct.Struct("<IB11s")
 COVER, COUNT, RING = range(3)
 LEFT, PLAIN, NOWHERE = 0xFFFFFFFF, 0xFFFFFFFF, 0xFFFFFFFE
 MOST_TRAMPOLINE, ROW_BYTES, TRAMP_BYTES, RULE_BYTES = 128, 8, 12, 24
@@ -82,6 +85,16 @@ def left_line(report: Report, run: Run) -> str:
     return f"{len(outcomes)} {outcome_counts(outcomes)}".rstrip()
 
 
+def covered_bytes(report: Report) -> bytes:
+    """What stood in the original where the patch has other code, in pieces."""
+    most, found = COVERED.size - 5, []
+    for place, old, _ in WRITES.found(report.path, report.text):
+        addr, code = int(place, 16), bytes.fromhex(old)
+        found += [COVERED.pack(addr + at, len(piece), piece) for at in range(0, len(code), most)
+                  for piece in [code[at:at + most]]]
+    return b"".join(found)
+
+
 def comparisons_of(action: Action) -> list[tuple[int, int, int]]:
     """The comparisons of a condition: register, sign and number."""
     return [(REGISTERS.index(comparison.register), list(SIGNS).index(comparison.name), comparison.number)
@@ -94,16 +107,19 @@ def table_of(report: Report, run: Run, patched: str) -> bytes:
     kind = RING if action.is_ring else COUNT if action.adds else COVER
     tramps = rows_of_tramps(tramps_of(report))
     undo, comparisons, (rows, lines) = undo_of(action, report.for_threads), comparisons_of(action), rows_of(report, run)
-    rules = rules_of(patched) if action.is_ring and report.for_threads else b""
+    rules = b""
+    if action.is_ring and report.for_threads:
+        rules = rules_of(own_file(patched, settled_front(report, patched)).path)
+    covered = covered_bytes(report)
     warning = "" if report.for_threads else f"{THREAD}; {MEANT}"
     numbers = [kind, report.for_threads, action.slots, run.action.slots, report.sites(), len(undo),
                len(comparisons), len(rows) // ROW_BYTES, len(tramps) // TRAMP_BYTES, len(rules) // RULE_BYTES,
-               len(lines), report.private, -(-(SCRATCH + length) // PAGE) * PAGE, length,
+               len(covered) // COVERED.size, len(lines), report.private, -(-(SCRATCH + length) // PAGE) * PAGE, length,
                *told_to_original(report, patched)]
     for comparison in (*comparisons, *[(0, 0, 0)] * (MOST_COMPARISONS - len(comparisons))):
         numbers += comparison
     body = BODY.pack(left_line(report, run).encode(), warning.encode(), *numbers, undo)
-    return b"".join((front_of(report, run), body, rows, tramps, rules, lines.encode()))
+    return b"".join((front_of(report, run), body, rows, tramps, rules, covered, lines.encode()))
 
 
 def kept_table(files: RunFiles, report: Report, run: Run) -> str:

@@ -9,6 +9,7 @@ from vaknuhol.native import program
 
 PASSED_ON = (signal.SIGINT, signal.SIGQUIT, signal.SIGTERM, signal.SIGHUP, signal.SIGUSR1, signal.SIGUSR2)
 WATCHED = (signal.SIGCHLD, *PASSED_ON)
+TO_END = {signal.SIGTERM, signal.SIGHUP}
 BY_KERNEL, SET_DEATH_SIGNAL = 0x80, 1  # linux/signal.h SI_KERNEL, linux/prctl.h PR_SET_PDEATHSIG
 LIBC = ctypes.CDLL(None, use_errno=True)
 
@@ -28,9 +29,24 @@ def pass_on(runner: int, info: signal.struct_siginfo) -> None:
         os.kill(runner, info.si_signo)
 
 
+def wait_for(runner: "subprocess.Popen[bytes]") -> set[int]:
+    """To its end, with signals passed on; which came. Each end of a child wakes this process, so no time is set: after
+    a stop (Ctrl-Z) that is longer, Python 3.11's sigtimedwait answers with what isn't a signal."""
+    came: set[int] = set()
+    while runner.poll() is None:
+        info = signal.sigwaitinfo(WATCHED)
+        if info.si_signo != signal.SIGCHLD:
+            came.add(info.si_signo)
+            pass_on(runner.pid, info)
+    return came
+
+
 def supervise(words: list[str]) -> int:
-    """The status with which vaknuhol-run ends; it ends, and the program with it, where this process is killed."""
-    mask = signal.pthread_sigmask(signal.SIG_BLOCK, WATCHED)
+    """The status with which vaknuhol-run ends; it ends, and the program with it, where this process is killed. A
+    request to end that came for the program, as by `timeout`, which sends it twice, ends this process neither then nor
+    later: it shows what was recorded."""
+    mask, former = signal.pthread_sigmask(signal.SIG_BLOCK, WATCHED), signal.signal(signal.SIGCHLD, signal.SIG_DFL)
+    came: set[int] = set()
 
     def prepare() -> None:
         LIBC.prctl(SET_DEATH_SIGNAL, signal.SIGKILL, 0, 0, 0)
@@ -38,14 +54,14 @@ def supervise(words: list[str]) -> int:
 
     try:
         runner = subprocess.Popen(words, preexec_fn=prepare)
-        while runner.poll() is None:
-            info = signal.sigtimedwait(WATCHED, 1)
-            if info and info.si_signo != signal.SIGCHLD:
-                pass_on(runner.pid, info)
+        came = wait_for(runner)
         return runner.returncode if runner.returncode >= 0 else 128 - runner.returncode
     finally:
-        while signal.sigtimedwait(WATCHED, 0):
-            pass  # what came as the program ended, as Ctrl-C, was for the program, and is not for this script
+        while signal.sigpending() & set(WATCHED):
+            signal.sigwaitinfo(WATCHED)  # what came as the program ended, as Ctrl-C, was for the program
+        for number in came & TO_END:
+            signal.signal(number, signal.SIG_IGN)
+        signal.signal(signal.SIGCHLD, former)
         signal.pthread_sigmask(signal.SIG_SETMASK, mask)
 
 

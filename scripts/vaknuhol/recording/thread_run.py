@@ -77,13 +77,13 @@ def patch_for_threads(words: argparse.Namespace, folder: str) -> None:
 
 
 class JudgedRun:
-    """What the judge says of a run, by names, and the system calls whose buffers it doesn't know."""
+    """What the judge says of a run, by names, and the system calls of which it doesn't know what they read or write."""
 
     def __init__(self, path: str) -> None:
         pairs = [line.split(" ", 1) for line in read_text(path).splitlines()]
         self.told = {name: value for name, value in pairs if name != "unknown"}
         self.unknown = [value for name, value in pairs if name == "unknown"]
-        self.broken = self.told.get("broken", "")
+        self.broken, self.doubts = self.told.get("broken", ""), int(self.told["doubts"])
         self.is_counted = self.told.get("counters") in COUNTED
 
     def length(self) -> str:
@@ -99,24 +99,30 @@ class JudgedRun:
             return f"there it gets {end}, for which it has no handler", False
         return ENDINGS.get(end, f"there the program ends ({end})"), end != "process"
 
+    def reach(self) -> str:
+        """Of which steps the theorem speaks, in words."""
+        count, _, limit = self.told["covered"].partition(" ")
+        return f"the theorem speaks of the first {count}, {limit}" if limit else "the theorem speaks of all of them"
+
     def line(self) -> str:
         if self.broken:
-            return f"premises of threads: BROKEN: {self.broken} ({self.length()})"
-        counted = COUNTED.get(self.told["counters"], f"THE RECORD IS WRONG: {self.told['counters']}")
-        return f"premises of threads: they hold at each step: {self.length()}; {counted}; {self.how_it_ended()[0]}"
+            return f"premises of threads: BROKEN: {self.broken} ({self.length()}); {self.reach()}"
+        record = COUNTED.get(self.told["counters"], f"THE RECORD IS WRONG: {self.told['counters']}")
+        rest = f"{self.length()}; {self.reach()}; {record}; {self.how_it_ended()[0]}"
+        if not self.doubts:
+            return ("premises of threads: they hold at each step, and both runs get the same answers as far as memory "
+                    f"tells: {rest}")
+        others = f", as do {self.doubts - 1} more" * (self.doubts > 1)
+        return ("premises of threads: the run MAY HAVE GONE ANOTHER WAY than the original's, which may get other "
+                f"answers: {self.told['doubt']}{others}: {rest}")
 
     def is_covered(self) -> bool:
-        return not self.broken and self.is_counted and self.how_it_ended()[1]
+        return not self.broken and not self.doubts and self.is_counted and self.how_it_ended()[1]
 
     def tell_notes(self) -> None:
-        """What no premise is about, or what isn't looked at."""
+        """What isn't looked at."""
         if self.unknown:
-            note(f"what these system calls write isn't known, so it wasn't judged: {', '.join(self.unknown)}")
-        count, first = self.told["noted"].split()
-        if count != "0":
-            note(f"{count} times an instruction whose answer the world gives, as of strings and vectors, read stale "
-                 f"bytes, listed instructions or new addresses, first at {first}: no premise is about that, but the "
-                 "original may get another answer")
+            note(f"what these system calls read or write isn't known, so it wasn't judged: {', '.join(self.unknown)}")
 
 
 def judge(words: argparse.Namespace, listing: Listing, folder: str) -> int:

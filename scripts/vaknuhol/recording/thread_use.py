@@ -12,6 +12,7 @@ from vaknuhol.program.binutils import run
 from vaknuhol.program.listing import Listing
 from vaknuhol.program.listing_file import CLONE
 from vaknuhol.program.program_file import Program, file_hash
+from vaknuhol.program.settled import own_file
 from vaknuhol.recording.block_choice import read_original
 from vaknuhol.recording.record_file import Record
 
@@ -24,7 +25,7 @@ MEANT = "--threads is meant for such a program"
 
 def symbols(path: str) -> list[str]:
     try:
-        return [line.split()[-1] for line in run("nm", "--defined-only", path) if line]
+        return [line.split()[-1] for line in run("nm", "--defined-only", own_file(path).path) if line]
     except Refusal:
         return []
 
@@ -35,7 +36,8 @@ def threads_of(program: Program, listing: Listing) -> str:
     if names:
         return f"the function {names[0]}"
     clones = listing.ranges(CLONE)
-    return f"a call of clone for threads (its flags stand at {clones[0].low:08x})" if clones else ""
+    return (f"a call of clone for threads, or processes in one memory (its flags stand at {clones[0].low:08x})"
+            if clones else "")
 
 
 def started_by(path: str, folder: str) -> str:
@@ -54,11 +56,11 @@ def started_by(path: str, folder: str) -> str:
     return started
 
 
-def warn_of_threads(program: Program, listing: Listing) -> None:
+def warn_of_threads(program: Program, listing: Listing, name: str) -> None:
     """Tells of a program that may start threads, as it is patched."""
     started = threads_of(program, listing)
     if started:
-        warn(f"{program.path} has {started}: {SHARING}, so the patched program may go wrong or crash; {MEANT}")
+        warn(f"{name} has {started}: {SHARING}, so the patched program may go wrong or crash; {MEANT}")
 
 
 def thread_notes(record: Record) -> Iterator[str]:

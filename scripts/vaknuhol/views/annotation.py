@@ -10,13 +10,15 @@ import re
 from collections.abc import Iterator
 
 from vaknuhol.arguments import Refusal
-from vaknuhol.program.binutils import run
+from vaknuhol.program.binutils import disassembly
 from vaknuhol.program.debug_info import INLINED
 from vaknuhol.program.function_names import spellings
+from vaknuhol.program.functions import Functions
 from vaknuhol.recording.record_file import Row
 from vaknuhol.views.coverage import Coverage
 
 LINE = re.compile(r" *([0-9a-f]+):\t(.*)")
+ADDRESS = re.compile(r"(0x)?[0-9a-f]{1,16}", re.I)
 
 
 class Block:
@@ -68,13 +70,11 @@ class Annotation:
         self.coverage, self.names = coverage, coverage.names()
         self.rows = coverage.record.rows
         self.firsts = [row.first for row in self.rows]
-        symbols = sorted((address, name) for address, name in coverage.listing.functions if not name.startswith("."))
-        self.symbols = list({address: (address, name) for address, name in symbols}.values())
+        self.known = Functions(coverage.listing)
 
     def functions(self) -> list[Part]:
         """All functions that have a block in the record, by how much of them was executed."""
-        ends = [address for address, _ in self.symbols[1:]] + [1 << 64]
-        parts = [Part(name, [(address, end)]) for (address, name), end in zip(self.symbols, ends)]
+        parts = [Part(self.known.name(low), [(low, high)]) for low, high in self.known.ranges()]
         kept = [part for part in parts if self.measure(part)]
         return sorted(kept, key=lambda part: -part.work)
 
@@ -112,15 +112,18 @@ class Annotation:
         return found
 
     def chosen(self, name: str | None) -> list[Part]:
-        """The functions of a name, as symbols or the source have it, else the calls of it that were inlined; without a
-        name, those that were executed."""
+        """The functions of a name, as symbols or the source have it, else the calls of it that were inlined, else the
+        function around an address; without a name, those that were executed."""
         parts, names = self.functions(), self.names
         if name is None:
             return [part for part in parts if part.work] or parts
         found = [part for part in parts if name in spellings(part.name, names(part.name))] or self.inlined(name)
+        if not found and ADDRESS.fullmatch(name) and self.coverage.program.is_code(int(name, 16)):
+            found = [part for part in parts if part.ranges[0][0] == self.known.first_of(int(name, 16))]
         if not found:
-            raise Refusal(f"{name}: the record has no block of such a function: vaknuhol annotate {self.coverage.path} "
-                          "shows all that ran")
+            why = ("the record has no block of such a function" if self.known.names or ADDRESS.fullmatch(name) else
+                   "the program has no symbols: give an address")
+            raise Refusal(f"{name}: {why}: vaknuhol annotate {self.coverage.path} shows all that ran")
         return found
 
     def items(self, part: Part) -> Iterator[Block | Source | Instruction]:
@@ -131,7 +134,7 @@ class Annotation:
 
     def items_between(self, low: int, high: int) -> Iterator[Block | Source | Instruction]:
         rows, shown = {max(row.first, low): row for row in self.rows_in(low, high)}, None
-        for address, text in disassembled(self.coverage.path, low, high):
+        for address, text in disassembled(self.coverage.file, low, high):
             if address in rows:
                 yield Block(rows[address])
             place = self.coverage.info.place_of(address)
@@ -148,8 +151,7 @@ class Annotation:
 
 
 def disassembled(path: str, low: int, high: int) -> Iterator[tuple[int, str]]:
-    for coverage in run("objdump", "-dwC", "--no-show-raw-insn", f"--start-address={low:#x}",
-                        f"--stop-address={high:#x}", path):
+    for coverage in disassembly(path, low, high, "-dwC"):
         found = LINE.fullmatch(coverage)
         if found:
             name, _, operands = found.group(2).partition(" ")

@@ -5,17 +5,16 @@ from typing import Iterator
 
 from vaknuhol.views.annotation import Annotation, Block, Part, Source
 from vaknuhol.views.annotation_text import HOT, WARM, times_of
+from vaknuhol.views.page_style import STYLE
 
 HEAD = """<!DOCTYPE html>
 <html lang="en"><head><meta charset="utf-8"><title>{title}</title>
 <meta name="viewport" content="width=device-width">
-<style>
-body {{ font: 14px/1.4 sans-serif; margin: 1em 2em; color: #222; background: #fff }}
-nav td, nav th {{ padding: 0 .8em; text-align: right }} nav td:last-child, nav th:last-child {{ text-align: left }}
-pre {{ margin: 0; font: 13px/1.35 monospace }}
-.b {{ margin: .5em 0; border-left: 4px solid #ddd; padding-left: .5em; width: max-content; min-width: 99% }}
-.hot {{ border-color: #c00; background: #fdeaea }} .warm {{ border-color: #e90; background: #fff6e5 }}
-.none {{ color: #888 }} .s {{ color: #06c }}
+<style>{style}
+nav td, nav th {{ text-align: right }} nav td:last-child, nav th:last-child {{ text-align: left }}
+.b {{ margin: .5em 0; border-left: 4px solid var(--line); padding-left: .5em; width: max-content; min-width: 99% }}
+.hot {{ border-color: var(--bad); background: var(--hot) }} .warm {{ border-color: #e90; background: var(--warm) }}
+.none {{ color: var(--pale) }} .s {{ color: var(--link) }}
 .c {{ display: inline-block; width: 8em; text-align: right; padding-right: 1em; font-weight: bold }}
 </style></head><body>
 <h1>{title}</h1>
@@ -67,4 +66,4 @@ def page_of(annotation: Annotation, parts: list[Part]) -> str:
     page = Page(annotation)
     title = html.escape(f"{os.path.basename(annotation.coverage.path)}, annotated")
     body = "".join(text for number, part in enumerate(parts) for text in page.part(number, part))
-    return HEAD.format(title=title) + "".join(page.contents(parts)) + body + "</body></html>\n"
+    return HEAD.format(title=title, style=STYLE) + "".join(page.contents(parts)) + body + "</body></html>\n"

@@ -2,16 +2,15 @@
 callgrind_annotate.
 
 The event is Ir, instructions executed: each instruction has the count of its block; those of blocks whose count isn't
-known are left out. A direct call has its count, and the inclusive cost 0, since counts don't tell what was executed on
-whose behalf.
+known are left out. A call has its count, and as inclusive cost the estimate of the call graph (call_graph.py), since
+counts don't tell what was executed on whose behalf; of an indirect call both are estimates.
 """
-import bisect
 import os
 from collections.abc import Iterator
 
 from vaknuhol import VERSION
-from vaknuhol.program.function_names import namer
 from vaknuhol.views.coverage import Coverage
+from vaknuhol.views.profile import Led, Profile
 
 HEAD = """# callgrind format
 version: 1
@@ -19,6 +18,7 @@ creator: vaknuhol {version}
 pid: 0
 cmd: {program}
 part: 1
+desc: Estimates: inclusive costs, and where indirect calls lead
 
 positions: instr line
 events: Ir
@@ -26,6 +26,8 @@ summary: {total}
 
 """
 UNKNOWN = "???"
+LEAST = 0.5  # instructions, of what is told
+OUTSIDE = "(callers that are not known)"
 
 
 class Names:
@@ -46,56 +48,52 @@ class Writer:
     """The lines of the format, function by function."""
 
     def __init__(self, coverage: Coverage) -> None:
-        self.coverage, self.files, self.functions = coverage, Names(), Names()
-        self.symbols = sorted((address, name) for address, name in coverage.listing.functions
-                              if not name.startswith("."))
-        self.firsts = [address for address, _ in self.symbols]
-        self.names = namer(name for _, name in self.symbols)
-        self.total = 0
-        self.instructions = {instruction.addr: instruction for instruction in coverage.listing.instructions}
-
-    def symbol(self, address: int) -> tuple[int, str]:
-        """The function around an address: where it begins, and its name."""
-        at = bisect.bisect_right(self.firsts, address) - 1
-        return (self.firsts[at], self.names(self.symbols[at][1])) if at >= 0 else (address, f"{address:#x}")
+        self.coverage, self.profile = coverage, Profile(coverage)
+        self.files, self.functions = Names(), Names()
 
     def place(self, address: int) -> tuple[str, int]:
         return self.coverage.info.place_of(address) or (UNKNOWN, 0)
 
-    def head(self, begin: int, name: str) -> Iterator[str]:
-        yield f"\nfl={self.files(self.place(begin)[0])}\n"
-        yield f"fn={self.functions(name)}\n"
+    def head(self, first: int) -> Iterator[str]:
+        yield f"\nfl={self.files(self.place(first)[0])}\n"
+        yield f"fn={self.functions(self.profile.name(first))}\n"
 
     def lines(self) -> Iterator[str]:
-        function, file = None, ""
-        for row in self.coverage.record.rows:
+        function, file, costs = None, "", self.profile.costs
+        for row, numbers, first in zip(self.coverage.record.rows, costs.instructions, costs.function):
             if not row.count:
                 continue
-            begin, name = self.symbol(row.first)
-            if begin != function:
-                function, file = begin, self.place(begin)[0]
-                yield from self.head(begin, name)
-            at = row.first
-            while at < row.end and (instruction := self.instructions.get(at)):
+            if first != function:
+                function, file = first, self.place(first)[0]
+                yield from self.head(first)
+            for number in numbers:
+                at = self.coverage.listing.addr[number]
                 here, line = self.place(at)
                 if here != file:
                     file = here
                     yield f"fi={self.files(here)}\n"
-                self.total += row.count
                 yield f"{at:#x} {line} {row.count}\n"
-                if instruction.jump == "call" and instruction.target is not None:
-                    yield from self.call(instruction.addr, instruction.target, line, row.count)
-                at = instruction.end
+                for led in self.profile.led.get(at, ()):
+                    cost = self.profile.graph.cost_of(first, led.callee, led.times)
+                    yield from self.call(at, line, led, cost)
+        yield from self.from_outside()
 
-    def call(self, addr: int, target: int, line: int, count: int) -> Iterator[str]:
-        begin, name = self.symbol(target)
-        file, called = self.place(begin)
-        yield f"cfi={self.files(file)}\ncfn={self.functions(name)}\n"
-        yield f"calls={count} {target:#x} {called}\n{addr:#x} {line} 0\n"
+    def from_outside(self) -> Iterator[str]:
+        """A function that stands for callers that aren't known, as the kernel and code without a record."""
+        roots = [(first, cost) for first, cost in self.profile.graph.roots() if cost >= LEAST]
+        if roots:
+            yield f"\nfl={self.files(UNKNOWN)}\nfn={self.functions(OUTSIDE)}\n"
+        for first, cost in roots:
+            yield from self.call(0, 0, Led(first, first, self.profile.elsewhere.get(first, 0) or 1, True), cost)
+
+    def call(self, at: int, line: int, led: Led, cost: float) -> Iterator[str]:
+        file, called = self.place(led.callee)
+        yield f"cfi={self.files(file)}\ncfn={self.functions(self.profile.name(led.callee))}\n"
+        yield f"calls={led.times} {led.target:#x} {called}\n{at:#x} {line} {cost:.0f}\n"
 
 
 def text(coverage: Coverage) -> str:
     writer = Writer(coverage)
     lines = "".join(writer.lines())
     return HEAD.format(version=VERSION, program=os.path.basename(coverage.path),
-                       total=writer.total) + lines.lstrip("\n")
+                       total=writer.profile.costs.total) + lines.lstrip("\n")

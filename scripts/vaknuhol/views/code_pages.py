@@ -1,40 +1,37 @@
-"""Pages for a browser of a program without source lines: its functions with their counts, and for each a page with its
-disassembly, as objdump prints it, and the count of each block. A page has only blocks that the record knows of, so with
-all blocks the whole function."""
+"""Pages for a browser of a program without source lines: its functions with their counts, those that were executed
+first, and for each of these a page with its disassembly, as objdump prints it, and the count of each block. The others
+stand in a list. A page has only blocks that the record knows of, so with all blocks the whole function."""
 import bisect
 import html
 import os
-import subprocess
 from collections.abc import Iterator
-from typing import NamedTuple
 
 from vaknuhol.arguments import Refusal
 from vaknuhol.messages import counted, progress
 from vaknuhol.outputs import write_whole
+from vaknuhol.program.binutils import disassembly
 from vaknuhol.program.function_names import demangled
 from vaknuhol.recording.record_file import Row
 from vaknuhol.views.coverage import Coverage
+from vaknuhol.views.page_style import SORTING, Cell, page, table
 
-STYLE = """body { font-family: sans-serif; margin: 2em } table { border-collapse: collapse }
-td, th { padding: 0.1em 0.8em; text-align: left } td.number, th.number { text-align: right }
-pre { line-height: 1.3 } .hit { background: #dfd } .missed { background: #fdd }
-.unknown { background: #eee } .low { color: #c00 } .count { color: #06c }"""
-PAGE = """<!DOCTYPE html>
-<html lang="en"><head><meta charset="utf-8"><title>{title}</title><style>{style}</style></head>
-<body><h1>{title}</h1>
-{body}
-</body></html>
-"""
+NEAR = 1 << 14  # as many bytes are disassembled in the time that another call of objdump takes
+INDEX, WIDTH = "index.html", 14
 
 
-class Function(NamedTuple):
+class Function:
     """A function's name, and its blocks that the record knows of, by their addresses."""
-    first: int
-    name: str
-    rows: list[Row]
 
-    def known(self) -> list[int]:
-        return [row.count for row in self.rows if row.count is not None]
+    def __init__(self, first: int, name: str, rows: list[Row]) -> None:
+        self.first, self.name, self.rows = first, name, rows
+        self.known = [row.count for row in rows if row.count is not None]
+        self.hit = sum(1 for count in self.known if count)
+        self.left = len(rows) - len(self.known)
+        self.greatest = max(self.known, default=0)
+
+    def work(self, coverage: Coverage) -> int:
+        """How many of its instructions were executed."""
+        return sum(row.count * len(coverage.listing.between(row.first, row.end)) for row in self.rows if row.count)
 
     def file(self) -> str:
         return f"{self.first:08x}.html"
@@ -53,76 +50,106 @@ def functions_of(coverage: Coverage) -> list[Function]:
             for first, inside in found.items()]
 
 
-def disassembly(path: str) -> dict[int, str]:
-    """The text of each instruction, for reading."""
-    try:
-        done = subprocess.run(["objdump", "-d", "-w", "--no-show-raw-insn", path], capture_output=True, text=True,
-                              errors="replace", check=False)
-    except FileNotFoundError:
-        raise Refusal("needs objdump (package binutils), which is not here") from None
+def spans(functions: list[Function]) -> Iterator[tuple[int, int]]:
+    """The code of functions in order: a span for those that stand near each other."""
+    low = high = 0
+    for function in functions:
+        if function.rows[0].first > high + NEAR:
+            if high:
+                yield low, high
+            low = function.rows[0].first
+        high = max(high, function.rows[-1].end)
+    if high:
+        yield low, high
+
+
+def texts_of(path: str, functions: list[Function]) -> dict[int, str]:
+    """The text of each instruction of these functions, for reading."""
     found = {}
-    for line in done.stdout.splitlines():
-        addr, colon, text = line.partition(":\t")
-        if colon:
-            found[int(addr, 16)] = text
+    for low, high in spans(functions):
+        for line in disassembly(path, low, high, "-dw"):
+            addr, colon, text = line.partition(":\t")
+            if colon:
+                found[int(addr, 16)] = text
     return found
 
 
-def block(row: Row, addresses: list[int], texts: dict[int, str]) -> Iterator[str]:
+def block(row: Row, addresses: list[int], texts: dict[int, str]) -> str:
     """A block's lines, the first with its count."""
     kind = "unknown" if row.count is None else "hit" if row.count else "missed"
     left = f"left ({row.outcome})" if row.outcome else "left"
     count = left if row.count is None else str(row.count)
-    for number, addr in enumerate(addresses):
-        head = f'<span class="count">{count if not number else "":>14}</span>'
-        yield f'<span class="{kind}">{head}  {addr:8x}  {html.escape(texts.get(addr, ""))}</span>'
+    lines = [f"  {addr:8x}  {html.escape(texts.get(addr, ''))}" for addr in addresses]
+    between = "\n" + " " * WIDTH
+    return f'<span class="{kind}"><span class="count">{count:>{WIDTH}}</span>{between.join(lines)}</span>'
 
 
-def page(title: str, body: str) -> str:
-    return PAGE.format(title=html.escape(title), style=STYLE, body=body)
-
-
-def function_page(function: Function, texts: dict[int, str], addresses: list[int]) -> str:
+def function_page(function: Function, coverage: Coverage, texts: dict[int, str]) -> str:
     lines, reached = [], function.first
     for row in function.rows:
         if row.first != reached:
             lines.append("")
-        low, high = (bisect.bisect_left(addresses, edge) for edge in (row.first, row.end))
-        lines += block(row, addresses[low:high], texts)
+        lines.append(block(row, coverage.listing.between(row.first, row.end), texts))
         reached = row.end
-    return page(function.name, '<p><a href="index.html">all functions</a>; count, address, instruction</p>\n<pre>'
+    return page(function.name, f'<p><a href="{INDEX}">all functions</a>; count, address, instruction</p>\n<pre>'
                 + "\n".join(lines) + "</pre>")
 
 
-def index_row(function: Function) -> str:
-    known = function.known()
-    hit = sum(1 for count in known if count)
-    low = ' class="low"' if not hit else ""
-    return (f'<tr><td class="number">{max(known, default=0)}</td><td class="number"{low}>{hit} of {len(known)}</td>'
-            f'<td class="number">{len(function.rows) - len(known) or ""}</td><td><a '
-            f'href="{function.file()}">{html.escape(function.name)}</a></td></tr>')
+def blocks_cell(function: Function) -> Cell:
+    share = function.hit / len(function.known) if function.known else 0
+    return Cell(f"{function.hit} of {len(function.known)}", share)
+
+
+def left_cell(function: Function) -> Cell:
+    return Cell(str(function.left or ""), function.left)
+
+
+def of_executed(coverage: Coverage, functions: list[Function]) -> str:
+    """The table of the executed functions; counts tell which share of all executed instructions each has."""
+    rows, adds = [], coverage.record.action.adds
+    work = {function.first: function.work(coverage) for function in functions}
+    total = sum(work.values())
+    for function in functions:
+        share = work[function.first] / total if total else 0
+        counts = [Cell(str(function.greatest), function.greatest), Cell(f"{100 * share:.2f} %", share)] if adds else []
+        link = Cell(f'<a href="{function.file()}">{html.escape(function.name)}</a>')
+        rows.append([*counts, blocks_cell(function), left_cell(function), link, Cell(f"{function.first:08x}")])
+    of_counts = {"greatest count": True, "share of instructions": True} if adds else {}
+    heads = {**of_counts, "blocks executed": True, "left": True, "function": False, "address": False}
+    return table(heads, rows, next(iter(heads)))
+
+
+def of_others(functions: list[Function]) -> str:
+    rows = [[Cell(str(len(function.known)), len(function.known)), left_cell(function), Cell(html.escape(function.name)),
+             Cell(f"{function.first:08x}")] for function in functions]
+    return table({"blocks": True, "left": True, "function": False, "address": False}, rows, "blocks")
 
 
 def index_page(coverage: Coverage, functions: list[Function]) -> str:
-    known = [count for function in functions for count in function.known()]
-    hit = sum(1 for count in known if count)
-    heads = "".join(f'<th class="number">{head}</th>'
-                    for head in ("greatest count", "blocks executed", "left")) + "<th>function</th>"
-    rows = sorted(functions, key=lambda function: (-max(function.known(), default=0), function.first))
+    executed = [function for function in functions if function.hit]
+    others = [function for function in functions if not function.hit]
+    hit, known = sum(it.hit for it in functions), sum(len(it.known) for it in functions)
+    head = (f"<p>{hit} of {counted(known, 'block')} executed, in {len(executed)} of "
+            f"{counted(len(functions), 'function')}; a click on a column's head sorts by it</p>\n")
+    parts = [of_executed(coverage, executed)] if executed else []
+    if others:
+        parts.append(f"<h2>{counted(len(others), 'function')} of which no execution was recorded</h2>\n"
+                     + of_others(others))
     return page(f"{os.path.basename(coverage.path)}, {coverage.record.action.name}",
-                f"<p>{hit} of {counted(len(known), 'block')} executed, in {counted(len(functions), 'function')}</p>\n"
-                f"<table><tr>{heads}</tr>\n" + "\n".join(index_row(row) for row in rows) + "</table>")
+                head + "\n".join(parts) + SORTING)
 
 
 def write_code_pages(folder: str, coverage: Coverage) -> None:
+    functions = functions_of(coverage)
+    executed = [function for function in functions if function.hit]
+    progress(f"disassembling {counted(len(executed), 'function')} of {coverage.path}")
+    texts = texts_of(coverage.file, executed)
     progress(f"writing pages of {coverage.path}")
-    texts, functions = disassembly(coverage.path), functions_of(coverage)
-    addresses = sorted(texts)
-    pages = {function.file(): function_page(function, texts, addresses) for function in functions}
+    pages = {function.file(): function_page(function, coverage, texts) for function in executed}
     try:
         os.makedirs(folder, exist_ok=True)
     except OSError as error:
         raise Refusal(f"{folder} can't be made: {error.strerror}") from None
-    write_whole({os.path.join(folder, name): text for name,
-                 text in {"index.html": index_page(coverage, functions), **pages}.items()})
+    write_whole({os.path.join(folder, name): text
+                 for name, text in {INDEX: index_page(coverage, functions), **pages}.items()})
     progress("")

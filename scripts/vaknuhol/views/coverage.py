@@ -11,9 +11,12 @@ from vaknuhol.program.flow_graph import Graph, graph_of
 from vaknuhol.program.listing import Listing
 from vaknuhol.program.program_file import Program
 from vaknuhol.program.source_lines import chosen_files
+from vaknuhol.recording.kept_patches import folder_of
 from vaknuhol.recording.record_file import Record, Row
+from vaknuhol.recording.settling import recorded
 from vaknuhol.views.flow_solving import Flow, InternalError
 from vaknuhol.views.instances import Function, Instances
+from vaknuhol.views.kept_counts import KeptCounts, Solved
 from vaknuhol.views.line_counts import Line, LineCounts
 
 
@@ -41,22 +44,44 @@ class Coverage:
     def __init__(self, program: str, record: Record, source: str | None = None, everything: bool = False,
                  folder: str | None = None) -> None:
         self.path, self.record = program, record
-        self.program = Program(program)
-        record.check_program(self.program)
+        folder = folder or folder_of(program)
+        self.file = recorded(program, record, folder)  # other than the program's own where that is a static PIE
+        self.program = Program(self.file)
+        record.check_program(self.program, program)
         progress(f"reading {program}")
-        self.listing = Listing(program, folder)
+        self.listing = Listing(self.file, folder)
         self.functions = self.listing.function_names()
         self.firsts = {address for address, name in self.listing.functions if not name.startswith(".")}
         self.firsts |= self.listing.call_targets()
         progress(f"reading source lines of {program}")
-        self.info = debug_info(program)
+        self.info = debug_info(self.file)
         self.wanted = chosen_files(self.info, source, everything)
         rows = [] if record.action.is_ring else record.rows
+        progress(f"working out counts of {program}")
         self.flow = self.flow_of(rows)
-        self.copies = Copies(self.info, rows, self.program, self.wanted, self.flow.others)
-        self.instances = Instances(self.copies, self.flow)
-        self.files: dict[str, dict[int, Line]] = LineCounts(self.copies, self.flow, self.instances).lines()
         progress("")
+
+    @functools.cached_property
+    def copies(self) -> Copies:
+        """Which blocks lines have. It is worked out where it is asked for, as all that follows from it."""
+        progress(f"looking up source lines of {self.path}")
+        rows = [] if self.record.action.is_ring else self.record.rows
+        copies = Copies(self.info, rows, self.program, self.wanted, self.flow.others)
+        progress("")
+        return copies
+
+    @functools.cached_property
+    def instances(self) -> Instances:
+        return Instances(self.copies, self.flow)
+
+    @functools.cached_property
+    def files(self) -> dict[str, dict[int, Line]]:
+        """The lines of each file, by their numbers."""
+        found = LineCounts(self.copies, self.flow, self.instances)
+        progress(f"counting source lines of {self.path}")
+        lines = found.lines()
+        progress("")
+        return lines
 
     def flow_of(self, rows: list[Row]) -> Flow:
         """The counts, and what follows from them; of a condition nothing does, since it holds at one block and not at
@@ -64,14 +89,41 @@ class Coverage:
         counts = [row.count for row in rows]
         if self.record.action.is_ring or self.record.action.condition or not self.wanted and None not in counts:
             return Flow(Graph(len(rows), True), counts)
+        kept = None if self.wanted or self.info.parent else KeptCounts(self.listing, rows, self.record.action.adds)
+        solved = kept and kept.found()
+        if solved:
+            return self.flow_of_kept(rows, solved)
+        flow = self.solved(rows)
+        for number, how in flow.how.items():
+            rows[number].count, rows[number].how = flow.counts[number], how
+        if kept and len(flow.graph.kind):
+            kept.keep(Solved({number: (flow.counts[number] or 0, how) for number, how in flow.how.items()},
+                             flow.contradicted))
+        return flow
+
+    @staticmethod
+    def flow_of_kept(rows: list[Row], solved: Solved) -> Flow:
+        """What is kept of the counts; where no function is known by debugging information, nothing is asked of the
+        ways between blocks."""
+        for number, (count, how) in solved.counts.items():
+            rows[number].count, rows[number].how = count, how
+        flow = Flow(Graph(len(rows), True), [row.count for row in rows])
+        flow.contradicted = solved.contradicted
+        return flow
+
+    def solved(self, rows: list[Row]) -> Flow:
+        """The counts, with those of all ways between blocks."""
+        counts = [row.count for row in rows]
         try:
-            flow = Flow(graph_of(rows, self.program, self.listing), counts, not self.record.action.adds)
+            return Flow(graph_of(rows, self.program, self.listing), counts, not self.record.action.adds)
         except InternalError as error:
             warn(f"internal error: {error}, so no count is solved: please report it, with the program and the record")
             return Flow(Graph(len(rows), True), counts)
-        for number, how in flow.how.items():
-            rows[number].count, rows[number].how = flow.counts[number], how
-        return flow
+
+    @functools.cached_property
+    def ways(self) -> Flow:
+        """The counts of all ways between blocks, also where no line asks for them."""
+        return self.flow if len(self.flow.graph.kind) else self.solved(self.record.rows)
 
     def places(self, of_executed: bool = False) -> Iterator[tuple[Row, Place]]:
         """The place of each row, or of each block that was executed; of a ring, of each event."""

@@ -8,7 +8,6 @@ import os
 import struct
 from collections.abc import Iterator
 
-from vaknuhol.program.kernel import entry_of
 from vaknuhol.recording.record_file import Row
 from vaknuhol.views.coverage import Coverage
 
@@ -30,10 +29,10 @@ def parts_of(row: Row) -> Iterator[tuple[int, int]]:
 
 def log(coverage: Coverage) -> bytes:
     """The whole log."""
-    base = min(start for start, _, _ in coverage.program.segments) // PAGE * PAGE
+    base = coverage.program.base or min(start for start, _, _ in coverage.program.segments) // PAGE * PAGE
     end = -(-coverage.program.end // PAGE) * PAGE
     entries = [ENTRY.pack(at - base, length, 0) for row in coverage.record.rows if row.count for at,
                length in parts_of(row)]
-    head = HEAD.format(base=base, end=end, entry=entry_of(coverage.path), path=os.path.realpath(coverage.path),
+    head = HEAD.format(base=base, end=end, entry=coverage.program.entry, path=os.path.realpath(coverage.path),
                        count=len(entries))
     return head.encode() + b"".join(entries)

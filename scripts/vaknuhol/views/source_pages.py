@@ -1,5 +1,7 @@
 """Pages for a browser, by genhtml of the package lcov. A line of which nothing is known is in no tracefile, and genhtml
-shows it as one without code: it is marked afterwards, and their number stands in the title of each page."""
+shows it as one without code: it is marked afterwards, and their number stands in the title of each page. In genhtml's
+lists by name, folders, files and functions that were executed are put before the others; where it sorts functions by
+their counts, the greatest count is put first."""
 import glob
 import os
 import re
@@ -15,6 +17,10 @@ from vaknuhol.views import lcov
 from vaknuhol.views.coverage import Coverage
 
 PAGE = ".gcov.html"
+ROW = re.compile(r' *<tr>\s*<td class="cover(?:File|Fn)">.*?\n *</tr>\n'
+                 r'(?= *(?:<tr>\s*<td class="cover(?:File|Fn)">|</table>))', re.S)
+EXECUTED = re.compile(r'<td class="cover(?:Num|Fn)(?:Lo|Med|Hi)">([0-9]+)')
+BY_NAME, BY_COUNT = ("index.html", ".func.html"), ".func-sort-c.html"
 UNKNOWN = '<span class="lineUnknown" style="background-color: #dddddd" title="unknown, since its blocks were left">'
 
 
@@ -47,6 +53,23 @@ def mark_unknown(folder: str, unknown: dict[str, list[int]]) -> None:
             write_whole({page: with_marks(text, numbers).encode(errors="surrogateescape")})
 
 
+def in_order(name: str, page: str) -> str:
+    """A list with what was executed first; by counts, with the greatest count first."""
+    rows = list(ROW.finditer(page))
+    counts = [int(found[1]) if (found := EXECUTED.search(row[0])) else 0 for row in rows]
+    places = sorted(range(len(rows)), key=lambda at: -counts[at] if name.endswith(BY_COUNT) else not counts[at])
+    if not rows:
+        return page
+    return page[:rows[0].start()] + "".join(rows[at][0] for at in places) + page[rows[-1].end():]
+
+
+def order_lists(folder: str) -> None:
+    for path in glob.glob(f"{glob.escape(folder)}/**/*.html", recursive=True):
+        if path.endswith((*BY_NAME, BY_COUNT)):
+            page = read_bytes(path).decode(errors="surrogateescape")
+            write_whole({path: in_order(path, page).encode(errors="surrogateescape")})
+
+
 def write_html(folder: str, coverage: Coverage) -> None:
     if not shutil.which("genhtml"):
         raise Refusal("needs genhtml (package lcov), which is not here")
@@ -66,3 +89,4 @@ def write_html(folder: str, coverage: Coverage) -> None:
     if done.returncode:
         raise Refusal(f"genhtml makes no pages: {(done.stderr.strip() or 'no reason').splitlines()[-1]}")
     mark_unknown(folder, unknown)
+    order_lists(folder)

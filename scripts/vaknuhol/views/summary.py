@@ -5,8 +5,10 @@ import os
 from collections.abc import Callable, Iterator
 
 from vaknuhol.messages import counted, rated
+from vaknuhol.program import function_names
 from vaknuhol.recording.record_file import Record, Row
 from vaknuhol.recording.thread_use import thread_notes
+from vaknuhol.views.costs import Costs
 from vaknuhol.views.coverage import Coverage, Place, namer
 from vaknuhol.views.flow_solving import ASSUMED
 
@@ -85,6 +87,21 @@ def of_hottest(coverage: Coverage, places: list[tuple[Row, Place]], names: Calla
         yield f"{count:>12}  {text}"
 
 
+def of_instructions(coverage: Coverage) -> Iterator[str]:
+    """The ten functions in which most instructions were executed; of blocks that are most of their functions."""
+    if not coverage.record.action.adds or coverage.record.action.condition:
+        return
+    costs = Costs(coverage)
+    found = costs.greatest()
+    if not found or not costs.are_of_functions():
+        return
+    shown, names = min(TEN, len(found)), function_names.namer(costs.known.name(first) for first, _ in found[:TEN])
+    yield (f"{'instructions':>12} {'share':>8}  the {f'{shown} functions' if shown > 1 else 'function'} with the most, "
+           f"of {costs.total} instructions in all")
+    for first, cost in found[:TEN]:
+        yield f"{cost:>12} {percent(cost, costs.total):>8}  {names(costs.known.name(first))}"
+
+
 def last_of(events: int) -> str:
     """Which of so many events are shown."""
     if events > TEN:
@@ -133,5 +150,6 @@ def summary(coverage: Coverage) -> Iterator[str]:
         yield from of_files(coverage)
         yield from of_functions(coverage)
         yield from of_hottest(coverage, places, names)
+        yield from of_instructions(coverage)
     yield from of_flow(coverage)
     yield from of_run(record)

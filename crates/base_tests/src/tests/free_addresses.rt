@@ -154,45 +154,43 @@ fn what_is_taken_is_no_longer_free(rt: HostRuntime) -> Result<(), Fail> {
     Ok(())
 }
 
+/// The ends of one range that is taken, nothing where they are equal, a number of pages, and the first run of so many: the page at
+/// 0x20000; all but the last page that can be free, and one address more; all addresses but the last.
+const FREE_PAGES: [((u32, u32), u32, Option<u32>); 11] = [
+    ((0, 0), 1, Some(0x20000)),
+    ((0, 0), 0x7FFD0, Some(0x20000)),
+    ((0, 0), 0x7FFD1, None),
+    ((0, 0), 0xFFFFFFFF, None),
+    ((0x20FFF, 0x21000), 1, Some(0x21000)),
+    ((0x20FFF, 0x21000), 0x7FFCF, Some(0x21000)),
+    ((0x20FFF, 0x21000), 0x7FFD0, None),
+    ((0x20000, 0x7FFEF000), 1, Some(0x7FFEF000)),
+    ((0x20000, 0x7FFEF000), 2, None),
+    ((0x20000, 0x7FFEF001), 1, None),
+    ((0, 0xFFFFFFFF), 1, None),
+];
+
+/// Numbers of pages, and the first run of so many among what `TAKEN` leaves free.
+const FREE_BESIDE: [(u32, Option<u32>); 4] = [
+    (1, Some(0x20000)),
+    (2, Some(0x28000)),
+    (0x7FFC5, Some(0x28000)),
+    (0x7FFC6, None),
+];
+
 #[test]
 fn free_pages(rt: HostRuntime) -> Result<(), Fail> {
-    // The page at 0x20000; all but the last page that can be free, and one address more; all addresses but the last.
-    let first = Range {
-        lo: 0x20FFF,
-        hi: 0x21000,
-    };
-    let most = Range {
-        lo: 0x20000,
-        hi: 0x7FFEF000,
-    };
-    let more = Range {
-        lo: 0x20000,
-        hi: 0x7FFEF001,
-    };
-    let whole = Range {
-        lo: 0,
-        hi: 0xFFFFFFFF,
-    };
-    let cases: [(&[Range], u32, Option<u32>); 15] = [
-        (&[], 1, Some(0x20000)),
-        (&[], 0x7FFD0, Some(0x20000)),
-        (&[], 0x7FFD1, None),
-        (&[], 0xFFFFFFFF, None),
-        (&TAKEN, 1, Some(0x20000)),
-        (&TAKEN, 2, Some(0x28000)),
-        (&TAKEN, 0x7FFC5, Some(0x28000)),
-        (&TAKEN, 0x7FFC6, None),
-        (&[first], 1, Some(0x21000)),
-        (&[first], 0x7FFCF, Some(0x21000)),
-        (&[first], 0x7FFD0, None),
-        (&[most], 1, Some(0x7FFEF000)),
-        (&[most], 2, None),
-        (&[more], 1, None),
-        (&[whole], 1, None),
-    ];
-    for (taken, pages, found) in cases.iter() {
-        let space = Space::new(rt.alloc(), taken)?;
-        assert_eq!(rt; space.least_pages((*pages).max(1)), *found);
+    for &(ends, pages, found) in &FREE_PAGES {
+        let mut taken = Vec::new(rt.alloc());
+        if let Some(range) = range(ends) {
+            taken.push(range)?;
+        }
+        let space = Space::new(rt.alloc(), &taken)?;
+        assert_eq!(rt; space.least_pages(pages.max(1)), found);
+    }
+    let space = Space::new(rt.alloc(), &TAKEN)?;
+    for &(pages, found) in &FREE_BESIDE {
+        assert_eq!(rt; space.least_pages(pages.max(1)), found);
     }
     Ok(())
 }

@@ -14,8 +14,7 @@ use scheme_succ::find::find_t2;
 use start_list::entry::StartEntry;
 use start_list::starts::{Starts, ascend};
 use start_list::turn::Turn;
-use std::alloc::{AllocError, Global};
-use std::test::Fail;
+use std::alloc::Global;
 
 /// The most bytes of an event's code.
 const MOST_EVENT: u32 = 80;
@@ -36,30 +35,34 @@ fn is_free(locks: &Locks, site: &StartEntry) -> bool
     true
 }
 
-/// A digit for each start, which is 1 where its instruction shares bytes with another listed one; an error where what is given has no
+/// A digit for each start, which is 1 where its instruction shares bytes with another listed one; nothing where what is given has no
 /// starts.
-pub fn marks(alloc: Global, given: &Given) -> Result<String, Fail> {
-    let elf = read_written(alloc, &given.file)?;
+pub fn marks(alloc: Global, given: &Given) -> Option<String> {
+    let elf = read_written(alloc, &given.file).ok()?;
     if !ascend(&given.starts) {
-        return Err(Fail::from("starts that don't ascend"));
+        return None;
     }
-    let starts = Starts::build(alloc, &elf, &given.starts)?;
+    let Ok(starts) = Starts::build(alloc, &elf, &given.starts) else {
+        return None;
+    };
     let mut text = String::new(alloc);
     for entry in starts.entries() {
-        text.push(if entry.shared { '1' } else { '0' })?;
+        text.push(if entry.shared { '1' } else { '0' }).ok()?;
     }
-    Ok(text)
+    Some(text)
 }
 
-/// The plans of the five schemes for the site; an error where what is given makes no turn.
+/// The plans of the five schemes for the site; nothing where what is given makes no turn, or the site shares bytes.
 ///
 /// The file is read as one that begins at 0x10000 at the lowest, so that a site may lie below the space.
-pub fn planned(alloc: Global, given: &Given) -> Result<[Option<Plan>; 5], Fail> {
-    let elf = read_written(alloc, &given.file)?;
+pub fn planned(alloc: Global, given: &Given) -> Option<[Option<Plan>; 5]> {
+    let elf = read_written(alloc, &given.file).ok()?;
     if !ascend(&given.starts) {
-        return Err(Fail::from("starts that don't ascend"));
+        return None;
     }
-    let starts = Starts::build(alloc, &elf, &given.starts)?;
+    let Ok(starts) = Starts::build(alloc, &elf, &given.starts) else {
+        return None;
+    };
     let turn = Turn {
         elf: &elf,
         starts: &starts,
@@ -76,7 +79,7 @@ pub fn planned(alloc: Global, given: &Given) -> Result<[Option<Plan>; 5], Fail> 
         && given.event_size <= MOST_EVENT
     {
         let site = &entries[given.place];
-        Ok([
+        Some([
             find_b1(&turn, site),
             find_b2(&turn, site),
             find_t1(&turn, site),
@@ -84,32 +87,32 @@ pub fn planned(alloc: Global, given: &Given) -> Result<[Option<Plan>; 5], Fail> 
             find_t3(&turn, site),
         ])
     } else {
-        Err(Fail::from("no site"))
+        None
     }
 }
 
 /// The scheme, the place of the trampoline with the event and the place and start of one without, each write's address and bytes before
 /// and after it, and each run of punned bytes; `-` where there is no plan.
-pub fn spelled(alloc: Global, plan: &Option<Plan>) -> Result<String, AllocError> {
+pub fn spelled(alloc: Global, plan: &Option<Plan>) -> Option<String> {
     let Some(plan) = plan else {
-        return String::from_str(alloc, "-");
+        return String::from_str(alloc, "-").ok();
     };
-    let mut text = format!(in alloc; "{:?}", plan.scheme)?;
+    let mut text = format!(in alloc; "{:?}", plan.scheme).ok()?;
     for tramp in plan.tramps.as_slice() {
         if tramp.event {
-            write!(text, ":{:08x}", tramp.place)?;
+            write!(text, ":{:08x}", tramp.place).ok()?;
         } else {
-            write!(text, ":{:08x}/{:08x}", tramp.place, tramp.start)?;
+            write!(text, ":{:08x}/{:08x}", tramp.place, tramp.start).ok()?;
         }
     }
     for write in plan.writes.as_slice() {
-        let was = hex::encode(alloc, write.was.as_slice())?;
-        let now = hex::encode(alloc, write.now.as_slice())?;
-        write!(text, ":{:08x}:{was}:{now}", write.addr)?;
+        let was = hex::encode(alloc, write.was.as_slice()).ok()?;
+        let now = hex::encode(alloc, write.now.as_slice()).ok()?;
+        write!(text, ":{:08x}:{was}:{now}", write.addr).ok()?;
     }
     for pun in plan.puns.as_slice() {
-        let bytes = hex::encode(alloc, pun.bytes.as_slice())?;
-        write!(text, ":{:08x}:{bytes}", pun.addr)?;
+        let bytes = hex::encode(alloc, pun.bytes.as_slice()).ok()?;
+        write!(text, ":{:08x}:{bytes}", pun.addr).ok()?;
     }
-    Ok(text)
+    Some(text)
 }

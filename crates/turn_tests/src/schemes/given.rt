@@ -11,7 +11,6 @@ use elf_read::writing::{self, load_entry};
 use pun_base::limits::PAGE_LEN;
 use pun_base::range::Range;
 use std::alloc::Global;
-use std::test::Fail;
 
 /// A file, and what a turn is made of beside it.
 #[derive(Drop)]
@@ -31,102 +30,100 @@ const LOW: u32 = 0x2_0000;
 const HIGH: u32 = 0x7FFF_0000;
 
 /// The file of a text at an address, where it is entered; a segment begins at each stroke.
-fn file_of(alloc: Global, text: &str, addr: u32) -> Result<Vec<u8>, Fail> {
+fn file_of(alloc: Global, text: &str, addr: u32) -> Option<Vec<u8>> {
     let place = PAGE_LEN + addr % PAGE_LEN;
     let (start, offset) = (u64::from(addr), u64::from(place));
     let mut entries = Vec::new(alloc);
     let mut text_bytes: Vec<u8> = Vec::new(alloc);
     for part in text.split('/') {
-        let bytes = hex::decode(alloc, part)?;
+        let bytes = hex::decode(alloc, part).ok()?;
         let done = text_bytes.len() as u64;
-        entries.push(load_entry(
-            PF_R | PF_X,
-            done.saturating_add(offset),
-            done.saturating_add(start),
-            bytes.len() as u64,
-        ))?;
-        text_bytes.extend_from_slice(&bytes)?;
+        entries
+            .push(load_entry(
+                PF_R | PF_X,
+                done.saturating_add(offset),
+                done.saturating_add(start),
+                bytes.len() as u64,
+            ))
+            .ok()?;
+        text_bytes.extend_from_slice(&bytes).ok()?;
     }
     let entries = entries.as_slice();
     if entries.len() >= 0x1_0000 {
-        return Err(Fail::from("more segments than a table has"));
+        return None;
     }
-    Ok(writing::file_with(alloc, start, entries, place as usize, &text_bytes)?)
+    writing::file_with(alloc, start, entries, place as usize, &text_bytes).ok()
 }
 
-fn number(digits: &str) -> Result<u32, Fail> {
-    Ok(u32::from_str_radix(digits, 16)?)
+fn number(digits: &str) -> Option<u32> {
+    u32::from_str_radix(digits, 16).ok()
 }
 
-fn starts_of(alloc: Global, addr: u32, offsets: &str) -> Result<Vec<u32>, Fail> {
+fn starts_of(alloc: Global, addr: u32, offsets: &str) -> Option<Vec<u32>> {
     let mut starts = Vec::new(alloc);
-    for offset in hex::decode(alloc, offsets)?.iter() {
-        starts.push(addr.saturating_add(u32::from(*offset)))?;
+    for offset in hex::decode(alloc, offsets).ok()?.iter() {
+        starts.push(addr.saturating_add(u32::from(*offset))).ok()?;
     }
-    Ok(starts)
+    Some(starts)
 }
 
 /// Takes the addresses from one up to and without another, if there are any.
-fn take(alloc: Global, space: &mut Space, lo: u32, hi: u32) -> Result<(), Fail> {
+fn take(alloc: Global, space: &mut Space, lo: u32, hi: u32) -> Option<()> {
     if lo >= hi {
-        return Ok(());
+        return Some(());
     }
     let size = hi - lo;
-    space.reserve(alloc, 1)?;
-    match space.least_fit(i64::from(lo), i64::from(lo) + 1, size, None) {
-        None => Err(Fail::from("not free")),
-        Some(lo) => {
-            space.take(Range { lo, hi: lo + size });
-            Ok(())
-        }
-    }
+    space.reserve(alloc, 1).ok()?;
+    let lo = space.least_fit(i64::from(lo), i64::from(lo) + 1, size, None)?;
+    space.take(Range { lo, hi: lo + size });
+    Some(())
 }
 
 /// The space of ascending free ranges.
-fn space_of(alloc: Global, ranges: &str) -> Result<Space, Fail> {
-    let mut space = Space::new(alloc, &[])?;
+fn space_of(alloc: Global, ranges: &str) -> Option<Space> {
+    let mut space = Space::new(alloc, &[]).ok()?;
     let mut last = LOW;
     for range in ranges.split(',').filter(|range| *range != "-") {
-        let (first, end) = range.split_once('-').ok_or("no range")?;
+        let (first, end) = range.split_once('-')?;
         take(alloc, &mut space, last, number(first)?)?;
         last = number(end)?;
     }
     take(alloc, &mut space, last, HIGH)?;
-    Ok(space)
+    Some(space)
 }
 
-fn locks_of(alloc: Global, addr: u32, words: &str) -> Result<Locks, Fail> {
+fn locks_of(alloc: Global, addr: u32, words: &str) -> Option<Locks> {
     let mut locks = Locks::new(alloc);
     for word in words.split(',').filter(|word| *word != "-") {
-        locks.reserve(alloc, 1)?;
+        locks.reserve(alloc, 1).ok()?;
         match word.split_once('=') {
             None => locks.pun(addr.saturating_add(number(word)?)),
             Some((offset, value)) => {
                 let at = addr.saturating_add(number(offset)?);
-                let value = u8::from_str_radix(value, 16)?;
+                let value = u8::from_str_radix(value, 16).ok()?;
                 if locks.is_free(at) {
                     locks.change(at, value);
                 }
             }
         }
     }
-    Ok(locks)
+    Some(locks)
 }
 
-/// What these words tell, for a guest of one thread; an error where they tell no turn.
-pub fn read_turn(alloc: Global, words: &[&str]) -> Result<Given, Fail> {
+/// What these words tell; nothing where they tell no turn.
+pub fn read_turn(alloc: Global, words: &[&str], threads: bool) -> Option<Given> {
     if let [text, addr, offsets, place, event, ranges, locks] = words {
         let addr = number(addr)?;
-        Ok(Given {
+        Some(Given {
             file: file_of(alloc, text, addr)?,
             starts: starts_of(alloc, addr, offsets)?,
             place: number(place)? as usize,
             event_size: number(event)?,
-            threads: false,
+            threads,
             space: space_of(alloc, ranges)?,
             locks: locks_of(alloc, addr, locks)?,
         })
     } else {
-        Err(Fail::from("not seven words"))
+        None
     }
 }

@@ -4,8 +4,8 @@ use Rattle.pun_base.specs.Ranges.{ends}
 use Rattle.pun_base.specs.declared.action.Action.{Action}
 use Rattle.pun_base.specs.declared.action.Action.TheVariants.{Cover, Count, Ring, When}
 use Rattle.site_turns.specs.Modes.{IsShared}
-use Rattle.command_words.specs.Named.{names_of, check_names_of, step_names_of, thread_names_of, unpatch_names_of}
-use Rattle.command_words.specs.Words.{Command, Patch, Step, Gen, Load, Threads, ThreadsReported, ThreadsLoaded, Unpatch, command_of}
+use Rattle.command_words.specs.Named.{names_of, check_names_of, step_names_of, thread_names_of, unpatch_names_of, settle_names_of, unsettle_names_of}
+use Rattle.command_words.specs.Words.{Command, Patch, Step, Gen, Load, Threads, ThreadsReported, ThreadsLoaded, Unpatch, Settle, Unsettle, command_of}
 use Rattle.command_io.specs.Failing.{seen_as, told_of}
 use Rattle.command_io.specs.Verdict.{patching}
 use Rattle.patch_commands.specs.LoadAnswers.{with_stub}
@@ -16,6 +16,7 @@ use Rattle.commands.proofs.ThreadsRuns.{threads_ended}
 use Rattle.commands.proofs.GenRuns.{gen_ran}
 use Rattle.commands.proofs.InspectingRuns.{check_ran, step_ran}
 use Rattle.commands.proofs.PatchReversal.{unpatch_ended}
+use Rattle.commands.proofs.SettleRuns.{settle_ended, unsettle_ended}
 use Rattle.command_words.proofs.CommandForms.{IsThreadAction, known_of}
 use Rattle.commands.proofs.LostWords.{words_lost}
 use Rattle.commands.proofs.run.run.Goals as goal
@@ -160,6 +161,18 @@ returns-in-Ok-Unpatch-clause-does g c =
     let n = unpatch_names_of c.in-Ok-Unpatch.names in
     of_words (map string_bytes c.args.words.now) (Unpatch n) _ _ _ _ _ (rw c.in-Ok-Unpatch.field-0-is at c.in-Ok-Unpatch.ensures)
     (unpatch_ended n _ _ _ _ (seen_as told_of c.undo.result) _ c.undo.ensures.rest c.undo.ensures.ends c.tell-in-Ok-Unpatch.ensures.printed)
+
+pub returns-in-Ok-Settle-clause-does : goal.returns-in-Ok-Settle-clause-does
+returns-in-Ok-Settle-clause-does g c =
+    let n = settle_names_of c.in-Ok-Settle.names in
+    of_words (map string_bytes c.args.words.now) (Settle n c.in-Ok-Settle.base) _ _ _ _ _ (rw c.in-Ok-Settle.field-0-is at c.in-Ok-Settle.ensures)
+    (settle_ended n c.in-Ok-Settle.base _ _ _ _ (seen_as told_of c.settle_file.result) _ c.settle_file.ensures.rest c.settle_file.ensures.ends c.tell-in-Ok-Settle.ensures.printed)
+
+pub returns-in-Ok-Unsettle-clause-does : goal.returns-in-Ok-Unsettle-clause-does
+returns-in-Ok-Unsettle-clause-does g c =
+    let n = unsettle_names_of c.in-Ok-Unsettle.names in
+    of_words (map string_bytes c.args.words.now) (Unsettle n) _ _ _ _ _ (rw c.in-Ok-Unsettle.field-0-is at c.in-Ok-Unsettle.ensures)
+    (unsettle_ended n _ _ _ _ (seen_as told_of c.unsettle_file.result) _ c.unsettle_file.ensures.rest c.unsettle_file.ensures.ends c.tell-in-Ok-Unsettle.ensures.printed)
 
 pub returns-in-Err-clause-does : goal.returns-in-Err-clause-does
 returns-in-Err-clause-does g c = words_lost (map string_bytes c.args.words.now) (command_of (map string_bytes c.args.words.now)) _ _ refl

@@ -2,7 +2,7 @@ use Rattle.std.proofs.Common.{ℕ, List, [], length, refl, ap, ◌∙◌, subst}
 use Rattle.insn_form.specs.Machine.{Machine}
 use Rattle.start_entries.specs.Entries.{entries_of}
 use Rattle.image_step.specs.Running.{Shows, machine_in}
-use Rattle.image_step.specs.Starting.{start_machine}
+use Rattle.image_runs.specs.Starting.{start_machine}
 use Rattle.guest_findings.specs.Findings.{counters}
 use Rattle.guest_findings.specs.Generating.{RanUntil}
 use Rattle.guest_findings.proofs.RunPairs.{ran_both}

@@ -1,8 +1,9 @@
 use Rattle.std.proofs.Common.{◌≡◌, ℕ, List, length, ap, ◌∙◌, subst}
 use Rattle.elf_read.specs.Entries.{segments}
 use Rattle.start_entries.specs.Entries.{entries_of}
-use Rattle.image_check.specs.Rules.{Case}
-use Rattle.image_check.specs.Verdict.{case_of, IsVerdict}
+use Rattle.sound_images.specs.Rules.{Case}
+use Rattle.sound_images.specs.Cases.{case_of}
+use Rattle.image_check.specs.Verdict.{IsVerdict}
 use Rattle.guest_findings.specs.Generating.{RanBoth}
 use Rattle.guest_findings.proofs.guest_findings.findings.Goals as goal
 

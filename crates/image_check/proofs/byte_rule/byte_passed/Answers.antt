@@ -1,5 +1,5 @@
 use Rattle.std.proofs.Common.{refl, sym, ◌∙◌}
-use Rattle.image_check.specs.Verdict.{case_of}
+use Rattle.sound_images.specs.Cases.{case_of}
 use Rattle.image_check.proofs.ByteStretches.{gap_holds}
 use Rattle.image_check.proofs.byte_rule.byte_passed.Goals as goal
 

@@ -1,7 +1,7 @@
 use Rattle.std.proofs.Common.{refl, arith}
 use Rattle.elf_read.specs.Find.{segment_holding}
 use Rattle.elf_read.proofs.HoldingSegments.{held_at, inside_at}
-use Rattle.image_check.specs.Verdict.{case_of}
+use Rattle.sound_images.specs.Cases.{case_of}
 use Rattle.image_check.proofs.FileParts.{rest_stands}
 use Rattle.image_check.proofs.ByteStretches.{rest_low, same_holds}
 use Rattle.image_check.proofs.byte_rule.passed_both.Goals as goal

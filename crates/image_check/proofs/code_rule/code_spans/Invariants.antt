@@ -1,7 +1,7 @@
 use Rattle.std.proofs.Common.{◌≡◌, ℕ, List}
 use Rattle.start_entries.specs.declared.entry.StartEntry.{StartEntry}
 use Rattle.image_check.specs.Stretches.{CoversFirst, CodeBroken, EndBelow, code_end}
-use Rattle.image_check.specs.Verdict.{case_of}
+use Rattle.sound_images.specs.Cases.{case_of}
 use Rattle.image_check.proofs.code_rule.code_spans.Given as goal
 
 abbrev pub invariant-loop-code : goal.invariant-loop-code

@@ -1,5 +1,5 @@
 use Rattle.std.proofs.lemmas.Bool.{eqb-true}
-use Rattle.image_check.specs.Verdict.{case_of}
+use Rattle.sound_images.specs.Cases.{case_of}
 use Rattle.image_check.proofs.SkippedSpans.{held_code}
 use Rattle.image_check.proofs.code_rule.is_held.Goals as goal
 

@@ -1,5 +1,5 @@
 use Rattle.std.proofs.Common.{arith}
-use Rattle.image_check.specs.Verdict.{case_of}
+use Rattle.sound_images.specs.Cases.{case_of}
 use Rattle.image_check.proofs.SkippedSpans.{code_keeps}
 use Rattle.image_check.proofs.code_rule.keeps_rule.Goals as goal
 

@@ -1,4 +1,4 @@
-use Rattle.image_check.specs.Verdict.{case_of}
+use Rattle.sound_images.specs.Cases.{case_of}
 use Rattle.image_check.proofs.NearLines.{any_line_near}
 use Rattle.image_check.proofs.RowRule.{both_ways}
 use Rattle.image_check.proofs.entry_rule.entry_fails.Goals as goal

@@ -3,7 +3,7 @@ use Rattle.std.specs.Prelude.{not}
 use Rattle.image_check.specs.declared.flat.ReportLine.{ReportLine}
 use Rattle.image_check.specs.declared.span.Span.{Span}
 use Rattle.image_check.specs.Stretches.{CoversFirst, LineBroken}
-use Rattle.image_check.specs.Verdict.{case_of}
+use Rattle.sound_images.specs.Cases.{case_of}
 use Rattle.image_check.proofs.SkippedSpans.{covers_more, line_keeps, line_has}
 use Rattle.image_check.proofs.entry_rule.entry_spans.Goals as goal
 

@@ -1,6 +1,6 @@
 use Rattle.std.proofs.Common.{ℕ, List}
 use Rattle.image_check.specs.Stretches.{CoversFirst, LineBroken}
-use Rattle.image_check.specs.Verdict.{case_of}
+use Rattle.sound_images.specs.Cases.{case_of}
 use Rattle.image_check.proofs.entry_rule.entry_spans.Given as goal
 
 abbrev pub invariant-loop-line : goal.invariant-loop-line

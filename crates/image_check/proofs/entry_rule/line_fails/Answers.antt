@@ -1,6 +1,6 @@
 use Rattle.std.proofs.Common.{◌≡◌, sym, subst, arith, ℕ, None}
 use Rattle.elf_read.proofs.PlainFronts.{is_false}
-use Rattle.image_check.specs.Rules.{displaced_at}
+use Rattle.sound_images.specs.Rules.{displaced_at}
 use Rattle.image_check.proofs.EntryRule.{last_reason}
 use Rattle.image_check.proofs.entry_rule.line_fails.Goals as goal
 

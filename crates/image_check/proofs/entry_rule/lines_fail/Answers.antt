@@ -2,7 +2,7 @@ use Rattle.std.proofs.Common.{◌↔◌, false, sym, subst, refl, inl, List, ari
 use Rattle.std.proofs.lemmas.List.{drop_more, drop_all}
 use Rattle.image_check.specs.declared.flat.ReportLine.{ReportLine}
 use Rattle.image_check.specs.Jumps.{AnyLineFails}
-use Rattle.image_check.specs.Verdict.{case_of}
+use Rattle.sound_images.specs.Cases.{case_of}
 use Rattle.image_check.proofs.EntryRule.{passed}
 use Rattle.image_check.proofs.entry_rule.lines_fail.Goals as goal
 

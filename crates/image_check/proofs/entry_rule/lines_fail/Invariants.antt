@@ -1,6 +1,6 @@
 use Rattle.std.proofs.Common.{◌↔◌, ℕ, List, drop}
 use Rattle.image_check.specs.Jumps.{AnyLineFails}
-use Rattle.image_check.specs.Verdict.{case_of}
+use Rattle.sound_images.specs.Cases.{case_of}
 use Rattle.image_check.proofs.entry_rule.lines_fail.Given as goal
 
 abbrev pub invariant-loop-line : goal.invariant-loop-line

@@ -1,6 +1,6 @@
 use Rattle.std.proofs.Common.{◌∙◌}
 use Rattle.std.specs.Prelude.{◌==◌}
-use Rattle.image_check.proofs.FixedJumps.{any_found}
+use Rattle.sound_images.proofs.FoundElements.{any_found}
 use Rattle.image_check.proofs.NearStarts.{start_near}
 use Rattle.image_check.proofs.jumps.is_listed.Goals as goal
 

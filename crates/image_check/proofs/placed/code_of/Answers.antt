@@ -5,10 +5,11 @@ use Rattle.trampoline.specs.declared.event.Event.{Event}
 use Rattle.trampoline.specs.Running.{IsEvent}
 use Rattle.image_check.specs.CodeParts.{IsCodeOf}
 use Rattle.image_check.specs.Parts.{line_of}
-use Rattle.image_check.specs.Reports.{event_of}
-use Rattle.image_check.specs.Verdict.{case_of}
-use Rattle.image_check.proofs.LineEvents.{event_is}
-use Rattle.image_check.proofs.CodeAtStarts.{built_code, not_built, read_at}
+use Rattle.sound_images.specs.Reports.{event_of}
+use Rattle.sound_images.specs.Cases.{case_of}
+use Rattle.sound_images.proofs.LineEvents.{event_is}
+use Rattle.sound_images.proofs.ReadInstructions.{read_at}
+use Rattle.image_check.proofs.CodeAtStarts.{built_code, not_built}
 use Rattle.image_check.proofs.placed.code_of.Goals as goal
 
 pub slice_bounds-bytes-end : goal.slice_bounds-bytes-end

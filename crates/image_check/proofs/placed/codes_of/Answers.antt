@@ -5,8 +5,8 @@ use Rattle.list_text.proofs.WordParts.{all_appended}
 use Rattle.image_check.specs.declared.placed_code.PlacedCode.{PlacedCode}
 use Rattle.image_check.specs.CodeParts.{IsPlaced}
 use Rattle.image_check.specs.Parts.{line_of}
-use Rattle.image_check.specs.Verdict.{case_of}
-use Rattle.image_check.specs.Reports.{Line}
+use Rattle.sound_images.specs.Cases.{case_of}
+use Rattle.sound_images.specs.Reports.{Line}
 use Rattle.patch_report.proofs.LongerFronts.{mapped_more}
 use Rattle.image_check.proofs.CodeAtStarts.{line_low}
 use Rattle.image_check.proofs.placed.codes_of.Goals as goal

@@ -2,7 +2,7 @@ use Rattle.std.proofs.Common.{◌≡◌, ℕ, List, map, take}
 use Rattle.std.specs.List.{AllByRecursion}
 use Rattle.image_check.specs.CodeParts.{IsPlaced}
 use Rattle.image_check.specs.Parts.{line_of}
-use Rattle.image_check.specs.Verdict.{case_of}
+use Rattle.sound_images.specs.Cases.{case_of}
 use Rattle.image_check.proofs.placed.codes_of.Given as goal
 
 abbrev pub invariant-loop-line : goal.invariant-loop-line

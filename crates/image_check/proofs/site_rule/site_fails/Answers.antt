@@ -1,5 +1,5 @@
 use Rattle.std.proofs.Common.{inl, refl, sym, ◌∙◌}
-use Rattle.image_check.specs.Verdict.{case_of}
+use Rattle.sound_images.specs.Cases.{case_of}
 use Rattle.image_check.proofs.RowRule.{rows_are, short_is, last_of_three, told}
 use Rattle.image_check.proofs.site_rule.site_fails.Goals as goal
 

@@ -1,10 +1,11 @@
 use Rattle.std.proofs.Common.{sym, ap, ◌∙◌, subst}
 use Rattle.image_check.specs.declared.verdict.Verdict.{Verdict}
 use Rattle.image_check.specs.Parts.{earlier_of}
-use Rattle.image_check.specs.Rules.{Case}
-use Rattle.image_check.specs.Verdict.{case_in, case_of, IsVerdict}
+use Rattle.sound_images.specs.Rules.{Case}
+use Rattle.sound_images.specs.Cases.{case_of}
+use Rattle.image_check.specs.Verdict.{case_in, IsVerdict}
 use Rattle.image_check.proofs.VerdictFold.{judged, yes_followed}
-use Rattle.image_check.proofs.CodeAtStarts.{entries_built}
+use Rattle.sound_images.proofs.ReadInstructions.{entries_built}
 use Rattle.image_check.proofs.verdict.check.Goals as goal
 
 pub returns-clause-verdict : goal.returns-clause-verdict

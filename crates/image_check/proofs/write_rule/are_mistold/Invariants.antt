@@ -3,7 +3,7 @@ use Rattle.std.specs.Prelude.{option_map}
 use Rattle.std.specs.List.{list_any}
 use Rattle.patch_report.specs.Values.{write_value}
 use Rattle.image_check.specs.Parts.{cell_of}
-use Rattle.image_check.specs.Rules.{Case, mistells}
+use Rattle.sound_images.specs.Rules.{Case, mistells}
 use Rattle.image_check.proofs.write_rule.are_mistold.Given as goal
 
 abbrev pub invariant-loop-run : goal.invariant-loop-run

@@ -1,6 +1,6 @@
 use Rattle.std.proofs.Common.{◌≡◌, ◌-◌, ◌≤◌, ◌<◌, ℕ, List, true}
-use Rattle.image_check.specs.Rules as rules
-use Rattle.image_check.specs.Verdict.{case_of}
+use Rattle.sound_images.specs.Rules as rules
+use Rattle.sound_images.specs.Cases.{case_of}
 use Rattle.image_check.proofs.write_rule.are_owned.Given as goal
 
 abbrev pub invariant-loop-addr : goal.invariant-loop-addr

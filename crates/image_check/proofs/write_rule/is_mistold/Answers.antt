@@ -1,5 +1,5 @@
 use Rattle.std.proofs.Common.{◌∙◌, sym}
-use Rattle.image_check.specs.Verdict.{case_of}
+use Rattle.sound_images.specs.Cases.{case_of}
 use Rattle.image_check.proofs.NearWrites.{mistold_near}
 use Rattle.image_check.proofs.write_rule.is_mistold.Goals as goal
 

@@ -3,7 +3,7 @@ use Rattle.std.specs.Prelude.{slice_get}
 use Rattle.std.proofs.lemmas.Option.{get_or_from_slice_get}
 use Rattle.pun_base.specs.declared.plan.Write.{Write}
 use Rattle.image_check.specs.Stretches.{RunBroken}
-use Rattle.image_check.specs.Verdict.{case_of}
+use Rattle.sound_images.specs.Cases.{case_of}
 use Rattle.image_check.proofs.OwnedRuns.{run_keeps}
 use Rattle.image_check.proofs.write_rule.keeps_rule.Goals as goal
 

@@ -1,4 +1,4 @@
-use Rattle.image_check.specs.Verdict.{case_of}
+use Rattle.sound_images.specs.Cases.{case_of}
 use Rattle.image_check.proofs.OwnedRuns.{owned}
 use Rattle.image_check.proofs.write_rule.owned_to.Goals as goal
 

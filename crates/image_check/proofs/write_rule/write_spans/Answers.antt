@@ -2,7 +2,7 @@ use Rattle.std.proofs.Common.{◌≡◌, ◌+◌, ◌∙◌, ℕ, List, get_or, 
 use Rattle.image_check.specs.declared.span.Span.{Span}
 use Rattle.image_check.specs.Parts.{in_span}
 use Rattle.image_check.specs.Stretches.{CoversFirst, RunBroken, run_end}
-use Rattle.image_check.specs.Verdict.{case_of}
+use Rattle.sound_images.specs.Cases.{case_of}
 use Rattle.image_check.proofs.SkippedSpans.{covers_more, ends_more}
 use Rattle.image_check.proofs.FailureSpans.{run_has}
 use Rattle.image_check.proofs.write_rule.write_spans.Goals as goal

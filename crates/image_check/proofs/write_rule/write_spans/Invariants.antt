@@ -1,6 +1,6 @@
 use Rattle.std.proofs.Common.{◌≡◌}
 use Rattle.image_check.specs.Stretches.{CoversFirst, RunBroken, EndBelow, run_end}
-use Rattle.image_check.specs.Verdict.{case_of}
+use Rattle.sound_images.specs.Cases.{case_of}
 use Rattle.image_check.proofs.write_rule.write_spans.Given as goal
 
 abbrev pub invariant-loop-run : goal.invariant-loop-run

@@ -1,6 +1,6 @@
 use Rattle.std.proofs.Common.{refl}
-use Rattle.image_step.specs.Starting.{regions_memory}
-use Rattle.image_step.proofs.RegionsOutsideImages.{both_apart}
+use Rattle.image_runs.specs.Starting.{regions_memory}
+use Rattle.image_runs.proofs.RegionsOutsideImages.{both_apart}
 use Rattle.image_step.proofs.laws.start_pair.Goals as goal
 
 pub returns : goal.returns

@@ -1,6 +1,6 @@
 use Rattle.std.proofs.Common.{◌≡◌, drop}
 use Rattle.insn_form.specs.Machine.{avoids_writes}
-use Rattle.image_step.specs.Listed.{is_listed_byte}
+use Rattle.image_runs.specs.Listed.{is_listed_byte}
 use Rattle.image_step.proofs.quieting.avoid_writes.Given as goal
 
 abbrev pub invariant-loop-write : goal.invariant-loop-write

@@ -1,6 +1,6 @@
 use Rattle.std.proofs.Common.{◌≡◌, false, sym, ◌∙◌}
 use Rattle.cpu_state.specs.Bytes.{avoids}
-use Rattle.image_step.specs.Listed.{is_listed_byte}
+use Rattle.image_runs.specs.Listed.{is_listed_byte}
 use Rattle.image_step.proofs.AccessesAndStarts.{avoid_more}
 use Rattle.image_step.proofs.quieting.avoids.Goals as goal
 

@@ -1,6 +1,6 @@
 use Rattle.std.proofs.Common.{◌≡◌, ◌-◌}
 use Rattle.cpu_state.specs.Bytes.{avoids}
-use Rattle.image_step.specs.Listed.{is_listed_byte}
+use Rattle.image_runs.specs.Listed.{is_listed_byte}
 use Rattle.image_step.proofs.quieting.avoids.Given as goal
 
 abbrev pub invariant-loop-turn : goal.invariant-loop-turn

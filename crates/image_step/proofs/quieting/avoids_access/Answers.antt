@@ -1,6 +1,6 @@
 use Rattle.std.proofs.Common.{◌≡◌, Bool, true, false, ◌&&◌, refl, ap, ◌∙◌}
 use Rattle.cpu_state.specs.Bytes.{avoids}
-use Rattle.image_step.specs.Listed.{is_listed_byte}
+use Rattle.image_runs.specs.Listed.{is_listed_byte}
 use Rattle.image_step.proofs.quieting.avoids_access.Goals as goal
 
 and_last : (b : Bool) → b ≡ (b && true)

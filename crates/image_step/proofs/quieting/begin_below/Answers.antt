@@ -1,5 +1,5 @@
 use Rattle.std.proofs.Common.{◌≡◌, ℕ, ◌+◌, ◌-◌, subst, arith}
-use Rattle.image_step.specs.Listed.{BeginBelow}
+use Rattle.image_runs.specs.Listed.{BeginBelow}
 use Rattle.image_step.proofs.quieting.begin_below.Goals as goal
 
 pub returns-then-count-eq0 : goal.returns-then-count-eq0

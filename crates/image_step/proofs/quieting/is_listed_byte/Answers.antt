@@ -1,6 +1,6 @@
 use Rattle.std.proofs.Common.{◌≡◌, ◌≤◌, true, List, length, ap, ◌∙◌, arith}
 use Rattle.start_entries.specs.declared.entry.StartEntry.{StartEntry}
-use Rattle.image_step.specs.Listed.{are_short, is_listed_byte}
+use Rattle.image_runs.specs.Listed.{are_short, is_listed_byte}
 use Rattle.image_step.proofs.InstructionByteSearch.{sought}
 use Rattle.image_step.proofs.quieting.is_listed_byte.Goals as goal
 

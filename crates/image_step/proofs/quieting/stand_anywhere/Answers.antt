@@ -1,6 +1,6 @@
 use Rattle.std.proofs.Common.{◌∙◌, ap}
 use Rattle.std.specs.Prelude.{is_some}
-use Rattle.image_step.specs.Listed.{is_known_start, is_start}
+use Rattle.image_runs.specs.Listed.{is_known_start, is_start}
 use Rattle.image_step.proofs.AccessesAndStarts.{found_known, found_start, has_form}
 use Rattle.image_step.proofs.quieting.stand_anywhere.Goals as goal
 

@@ -3,7 +3,7 @@ use Rattle.std.proofs.lemmas.Result.{on_ok_weaker}
 use Rattle.pun_base.specs.Memory.{joined}
 use Rattle.cpu_state.specs.Adding.{IsFree}
 use Rattle.cpu_state.specs.Regions.{cell_at}
-use Rattle.image_step.proofs.MemorySoFar.{segment_laid, segment_size}
+use Rattle.image_runs.proofs.MemorySoFar.{segment_laid, segment_size}
 use Rattle.image_step.proofs.start_memory.add_segment.Goals as goal
 
 pub returns : goal.returns

@@ -7,7 +7,7 @@ use Rattle.elf_read.specs.Image.{chunk_of, image}
 use Rattle.elf_read.proofs.AcceptedFiles.{is_accepted}
 use Rattle.elf_read.proofs.SegmentSearch.{no_segment}
 use Rattle.std.proofs.lemmas.List.{drop_more}
-use Rattle.image_step.proofs.MemorySoFar.{LoadedSoFar, loaded_all, loaded_more, loaded_none, segment_free}
+use Rattle.image_runs.proofs.MemorySoFar.{LoadedSoFar, loaded_all, loaded_more, loaded_none, segment_free}
 use Rattle.image_step.proofs.start_memory.image_memory.Goals as goal
 
 pub loop-segment-init : goal.loop-segment-init

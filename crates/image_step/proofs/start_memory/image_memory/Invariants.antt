@@ -1,5 +1,5 @@
 use Rattle.std.proofs.Common.{drop}
-use Rattle.image_step.proofs.MemorySoFar.{LoadedSoFar}
+use Rattle.image_runs.proofs.MemorySoFar.{LoadedSoFar}
 use Rattle.image_step.proofs.start_memory.image_memory.Given as goal
 
 abbrev pub invariant-loop-segment : goal.invariant-loop-segment

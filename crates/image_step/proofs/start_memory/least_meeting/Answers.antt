@@ -1,7 +1,7 @@
 use Rattle.std.proofs.Common.{◌≡◌, true, false, List, ap, sym, ◌∙◌}
 use Rattle.elf_read.specs.Entries.{loads, segments}
 use Rattle.elf_read.specs.declared.segment.Segment.{Segment}
-use Rattle.image_step.specs.Starting.{meets_image}
+use Rattle.image_runs.specs.Starting.{meets_image}
 use Rattle.image_step.proofs.FirstMeetingRegion.{sought_all, sought_item, sought_here, sought_later}
 use Rattle.image_step.proofs.start_memory.least_meeting.Goals as goal
 

@@ -1,7 +1,7 @@
 use Rattle.std.proofs.Common.{◌+◌, List, drop, subst, arith, length-drop}
 use Rattle.cpu_state.specs.declared.script_regions.Region.{Region}
 use Rattle.image_step.proofs.Entries.{left_from}
-use Rattle.image_step.proofs.MemorySoFar.{AddedSoFar, added_all, added_bounded, added_more, added_none, region_free}
+use Rattle.image_runs.proofs.MemorySoFar.{AddedSoFar, added_all, added_bounded, added_more, added_none, region_free}
 use Rattle.image_step.proofs.start_memory.start_memory.Goals as goal
 
 pub loop-region-init : goal.loop-region-init

@@ -4,7 +4,7 @@ use Rattle.start_entries.specs.Entries.{entries_of}
 use Rattle.image_step.specs.declared.delivery.Due.{Due}
 use Rattle.image_step.specs.Running.{Shows}
 use Rattle.image_step.specs.Scheduled.{EndsBy, GoesOn, are_below}
-use Rattle.image_step.specs.Starting.{start_machine, least_met_of}
+use Rattle.image_runs.specs.Starting.{start_machine, least_met_of}
 use Rattle.inspect_commands.specs.StepTallies.{step_tally_of}
 use Rattle.inspect_commands.specs.StepText.{step_text}
 use Rattle.inspect_commands.proofs.StepVerdicts.{ran}

@@ -2,7 +2,7 @@ use Rattle.std.proofs.Common.{List, map, sym, ◌∙◌, subst}
 use Rattle.std.specs.List.{AllByRecursion}
 use Rattle.pun_base.specs.declared.tramp.Tramp.{Tramp}
 use Rattle.patch_report.specs.declared.row.ReportRow.{ReportRow}
-use Rattle.image_check.proofs.OutcomeTramps.{tramps_told}
+use Rattle.sound_images.proofs.OutcomeTramps.{tramps_told}
 use Rattle.site_turns.specs.Turned.{line_at, AddsCodes}
 use Rattle.site_turns.proofs.BuiltCodes.{none_built, can_row, row_built, all_built}
 use Rattle.site_turns.proofs.building.build_all.Goals as goal

@@ -1,7 +1,7 @@
 use Rattle.std.proofs.Common.{List, refl, sym, subst, rules}
 use Rattle.std.specs.List.{AllByRecursion}
 use Rattle.patch_report.specs.declared.row.ReportRow.{ReportRow}
-use Rattle.image_check.proofs.CodeAtStarts.{entries_built}
+use Rattle.sound_images.proofs.ReadInstructions.{entries_built}
 use Rattle.site_turns.specs.declared.building.EventSetting.{EventSetting}
 use Rattle.site_turns.specs.PlannedState.{PlannedState}
 use Rattle.site_turns.specs.Planning.{requested, Turns, IsPlanned, lines_of, AreCodes}

@@ -1,7 +1,7 @@
 use Rattle.std.proofs.Common.{refl, sym, ap, ◌∙◌, subst, arith}
 use Rattle.site_turns.specs.Modes.{thread_event_of}
 use Rattle.image_check.specs.Parts.{line_of}
-use Rattle.image_check.specs.Verdict.{case_of}
+use Rattle.sound_images.specs.Cases.{case_of}
 use Rattle.thread_runs.specs.Building.{event_of, when_of, CanBeShared}
 use Rattle.thread_runs.proofs.ThreadTrampolines.{event_few, listed_few}
 use Rattle.guest_threads.proofs.ThreadConditions.{action_shared}

@@ -1,5 +1,5 @@
 use Rattle.image_check.specs.Parts.{line_of}
-use Rattle.image_check.specs.Verdict.{case_of}
+use Rattle.sound_images.specs.Cases.{case_of}
 use Rattle.thread_check.proofs.BuiltCode.{no_code_fails, sound_line, failing_line}
 use Rattle.thread_check.proofs.line_rule.judge.Goals as goal
 

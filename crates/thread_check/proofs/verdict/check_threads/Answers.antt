@@ -1,8 +1,8 @@
 use Rattle.std.proofs.Common.{sym, subst}
-use Rattle.image_check.specs.Rules.{Case}
-use Rattle.image_check.specs.Verdict.{case_of}
+use Rattle.sound_images.specs.Rules.{Case}
+use Rattle.sound_images.specs.Cases.{case_of}
 use Rattle.image_check.specs.declared.verdict.Verdict.{Verdict}
-use Rattle.image_check.proofs.CodeAtStarts.{entries_built}
+use Rattle.sound_images.proofs.ReadInstructions.{entries_built}
 use Rattle.thread_check.specs.LineParts.{IsImageVerdict}
 use Rattle.thread_check.specs.ThreadVerdict.{IsThreadVerdict}
 use Rattle.thread_check.proofs.VerdictsOfLines.{whole_verdict, yes_followed}

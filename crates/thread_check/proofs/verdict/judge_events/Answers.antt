@@ -3,9 +3,9 @@ use Rattle.std.specs.List.{AllByRecursion}
 use Rattle.std.proofs.lemmas.Bool.{true≢false}
 use Rattle.list_text.proofs.WordParts.{all_appended}
 use Rattle.patch_report.proofs.LongerFronts.{mapped_more}
-use Rattle.image_check.specs.Reports.{Line}
+use Rattle.sound_images.specs.Reports.{Line}
 use Rattle.image_check.specs.Parts.{line_of}
-use Rattle.image_check.specs.Verdict.{case_of}
+use Rattle.sound_images.specs.Cases.{case_of}
 use Rattle.image_check.specs.declared.placed_code.PlacedCode.{PlacedCode}
 use Rattle.image_check.specs.declared.verdict.Verdict.TheVariants.{No}
 use Rattle.site_turns.specs.Modes.{is_shared}

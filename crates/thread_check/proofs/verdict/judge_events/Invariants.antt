@@ -1,7 +1,7 @@
 use Rattle.std.proofs.Common.{◌≡◌, map, take}
 use Rattle.std.specs.List.{AllByRecursion}
 use Rattle.image_check.specs.Parts.{line_of}
-use Rattle.image_check.specs.Verdict.{case_of}
+use Rattle.sound_images.specs.Cases.{case_of}
 use Rattle.thread_check.specs.LineParts.{IsSoundCode}
 use Rattle.thread_check.proofs.verdict.judge_events.Given as goal
 

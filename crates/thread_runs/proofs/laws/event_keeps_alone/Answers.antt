@@ -1,5 +1,5 @@
-use Rattle.thread_runs.proofs.LoneRingEvent.{event_keeps_alone}
+use Rattle.thread_runs.proofs.LoneEvents.{keeps_alone}
 use Rattle.thread_runs.proofs.laws.event_keeps_alone.Goals as goal
 
 pub returns : goal.returns
-returns c = event_keeps_alone
+returns c = keeps_alone

@@ -1,4 +1,4 @@
-use Rattle.thread_runs.proofs.ThreadSteps.{thread_step}
+use Rattle.event_steps.proofs.ThreadSteps.{thread_step}
 use Rattle.thread_runs.proofs.laws.thread_step.Goals as goal
 
 pub returns : goal.returns

@@ -1,7 +1,7 @@
 use Rattle.std.proofs.Common.{refl, sym, subst, ◌∙◌, List}
 use Rattle.std.specs.List.Sorted.{IsNonDecreasingBy}
 use Rattle.image_check.specs.declared.placed_code.PlacedCode.{PlacedCode}
-use Rattle.image_check.specs.Verdict.{case_of}
+use Rattle.sound_images.specs.Cases.{case_of}
 use Rattle.image_check.proofs.CodeRule.{code_is}
 use Rattle.image_check.proofs.RuleTests.{decides, write_is, range_is}
 use Rattle.image_check.proofs.NearCode.{code_moved}

@@ -1,6 +1,6 @@
 use Rattle.patch_report.proofs.ReportBounds.{bounded}
 use Rattle.image_check.proofs.NearStarts.{built_short}
-use Rattle.image_check.proofs.CodeAtStarts.{entries_built}
+use Rattle.sound_images.proofs.ReadInstructions.{entries_built}
 use Rattle.image_check.proofs.SpelledEntries.{built_spelled}
 use Rattle.image_check.proofs.checked.Checked.new.Goals as goal
 

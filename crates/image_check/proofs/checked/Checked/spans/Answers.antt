@@ -4,7 +4,7 @@ use Rattle.std.proofs.lemmas.Result.{IfOk-weaker}
 use Rattle.image_check.specs.declared.rule.Rule.TheVariants as rule
 use Rattle.image_check.specs.declared.placed_code.PlacedCode.{PlacedCode}
 use Rattle.image_check.specs.Stretches.{CoversFirst, CodeBroken}
-use Rattle.image_check.specs.Verdict.{case_of}
+use Rattle.sound_images.specs.Cases.{case_of}
 use Rattle.image_check.proofs.CodeRule.{code_covered}
 use Rattle.image_check.proofs.LeastAddresses.{reach}
 use Rattle.image_check.proofs.FailureSpans.{entry_covered, write_covered, site_told}

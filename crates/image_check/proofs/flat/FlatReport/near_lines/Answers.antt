@@ -3,7 +3,7 @@ use Rattle.std.specs.List.Sorted.{IsPermutation}
 use Rattle.std.proofs.lemmas.List.Sorted.{IsPermutation-map}
 use Rattle.image_check.specs.declared.flat.ReportLine.{ReportLine}
 use Rattle.image_check.specs.Parts.{line_of}
-use Rattle.image_check.specs.Reports.{Line, lines}
+use Rattle.sound_images.specs.Reports.{Line, lines}
 use Rattle.image_check.proofs.NearCounts.{near_told}
 use Rattle.image_check.proofs.flat.FlatReport.near_lines.Goals as goal
 

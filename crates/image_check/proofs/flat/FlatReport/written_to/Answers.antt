@@ -3,7 +3,7 @@ use Rattle.std.specs.Prelude.{◌&&◌}
 use Rattle.std.proofs.lemmas.Bool.{and_parts}
 use Rattle.pun_base.specs.declared.plan.Write.{Write}
 use Rattle.patch_report.specs.Values.{WriteValue, write_value}
-use Rattle.image_check.specs.Reports.{in_run, runs}
+use Rattle.sound_images.specs.Reports.{in_run, runs}
 use Rattle.image_check.proofs.NearCounts.{any_near, run_held}
 use Rattle.image_check.proofs.SharedPages.{any_implies}
 use Rattle.image_check.proofs.flat.FlatReport.written_to.Goals as goal

@@ -4,7 +4,7 @@ use Rattle.cpu_state.specs.declared.state.State.{State}
 use Rattle.cpu_step.specs.Stepping.{machine_of}
 use Rattle.cpu_step.specs.Facts.{info_from}
 use Rattle.cpu_step.specs.Steps.{avoids_told}
-use Rattle.image_step.specs.Listed.{is_known_start, is_listed_byte, is_start}
+use Rattle.image_runs.specs.Listed.{is_known_start, is_listed_byte, is_start}
 use Rattle.image_step.proofs.RunnerSteps.{first_left, quiet_by, step_apart, step_taken, stopped}
 use Rattle.image_step.proofs.runner.Runner.advance.Goals as goal
 

@@ -1,5 +1,5 @@
 use Rattle.std.proofs.Common.{ap, ◌∙◌}
-use Rattle.image_step.specs.Listed.{are_short}
+use Rattle.image_runs.specs.Listed.{are_short}
 use Rattle.image_step.proofs.InstructionByteSearch.{short_entries}
 use Rattle.image_step.proofs.runner.Runner.new.Goals as goal
 

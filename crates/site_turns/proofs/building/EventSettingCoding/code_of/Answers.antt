@@ -3,7 +3,7 @@ use Rattle.std.specs.Prelude.{IfSome}
 use Rattle.trampoline.specs.declared.event.Event.{Event}
 use Rattle.trampoline.specs.Running.{IsEvent}
 use Rattle.start_entries.specs.Finding.{entry_at}
-use Rattle.image_check.proofs.LineEvents.{event_is}
+use Rattle.sound_images.proofs.LineEvents.{event_is}
 use Rattle.site_turns.specs.Turned.{line_at, events_case}
 use Rattle.site_turns.proofs.TrampolineCodes.{size_known, ok, has}
 use Rattle.site_turns.proofs.building.EventSettingCoding.code_of.Goals as goal

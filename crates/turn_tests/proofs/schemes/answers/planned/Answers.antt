@@ -10,4 +10,4 @@ listed xs ys i d e l = subst (λ (zs : List StartEntry). Contains zs (get_or ys 
 
 pub is_movable-requires-clause-listed : goal.is_movable-requires-clause-listed
 is_movable-requires-clause-listed c =
-    listed c.in_ok-starts.starts c.entries-entries.result.now c.args.given.now.place (record { addr = 0; len = 0; form = None; shared = false }) c.entries-entries.ensures.value (omega arith)
+    listed c.in-Ok.starts c.entries-entries.result.now c.args.given.now.place (record { addr = 0; len = 0; form = None; shared = false }) c.entries-entries.ensures.value (omega arith)

@@ -1,0 +1,11 @@
+pub mod Acting
+pub mod ThreadSteps
+pub mod KnownCodeSteps
+pub mod ClaimSteps
+pub mod ByteRanges
+pub mod FlagsInAx
+pub mod SingleSteps
+pub mod ListedCode
+pub mod LocalSteps
+pub mod EventRuns
+pub mod InterleavedSteps

@@ -1,0 +1,3 @@
+pub mod RegionsOutsideImages
+pub mod MemorySoFar
+pub mod MoreItems

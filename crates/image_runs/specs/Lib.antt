@@ -1,0 +1,4 @@
+pub mod Listed
+pub mod Quiet
+pub mod Deliveries
+pub mod Starting

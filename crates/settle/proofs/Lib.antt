@@ -1,0 +1,8 @@
+pub mod FrontParts
+pub mod MovedImages
+pub mod TakenFiles
+mod HighestBases
+mod FilledFronts
+mod SettlingSteps
+pub mod Undoing
+mod WorkedFile

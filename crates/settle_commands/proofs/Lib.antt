@@ -1,0 +1,2 @@
+pub mod SettleVerdicts
+pub mod UnsettleVerdicts

@@ -1,0 +1,3 @@
+pub mod SettleAnswers
+pub mod UnsettleAnswers
+pub mod Settling

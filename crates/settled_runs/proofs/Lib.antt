@@ -1,0 +1,7 @@
+mod TellingSteps
+mod WordsBehind
+mod StubRuns
+mod StartedFiles
+pub mod BesideRuns
+pub mod QuietStub
+mod PatchedFiles

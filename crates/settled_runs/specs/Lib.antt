@@ -1,0 +1,4 @@
+pub mod Vector
+pub mod Laws
+pub mod Quiet
+pub mod Patched

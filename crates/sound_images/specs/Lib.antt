@@ -1,0 +1,10 @@
+pub mod Reports
+pub mod Calls
+pub mod Rules
+pub mod Cases
+pub mod Rewriting
+pub mod Events
+pub mod Headline
+pub mod Soundness
+pub mod Worked
+pub mod WorkedDelivery

@@ -1,0 +1,9 @@
+pub mod WatchedDeliveredRuns
+pub mod WaitingThreads
+pub mod OvertakenThreads
+pub mod WorkedImages
+pub mod WorkedBirth
+pub mod WorkedSteps
+pub mod WorkedVictim
+pub mod WorkedCondition
+pub mod WorkedRingRun

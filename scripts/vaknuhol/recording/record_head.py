@@ -1,0 +1,51 @@
+"""The head of a record: of which program, patch and run it is (recording/record_file.py has the whole form)."""
+import re
+
+from vaknuhol.arguments import Refusal
+from vaknuhol.messages import counted
+from vaknuhol.program.program_file import read_text
+from vaknuhol.recording.actions import ActionError, action_of
+
+HEAD = "vakrecord 1"
+FOR_THREADS, NOT_KNOWN = "for threads", "-"
+HASH, SEEN = r"([0-9a-f]{64})", ("processes", "threads", "execs", "unrecorded")
+HEADS = re.compile(rf"{HEAD}\naction (.+)\nprogram (-|[0-9a-f]{{64}})\nreport {HASH}\n({FOR_THREADS}\n)?"
+                   r"state (ended|running)\nprocesses ([0-9]+) threads ([0-9]+) execs ([0-9]+)"
+                   r"(?: unrecorded ([0-9]+))?\n")
+
+
+class RecordHead:
+    """What a record tells before its rows; these are left in `body`, unread."""
+    processes: int
+    threads: int
+    execs: int
+    unrecorded: int
+
+    def __init__(self, path: str) -> None:
+        text = read_text(path)
+        heads = HEADS.match(text)
+        if not heads or not text.endswith("\nend\n"):
+            raise Refusal(f"{path} is no record of run_and_record")
+        self.path, self.body = path, text[heads.end():].removesuffix("end\n")
+        action, self.program_hash, self.report_hash, for_threads, self.state = heads.groups()[:5]
+        self.processes, self.threads, self.execs, self.unrecorded = (int(number or 0) for number in heads.groups()[5:])
+        self.for_threads = for_threads is not None
+        try:
+            self.action = action_of(action)
+        except ActionError:
+            raise self.no_record(f"action {action}") from None
+
+    def no_record(self, line: str) -> Refusal:
+        return Refusal(f"{self.path} is no record of run_and_record: {line}")
+
+    def is_plain(self) -> bool:
+        """Whether one process ran by itself."""
+        return (self.processes, self.threads, self.execs) == (1, 0, 0)
+
+    def run_text(self) -> str:
+        """How many processes and threads there were, in words."""
+        of = "of" if self.action.is_ring or self.processes == 1 else "the sum of"
+        seen = " and ".join(counted(number, name) for number, name in ((self.threads, "thread"), (self.execs, "exec"))
+                            if number)
+        missing = f", of which {self.unrecorded} could not be recorded" if self.unrecorded else ""
+        return f"{of} {counted(self.processes, 'process', 'processes')}{missing}" + (f", with {seen}" if seen else "")

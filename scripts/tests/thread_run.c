@@ -46,10 +46,12 @@ static void add(long by) {
 #define UNPATCHED "call 1f; jmp 2f; 1: ret; 2:"
 
 #if defined SIGNALS || defined HELD
+/* A real-time signal: each that is sent comes, where of one below 32 a second merges with the first while that is pending. */
+#define QUEUED 34
 #define HANDLING (long[4]){ (long)handle, 0x4000000, (long)come_back, 0 }
 
 static void handle(int number) {
-    handled += number == 10;
+    handled += number == QUEUED;
 }
 
 __attribute__((naked)) static void come_back(void) {
@@ -165,16 +167,16 @@ static void breaks(void) {
 #elif defined DIES
     __asm__ volatile("here: mov 16, %%eax" : : : "rax");
 #elif defined SIGNALS
-    call(13, 10, (long)HANDLING, 0, 8);
+    call(13, QUEUED, (long)HANDLING, 0, 8);
     for (int turn = 0; turn < 9; turn++)
-        call(62, call(39, 0, 0, 0, 0), 10, 0, 0);
+        call(62, call(39, 0, 0, 0, 0), QUEUED, 0, 0);
 #elif defined HELD
     long all = call(39, 0, 0, 0, 0);
-    call(13, 10, (long)HANDLING, 0, 8);
+    call(13, QUEUED, (long)HANDLING, 0, 8);
     while (!first)
         ;
     for (int number = 2; number <= 18; number += 2) {
-        __asm__ volatile("mov %0, %%eax; syscall; mov %0, %%eax; syscall" : : "i"(234), "D"(all), "S"(first), "d"(10) : "rax", "rcx", "r11", "memory");
+        __asm__ volatile("mov %0, %%eax; syscall; mov %0, %%eax; syscall" : : "i"(234), "D"(all), "S"(first), "d"(QUEUED) : "rax", "rcx", "r11", "memory");
         while (handled < number)
             ;
     }

@@ -180,10 +180,11 @@ def test_blocks_to_which_only_relocations_lead_are_counted(flags):
     assert list(struct.unpack("<7Q", held)) == lines
 
 
+IS_DYNAMIC = "is dynamic, so its libraries are loaded as it runs: link with gcc -static, or take a static build of it"
 KINDS: list[tuple[str, Callable[[], str], str]] = [
     ("lib.so", lambda: run("gcc", "-shared", "-fPIC", "-o", "lib.so", "some.c"), "is a shared library: name a program"),
-    ("moved", lambda: run("gcc", "-pie", "-o", "moved", "some.c"), "is dynamic, so its libraries are loaded as it runs"),
-    ("bound", lambda: run("gcc", "-no-pie", "-o", "bound", "some.c"), "is dynamic, so its libraries are loaded as it runs"),
+    ("moved", lambda: run("gcc", "-pie", "-o", "moved", "some.c"), IS_DYNAMIC),
+    ("bound", lambda: run("gcc", "-no-pie", "-o", "bound", "some.c"), IS_DYNAMIC),
     ("some.o", lambda: run("gcc", "-c", "-o", "some.o", "some.c"), "is an object file: link it with gcc -static"),
 ]
 
@@ -194,6 +195,8 @@ def test_what_is_no_static_program_is_told_what_it_is(name, make, why):
     make()
     said = call("count", f"./{name}", status=125)[1]
     assert said.startswith(f"vaknuhol: ./{name} {why}") and said.count("\n") == 1, said
+    assert call("fit", f"./{name}", status=1)[0].startswith(f"obstacle: ./{name} {why}")
+    assert f"{name} {why}" in call("wrap", "count", f"./{name}", "-o", "instead", status=2)[1]
     assert not os.path.exists(path_of(name, "count", "patched"))
 
 

@@ -69,6 +69,11 @@ def test_pages_without_lines_say_what_they_say_of_the_program_at_fixed_addresses
     assert pages[0] == pages[1] and len(pages[0]) > 4
 
 
+def test_fit_tells_of_the_program_and_not_of_its_front(both: None) -> None:
+    told = [call("fit", program)[0].splitlines()[0].partition(": ")[2] for program in ("any", FIXED)]
+    assert told[0] == told[1] and "; not listed: 0 bytes" in told[0]
+
+
 def test_a_sum_of_records_keeps_the_base(both: None) -> None:
     call("count", "./any", "--base", BASE, "--record", "one.record", status=STATUS)
     call("count", "./any", "--base", "10000000", "--record", "other.record", status=STATUS)

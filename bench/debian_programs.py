@@ -133,4 +133,5 @@ def main() -> None:
     sys.exit(wrong > 0)
 
 
-main()
+if __name__ == "__main__":
+    main()

@@ -5,6 +5,7 @@ from struct import pack
 from typing import NamedTuple
 
 from limit_files import script
+from settled_rows import MOST, SETTLE, TINY, UNSETTLE
 from work_files import (
     MIXED,
     ODD,
@@ -61,6 +62,11 @@ def cover_within(pages: list[tuple[int, int]]) -> str:
     return f"{COVER} {free_only(0x21000, pages)}"
 
 
+def pie(length: int, file: bytes = TINY) -> Inputs:
+    """A static PIE with data behind what it loads."""
+    return {"F": file.ljust(length, b"\xf4")}
+
+
 # whose instructions are counted
 COUNTED = [
     Work("patch: a jump over each site", COVER, partial(plain, 4096)),
@@ -82,6 +88,9 @@ COUNTED = [
     Work("step: a long answer", "step F S W 1", partial(long_answer, 16, 4096)),
     Work("gen", "gen 7 200", dict),
     Work("unpatch", "unpatch O R N", partial(plain, 4096), before=COVER),
+    Work("settle", SETTLE, partial(pie, 1 << 20)),
+    Work("settle: most entries", SETTLE, partial(pie, 1 << 20, MOST)),
+    Work("unsettle", UNSETTLE, partial(pie, 1 << 20), before=SETTLE),
 ]
 
 
@@ -109,5 +118,7 @@ HELD = [
     Work("check: 65,536 sites", CHECK, partial(plain, 65536), before=COVER),
     Work("unpatch: 65,536 sites", "unpatch O R N", partial(plain, 65536), before=COVER),
     Work("unpatch: long data", "unpatch O R N", partial(with_data, 16, 32 << 20), before=COVER),
+    Work("settle: long data", SETTLE, partial(pie, 32 << 20)),
+    Work("unsettle: long data", UNSETTLE, partial(pie, 32 << 20), before=SETTLE),
     Work("step: zeros that nothing changes", "step F S W 16", zeros),
 ]

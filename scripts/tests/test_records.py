@@ -19,7 +19,7 @@ BLOCKS = [(0x401000, 0x401008, 0x401004), (0x401008, 0x40100C, 0x401008), (0x401
 
 
 def report_of(action, patched, left):
-    return double(action=action_of(action), hash=HASH, for_threads=False, patched=patched, left=left)
+    return double(action=action_of(action), hash=HASH, for_threads=False, base=None, patched=patched, left=left)
 
 
 RUN = double(blocks=BLOCKS, action=action_of("ring:3"))

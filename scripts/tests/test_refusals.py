@@ -23,7 +23,7 @@ def refused(name, words, text, status, environment=None):
     assert not done.stdout or "chosen" in done.stdout, f"{name} {words}: {done.stdout}"
 
 
-DYNAMIC = "dynamic is dynamic, so its libraries are loaded as it runs: link with gcc -static -no-pie"
+DYNAMIC = "dynamic is dynamic, so its libraries are loaded as it runs: link with gcc -static, or take a static build of it"
 PATCH: list[tuple[list[str], str]] = [
     (["lines.c", "--jumps"], "lines.c is no ELF file"),
     (["gone", "--jumps"], "gone: No such file or directory"),

@@ -97,7 +97,7 @@ def test_what_a_record_ends_at_is_told(name):
     [
         (("gone",), "gone: No such file or directory"),
         (("--steps", "0", "./plain"), "--steps is from 1 to 10000000, and --every from 1 on"),
-        (("./NONE.pie",), "is dynamic, so its libraries are loaded as it runs: link with gcc -static -no-pie"),
+        (("./NONE.pie",), "is dynamic, so its libraries are loaded as it runs: link with gcc -static, or take a static build of it"),
     ],
 )
 def test_what_cannot_be_replayed_is_refused(words, text):

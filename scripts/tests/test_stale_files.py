@@ -193,7 +193,7 @@ def report_of(**more):
 
 
 def run_of(**more):
-    return double(**{"action": action_of("count"), "program_hash": "b" * 64, **more})
+    return double(**{"action": action_of("count"), "program_hash": "b" * 64, "base": None, **more})
 
 
 @pytest.mark.parametrize(
@@ -204,8 +204,9 @@ def run_of(**more):
         ({}, {"program_hash": "c" * 64}),
         ({}, {"program_hash": None}),
         ({}, {"action": action_of("count when rdi == 2")}),
+        ({}, {"base": 0x10000000}),
     ],
-    ids=["report", "threads", "program", "no program", "action"],
+    ids=["report", "threads", "program", "no program", "action", "base"],
 )
 def test_a_run_file_is_written_again_where_it_is_of_another_patch(monkeypatch, place, report, run):
     monkeypatch.setattr(run_file, "table_of", lambda report, run, patched: run_file.front_of(report, run) + b"rest")

@@ -2,6 +2,8 @@
 addresses is, and comes back byte for byte."""
 import os
 import re
+import shutil
+import struct
 import subprocess
 from collections.abc import Callable
 
@@ -16,6 +18,8 @@ from vaknuhol.recording.record_file import Record
 
 ANYWHERE = "-O1 -g -fno-inline -static-pie".split()
 FIXED = "-O1 -g -fno-inline -static -no-pie".split()
+BARE = "-O1 -fPIE -nostdlib -fno-stack-protector -fcf-protection=none -fno-asynchronous-unwind-tables".split()
+LOW = 0x10000000
 THROWS = r"""
 #include <cstdio>
 #include <map>
@@ -154,18 +158,33 @@ def test_a_stand_in_and_fit_take_a_static_pie(throws):
     assert "it is position independent" in told and "no obstacle to patching it was seen" in told, told
 
 
-def test_packed_relocations_tell_what_only_data_names():
-    """Of a stripped program: without them blocks would be missing to which only words of data lead."""
+def test_packed_relocations_change_nothing():
     built("packed", made("packed.cc", THROWS), "-Wl,-z,pack-relative-relocs")
     run("strip", "packed")
     status, output = ran("./packed", "word")
     assert call("count", "--blocks", "./packed", "--quiet", "--", "word", status=status)[0] == output
 
 
+@pytest.mark.parametrize("flags", [(), ("-Wl,-z,pack-relative-relocs",)], ids=["plain", "packed"])
+def test_blocks_to_which_only_relocations_lead_are_counted(flags):
+    """Without its relocations a stripped program has straight lines there, which are one block."""
+    run("gcc", *BARE, "-static-pie", *flags, "-o", "words", f"{SOURCES}/relocates.c", f"{SOURCES}/words.s")
+    at = {name: LOW + int(addr, 16) for addr, name in re.findall(r"^([0-9a-f]+) [TD] (\w+)$", run("nm", "words"), re.M)}
+    run("strip", "words")
+    assert call("count", "--blocks", "./words", "--base", f"{LOW:x}", status=29)[0] == ""
+    counts = {row.first: row.count for row in Record("words.vak/last.record").rows}
+    lines = [at[f"line_{number}"] for number in range(1, 8)]
+    assert [counts[line] for line in lines] == [1, 2, 3, 4, 5, 6, 7]
+    assert counts[at["choice"]] == 1 and counts[lines[0] - 6] == counts[at["choice"] - 6] == 0
+    held = Program(f"words.vak/settled-{LOW:x}/words").read(at["words"], 8 * len(lines))
+    assert list(struct.unpack("<7Q", held)) == lines
+
+
+IS_DYNAMIC = "is dynamic, so its libraries are loaded as it runs: link with gcc -static, or take a static build of it"
 KINDS: list[tuple[str, Callable[[], str], str]] = [
     ("lib.so", lambda: run("gcc", "-shared", "-fPIC", "-o", "lib.so", "some.c"), "is a shared library: name a program"),
-    ("moved", lambda: run("gcc", "-pie", "-o", "moved", "some.c"), "is dynamic, so its libraries are loaded as it runs"),
-    ("bound", lambda: run("gcc", "-no-pie", "-o", "bound", "some.c"), "is dynamic, so its libraries are loaded as it runs"),
+    ("moved", lambda: run("gcc", "-pie", "-o", "moved", "some.c"), IS_DYNAMIC),
+    ("bound", lambda: run("gcc", "-no-pie", "-o", "bound", "some.c"), IS_DYNAMIC),
     ("some.o", lambda: run("gcc", "-c", "-o", "some.o", "some.c"), "is an object file: link it with gcc -static"),
 ]
 
@@ -176,6 +195,8 @@ def test_what_is_no_static_program_is_told_what_it_is(name, make, why):
     make()
     said = call("count", f"./{name}", status=125)[1]
     assert said.startswith(f"vaknuhol: ./{name} {why}") and said.count("\n") == 1, said
+    assert call("fit", f"./{name}", status=1)[0].startswith(f"obstacle: ./{name} {why}")
+    assert f"{name} {why}" in call("wrap", "count", f"./{name}", "-o", "instead", status=2)[1]
     assert not os.path.exists(path_of(name, "count", "patched"))
 
 

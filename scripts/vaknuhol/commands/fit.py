@@ -4,6 +4,7 @@ also runs with ARGUMENTS under single steps; each executed instruction that isn'
 of listed code that is read as data, memory that is mapped where a patch may lie, a trap flag that it sets, threads and
 restartable sequences that can't be seen without a run."""
 import argparse
+import bisect
 import os
 
 from vaknuhol.arguments import Refusal
@@ -13,6 +14,7 @@ from vaknuhol.program.fitness import count_of, findings
 from vaknuhol.program.kernel import most_entries
 from vaknuhol.program.listing import Listing
 from vaknuhol.program.program_file import Program
+from vaknuhol.program.settled import STUB
 from vaknuhol.program.stepped_run import SteppedRun, findings_of_run
 from vaknuhol.recording.kept_patches import folder_of
 from vaknuhol.recording.settling import add_base, settled
@@ -61,8 +63,10 @@ def do(words: argparse.Namespace) -> int:
     listing = Listing(file, folder)
     columns, threads = listing.file, threads_of(program, listing)
     progress("")
-    print(f"{path}: static, {count_of(columns.text_bytes, 'byte')} of text, "
-          f"{count_of(len(listing.addr), 'instruction')}, {count_of(len(columns.block_first), 'block')}; not listed: "
+    first = bisect.bisect_left(listing.addr, program.base)  # behind the stub of a settled file
+    blocks = len(columns.block_first) - bisect.bisect_left(columns.block_first, first)
+    print(f"{path}: static, {count_of(columns.text_bytes - (STUB if program.base else 0), 'byte')} of text, "
+          f"{count_of(len(listing.addr) - first, 'instruction')}, {count_of(blocks, 'block')}; not listed: "
           f"{count_of(columns.text_bytes - columns.listed_bytes, 'byte')}")
     if file != path:
         print(f"note: it is position independent: cover, count and ring patch it at base {program.base:x}, where it "

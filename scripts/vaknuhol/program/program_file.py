@@ -61,14 +61,14 @@ def why_refused(data: bytes) -> str:
     kind, entries = struct.unpack_from("<H", data, 16)[0], list(entries_of(data))
     if any(kind in (PT_DYNAMIC, PT_INTERP) for kind, *_ in entries) and (
             kind == ET_EXEC or any(kind == PT_INTERP for kind, *_ in entries)):
-        return "is dynamic, so its libraries are loaded as it runs: link with gcc -static -no-pie"
+        return "is dynamic, so its libraries are loaded as it runs: link with gcc -static, or take a static build of it"
     if is_static_pie(data):
         return ("is position independent: e9tool settle makes a program at fixed addresses of it (vaknuhol cover, "
                 "count, ring, wrap and fit do so by themselves)")
     if kind == ET_DYN:
         return "is a shared library: name a program that was linked with gcc -static, with its code in it"
     if kind == ET_REL:
-        return "is an object file: link it with gcc -static -no-pie"
+        return "is an object file: link it with gcc -static"
     return "" if kind == ET_EXEC else "is no program"
 
 

@@ -5,6 +5,7 @@
     program HASH            of the original's code, or - where patch_program.py didn't write the report
     report HASH             of the report
     for threads             where it was a patch for threads; else there is no such line
+    base 7ff38000           where the program is a static PIE: the base at which it was patched
     state ended             or `running`: what was recorded until then
     processes 3 threads 0 execs 1
                             and `unrecorded 1`, where no memory could be had for the record of so many processes
@@ -34,7 +35,7 @@ from vaknuhol.program.program_file import Program
 from vaknuhol.recording.actions import Action, Ring
 from vaknuhol.recording.patch_files import Run
 from vaknuhol.recording.patch_report import LEFT, Report, outcome_counts
-from vaknuhol.recording.record_head import FOR_THREADS, HEAD, NOT_KNOWN, SEEN, RecordHead
+from vaknuhol.recording.record_head import HEAD, NOT_KNOWN, SEEN, RecordHead, head_text
 
 LINE = re.compile(rf"^([0-9a-f]{{8}}) ([0-9a-f]{{8}}) ([0-9a-f]{{8}}) (?:([0-9]+)|{NOT_KNOWN}|({'|'.join(LEFT)}))$",
                   re.M)
@@ -49,6 +50,7 @@ class Recorded(Protocol):
     action: Action
     hash: str
     for_threads: bool
+    base: int | None
 
 
 class Row:
@@ -135,9 +137,9 @@ def write_record(path: str, report: Recorded, program_hash: str | None, rows: It
                  seen: Mapping[str, int]) -> None:
     """Writes a record of these lines."""
     counts = " ".join(f"{name} {number}" for name, number in seen.items() if number or name != SEEN[-1])
-    lines = [HEAD, f"action {report.action.name}", f"program {program_hash or '-'}", f"report {report.hash}",
-             *([FOR_THREADS] if report.for_threads else []), f"state {state}", counts]
-    write_whole({path: "".join(f"{line}\n" for line in (*lines, *rows, "end"))})
+    head = head_text(report.action, program_hash, report.hash, report.for_threads, report.base)
+    lines = (f"state {state}", counts, *rows, "end")
+    write_whole({path: f"{HEAD}\n{head}" + "".join(f"{line}\n" for line in lines)})
 
 
 def matched(form: re.Pattern[str], line: str) -> re.Match[str]:
@@ -229,5 +231,4 @@ class Record(RecordHead):
     def check_program(self, program: Program, name: str) -> None:
         """Refuses every program but the one whose blocks these are."""
         if not self.is_of(program):
-            raise Refusal(f"{self.path} is of another program: {name} is not the original that was patched"
-                          + (f", or was patched at another base than {program.base:x}" if program.base else ""))
+            raise Refusal(f"{self.path} is of another program: {name} is not the original that was patched")

@@ -4,14 +4,21 @@ import re
 from vaknuhol.arguments import Refusal
 from vaknuhol.messages import counted
 from vaknuhol.program.program_file import read_text
-from vaknuhol.recording.actions import ActionError, action_of
+from vaknuhol.recording.actions import Action, ActionError, action_of
 
 HEAD = "vakrecord 1"
 FOR_THREADS, NOT_KNOWN = "for threads", "-"
 HASH, SEEN = r"([0-9a-f]{64})", ("processes", "threads", "execs", "unrecorded")
 HEADS = re.compile(rf"{HEAD}\naction (.+)\nprogram (-|[0-9a-f]{{64}})\nreport {HASH}\n({FOR_THREADS}\n)?"
+                   r"(?:base ([0-9a-f]{8})\n)?"
                    r"state (ended|running)\nprocesses ([0-9]+) threads ([0-9]+) execs ([0-9]+)"
                    r"(?: unrecorded ([0-9]+))?\n")
+
+
+def head_text(action: Action, program_hash: str | None, report_hash: str, for_threads: bool, base: int | None) -> str:
+    """What a head tells of a patch, before it tells of runs."""
+    return (f"action {action.name}\nprogram {program_hash or NOT_KNOWN}\nreport {report_hash}\n"
+            + (f"{FOR_THREADS}\n" if for_threads else "") + ("" if base is None else f"base {base:08x}\n"))
 
 
 class RecordHead:
@@ -27,9 +34,9 @@ class RecordHead:
         if not heads or not text.endswith("\nend\n"):
             raise Refusal(f"{path} is no record of run_and_record")
         self.path, self.body = path, text[heads.end():].removesuffix("end\n")
-        action, self.program_hash, self.report_hash, for_threads, self.state = heads.groups()[:5]
-        self.processes, self.threads, self.execs, self.unrecorded = (int(number or 0) for number in heads.groups()[5:])
-        self.for_threads = for_threads is not None
+        action, self.program_hash, self.report_hash, for_threads, base, self.state = heads.groups()[:6]
+        self.processes, self.threads, self.execs, self.unrecorded = (int(number or 0) for number in heads.groups()[6:])
+        self.for_threads, self.base = for_threads is not None, int(base, 16) if base else None
         try:
             self.action = action_of(action)
         except ActionError:

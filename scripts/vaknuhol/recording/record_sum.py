@@ -61,6 +61,7 @@ class Sum:
             raise Refusal(f"{first.path} is the record of a ring: the order of two rings is unknown, so they "
                           "can't be added")
         self.action, self.program_hash = first.action, None if first.program_hash == "-" else first.program_hash
+        self.base = first.base
         self.add_same()
         self.take_heads(heads, of_one_run)
 

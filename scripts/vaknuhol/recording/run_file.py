@@ -18,7 +18,7 @@ from vaknuhol.recording.original_headers import settled_front, told_to_original
 from vaknuhol.recording.patch_files import Run, RunFiles
 from vaknuhol.recording.patch_report import SCRATCH, WRITES, Report, outcome_counts
 from vaknuhol.recording.record_file import line_of
-from vaknuhol.recording.record_head import FOR_THREADS, NOT_KNOWN
+from vaknuhol.recording.record_head import NOT_KNOWN, head_text
 from vaknuhol.recording.thread_use import MEANT, SHARING
 
 MARK, ENDING, PAGE = b"vakrun 7\n", "run", 4096
@@ -57,9 +57,8 @@ def rows_of_tramps(tramps: Tramps) -> bytes:
 
 def front_of(report: Report, run: Run) -> bytes:
     """How a run file of this patch begins: by its mark, and the head of its records."""
-    threads = f"{FOR_THREADS}\n" if report.for_threads else ""
-    return FRONT.pack(MARK, f"action {run.action.name}\nprogram {run.program_hash or NOT_KNOWN}\nreport "
-                            f"{report.hash}\n{threads}".encode())
+    head = head_text(run.action, run.program_hash, report.hash, report.for_threads, run.base)
+    return FRONT.pack(MARK, head.encode())
 
 
 def rows_of(report: Report, run: Run) -> tuple[bytes, str]:

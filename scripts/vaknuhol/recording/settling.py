@@ -112,13 +112,13 @@ def kept_settled(program: str, folder: str) -> Iterator[str]:
 
 def recorded(program: str, record: Record, folder: str) -> str:
     """The file of a program that was patched for a record: of a static PIE that of its settled files which has the
-    record's code, or if none has it that at the highest base."""
+    record's code, or if none is kept that at the record's base."""
     if not is_settled_first(program):
         return program
     for path in kept_settled(program, folder):
         if record.is_of(Program(path)):
             return path
-    return settled(program, folder)
+    return settled(program, folder, record.base)
 
 
 def base_of(path: str) -> int | None:

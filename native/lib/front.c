@@ -2,53 +2,54 @@
 
 #include <string.h>
 
-static int take_prefix(struct front *it, uint8_t byte) {
+static bool take_prefix(struct front *it, uint8_t byte) {
     switch (byte) {
-    case 0x66: it->operand_size = 1; break;
-    case 0x67: it->address_size = 1; break;
-    case 0xF0: it->lock = 1; break;
-    case 0xF2: it->repne = 1; break;
-    case 0xF3: it->repe = 1; break;
-    case 0x64: it->fs = 1; break;
-    case 0x65: it->gs = 1; break;
+    case 0x66: it->operand_size = true; break;
+    case 0x67: it->address_size = true; break;
+    case 0xF0: it->lock = true; break;
+    case 0xF2: it->repne = true; break;
+    case 0xF3: it->repe = true; break;
+    case 0x64: it->fs = true; break;
+    case 0x65: it->gs = true; break;
     case 0x26:
     case 0x2E:
     case 0x36:
     case 0x3E: break;
     default:
         if (byte < 0x40 || byte > 0x4F)
-            return 0;
-        it->has_rex = 1;
+            return false;
+        it->has_rex = true;
         it->rex = byte;
-        return 1;
+        return true;
     }
     it->rex = 0; /* a REX byte that isn't right before the opcode is ignored */
-    return 1;
+    return true;
 }
 
 /* A VEX prefix of two or three bytes: its map, and the opcode after it. */
-static int take_vex(struct front *it, const uint8_t *bytes, int count) {
-    int long_form = bytes[it->at] == 0xC4, map = 1;
+static bool take_vex(struct front *it, const uint8_t *bytes, int count) {
+    bool long_form = bytes[it->at] == 0xC4;
+    int map = 1;
     if (it->at + 2 + long_form >= count)
-        return 0;
+        return false;
     if (it->operand_size || it->lock || it->repne || it->repe || it->has_rex)
-        return 0;
+        return false;
     if (long_form)
         map = bytes[it->at + 1] & 31;
     if (map < 1 || map > 3)
-        return 0;
+        return false;
     it->map = 10 + map;
     it->opcode = bytes[it->at + 2 + long_form];
     it->at += 3 + long_form;
-    return 1;
+    return true;
 }
 
-int take_front(struct front *it, const uint8_t *bytes, int count) {
+bool take_front(struct front *it, const uint8_t *bytes, int count) {
     memset(it, 0, sizeof *it);
     while (it->at < count && take_prefix(it, bytes[it->at]))
         it->at++;
     if (it->at >= count)
-        return 0;
+        return false;
     if (bytes[it->at] == 0xC4 || bytes[it->at] == 0xC5)
         return take_vex(it, bytes, count);
     it->map = 1;
@@ -59,5 +60,5 @@ int take_front(struct front *it, const uint8_t *bytes, int count) {
             it->map = bytes[it->at++] == 0x38 ? 3 : 4;
     }
     it->opcode = bytes[it->at++];
-    return 1;
+    return true;
 }

@@ -13,8 +13,9 @@ enum { SLOTS = 1 << 16, MOST_OPERANDS = 4, LONGEST = 15 };
 /* An instruction that was decoded, by its address. */
 struct known {
     uint64_t addr;
-    int reads;               /* how many operands it reads in memory */
-    uint8_t length, is_call; /* of the kernel */
+    int reads; /* how many operands it reads in memory */
+    uint8_t length;
+    bool is_call; /* of the kernel */
     ZydisDecodedOperand operands[MOST_OPERANDS];
 };
 
@@ -39,7 +40,8 @@ static void decode_at(struct known *it, pid_t process, uint64_t addr) {
     uint8_t bytes[16];
     size_t count = read_code(process, addr, bytes);
     it->addr = addr;
-    it->reads = it->is_call = 0;
+    it->reads = 0;
+    it->is_call = false;
     if (!ZYAN_SUCCESS(ZydisDecoderDecodeFull(&decoder, bytes, count, &insn, operands)) || insn.mnemonic == ZYDIS_MNEMONIC_NOP)
         return;
     it->length = insn.length;
@@ -63,7 +65,7 @@ static uint64_t address_of(const ZydisDecodedOperand *operand, const struct know
     return addr + (operand->mem.segment == ZYDIS_REGISTER_FS ? r->fs_base : operand->mem.segment == ZYDIS_REGISTER_GS ? r->gs_base : 0);
 }
 
-int mark_reads(struct text *text, pid_t process, struct user_regs_struct *registers) {
+bool mark_reads(struct text *text, pid_t process, struct user_regs_struct *registers) {
     if (!slots) {
         slots = calloc(SLOTS, sizeof *slots);
         if (!slots || !ZYAN_SUCCESS(ZydisDecoderInit(&decoder, ZYDIS_MACHINE_MODE_LONG_64, ZYDIS_STACK_WIDTH_64)))

@@ -1,21 +1,6 @@
 #include "classes.h"
 
-#include <string.h>
-
 #include "front.h"
-
-static bool is_within(int low, int high, int opcode) { return low <= opcode && opcode <= high; }
-
-static bool is_among(int opcode, const char *opcodes, int count) { return memchr(opcodes, opcode, (size_t)count) != NULL; }
-
-static bool is_branch_or_end(const struct front *it, int reg) {
-    int op = it->opcode;
-    if (it->map == 2)
-        return is_within(0x80, 0x8F, op) || is_within(0x06, 0x09, op) || is_among(op, "\x0B\x30\x32\x34\x35\xAA", 6);
-    return is_within(0x70, 0x7F, op) || is_within(0xE0, 0xE9, op) || op == 0xEB || is_within(0xEC, 0xEF, op) || is_within(0xC2, 0xC3, op)
-           || is_within(0x6C, 0x6F, op) || is_within(0xCA, 0xCD, op) || op == 0xCF || is_among(op, "\xF1\xF4\xFA\xFB", 4)
-           || ((op == 0xC6 || op == 0xC7) && reg != 0) || (op == 0xFE && reg > 1) || (op == 0xFF && is_within(2, 5, reg)) || (op == 0xFF && reg == 7);
-}
 
 static bool is_exact_two(const struct front *it) {
     int op = it->opcode;
@@ -55,7 +40,7 @@ enum asking class_of(const uint8_t *bytes, int count, bool *shifts) {
     if (!take_front(&it, bytes, count) || it.map > 2)
         return ASKED;
     int modrm = it.at < count ? bytes[it.at] : 0, reg = modrm >> 3 & 7;
-    if (is_branch_or_end(&it, reg) || (it.fs && it.gs) || (it.repne && it.repe))
+    if (is_near_branch(&it, reg) || ends_run(&it, reg) || (it.fs && it.gs) || (it.repne && it.repe))
         return PLAIN;
     if (it.lock || it.repne || it.repe)
         return is_nop_with_prefix(&it, modrm) ? PLAIN : ASKED;

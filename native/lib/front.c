@@ -62,3 +62,23 @@ bool take_front(struct front *it, const uint8_t *bytes, int count) {
     it->opcode = bytes[it->at++];
     return true;
 }
+
+bool is_among(int opcode, const char *opcodes, int count) { return memchr(opcodes, opcode, (size_t)count) != NULL; }
+
+bool is_near_branch(const struct front *it, int reg) {
+    int op = it->opcode;
+    if (it->map == 2)
+        return is_within(0x80, 0x8F, op);
+    return it->map == 1
+           && (is_within(0x70, 0x7F, op) || is_within(0xE0, 0xE3, op) || is_among(op, "\xC2\xC3\xE8\xE9\xEB", 5) || (op == 0xFF && (reg == 2 || reg == 4)));
+}
+
+bool ends_run(const struct front *it, int reg) {
+    int op = it->opcode;
+    if (it->map == 2)
+        return is_within(0x06, 0x09, op) || is_among(op, "\x0B\x30\x32\x34\x35\xAA", 6);
+    return it->map == 1
+           && (is_within(0x6C, 0x6F, op) || is_within(0xCA, 0xCD, op) || is_within(0xE4, 0xE7, op) || is_within(0xEC, 0xEF, op)
+               || is_among(op, "\xCF\xF1\xF4\xFA\xFB", 5) || ((op == 0xC6 || op == 0xC7) && reg) || (op == 0xFE && reg > 1)
+               || (op == 0xFF && (reg == 3 || reg == 5 || reg == 7)));
+}

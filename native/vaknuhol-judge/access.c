@@ -6,42 +6,20 @@
 
 enum { SAVED_STATE = 16384 };
 
-static bool is_between(int low, int high, int opcode) { return low <= opcode && opcode <= high; }
-
-static bool is_branch(const struct front *it, int reg) {
-    int op = it->opcode;
-    if (it->map == 2)
-        return is_between(0x80, 0x8F, op);
-    return it->map == 1
-           && (is_between(0x70, 0x7F, op) || is_between(0xE0, 0xE3, op) || op == 0xE8 || op == 0xE9 || op == 0xEB || op == 0xC2 || op == 0xC3
-               || (op == 0xFF && (reg == 2 || reg == 4)));
-}
-
-/* Whether an opcode ends a run, whatever its prefixes (docs/reference/formats.md, Classes of instructions). */
-static bool is_ending_opcode(const struct front *it, int reg) {
-    int op = it->opcode;
-    if (it->map == 2)
-        return is_between(0x06, 0x09, op) || op == 0x0B || op == 0x30 || op == 0x32 || op == 0x34 || op == 0x35 || op == 0xAA;
-    return it->map == 1
-           && (is_between(0x6C, 0x6F, op) || is_between(0xCA, 0xCD, op) || op == 0xCF || is_between(0xE4, 0xE7, op) || is_between(0xEC, 0xEF, op) || op == 0xF1
-               || op == 0xF4 || op == 0xFA || op == 0xFB || ((op == 0xC6 || op == 0xC7) && reg != 0) || (op == 0xFE && reg > 1)
-               || (op == 0xFF && (reg == 3 || reg == 5 || reg == 7)));
-}
-
 static bool is_ending(const struct decoded *insn) {
     struct front it;
     if (!take_front(&it, insn->bytes, insn->insn.length))
         return true;
     int modrm = it.at < insn->insn.length ? insn->bytes[it.at] : 0, reg = modrm >> 3 & 7;
     bool is_relative = insn->insn.attributes & ZYDIS_ATTRIB_HAS_MODRM && (modrm & 0xC7) == 5;
-    if (is_ending_opcode(&it, reg) || (it.fs && it.gs) || (it.repne && it.repe) || (it.address_size && is_relative))
+    if (ends_run(&it, reg) || (it.fs && it.gs) || (it.repne && it.repe) || (it.address_size && is_relative))
         return true;
-    if (!is_branch(&it, reg))
+    if (!is_near_branch(&it, reg))
         return false;
     bool is_plain_return = it.map == 1 && it.opcode == 0xC3 && it.repe && !it.lock;
     bool is_indirect = it.map == 1 && it.opcode == 0xFF;
     return ((it.lock || it.repne || it.repe) && !is_plain_return) || ((it.fs || it.gs) && !is_indirect)
-           || (it.map == 1 && is_between(0xE0, 0xE2, it.opcode) && it.address_size);
+           || (it.map == 1 && is_within(0xE0, 0xE2, it.opcode) && it.address_size);
 }
 
 /* LOCK INC of eight bytes at an address, and LOCK XADD of four with eax, which threads make in one step. */

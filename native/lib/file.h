@@ -11,7 +11,7 @@ struct file {
     size_t size;
 };
 
-/* Maps a file of so many bytes at least; 0 where it can't be (errno), or is shorter (errno is 0). */
+/* Maps a file of so many bytes at least; false where it can't be (errno), or is shorter (errno is 0). */
 bool map_file(struct file *file, const char *path, size_t least);
 
 bool is_in_file(const struct file *file, uint64_t offset, uint64_t length);

@@ -33,6 +33,6 @@ struct told {
 };
 
 /* In the auxiliary vector of a process that begins a program, what is told of headers and entry is changed, where their count isn't 0, and of a vDSO,
-   whose code is no part of the file, if it is to be hidden. Where the vector can't be read, it stays; 0 where it can't be changed. */
+   whose code is no part of the file, if it is to be hidden. Where the vector can't be read, it stays; false where it can't be changed. */
 bool change_vector(pid_t tid, uint64_t rsp, const struct told *told, bool hides_vdso);
 #endif

@@ -38,7 +38,7 @@ struct instruction {
     bool is_lea, is_absolute; /* whether its operand names an address and isn't read; whether `held` is read or written */
 };
 
-/* Decodes what stands at an address, at most up to the end of its part of the text; 0 where it can't. `is_odd` tells that no
+/* Decodes what stands at an address, at most up to the end of its part of the text; false where it can't. `is_odd` tells that no
    compiler writes it: such an instruction is good evidence against what leads to it. */
 bool decode(const struct program *program, uint32_t addr, struct instruction *it, bool *is_odd);
 

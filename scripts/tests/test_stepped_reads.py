@@ -28,6 +28,7 @@ READS = {  # and from where to where in `code`
     "inc %esi; mov (%rbx,%rsi,4), %al": (4, 5),
     "mov code+3(%rip), %eax": (3, 7),
     "push (%rbx)": (0, 8),
+    "jmp far; .org 0x10000; far: mov 6(%rbx), %al": (6, 7),
     "nopw (%rbx)": None,
     "lea (%rbx), %rax": None,
 }

@@ -3,6 +3,7 @@
 #ifndef ASKING_H
 #define ASKING_H
 #include <Zydis/Zydis.h>
+#include <stdbool.h>
 #include <stddef.h>
 #include <stdint.h>
 #include <sys/user.h>
@@ -15,7 +16,7 @@ enum { MOST_SPANS = 8, MOST_BYTES = 15 };
 struct decoded {
     uint64_t rip;
     enum asking kind;
-    int shifts; /* FLAGS_ALONE where the count isn't 0 */
+    bool shifts; /* FLAGS_ALONE where the count isn't 0 */
     ZydisDecodedInstruction insn;
     ZydisDecodedOperand operands[ZYDIS_MAX_OPERAND_COUNT];
     uint8_t bytes[MOST_BYTES];
@@ -27,17 +28,17 @@ struct span {
 };
 
 /* Decodes bytes at an address; whether they are an instruction. */
-int decode_bytes(struct decoded *insn, uint64_t rip, const uint8_t *bytes, size_t size);
+bool decode_bytes(struct decoded *insn, uint64_t rip, const uint8_t *bytes, size_t size);
 
 /* The class of an instruction with these registers: a shift by 0 changes no flag. */
 enum asking kind_now(const struct decoded *insn, const struct user_regs_struct *regs);
 
-int is_syscall(const struct decoded *insn);
+bool is_syscall(const struct decoded *insn);
 
 /* A system call, also by INT n: of what it writes nothing is known. */
-int enters_kernel(const struct decoded *insn);
+bool enters_kernel(const struct decoded *insn);
 
-int repeats_string(const struct decoded *insn);
+bool repeats_string(const struct decoded *insn);
 
 /* The address of a memory operand, with the bit offset of bt, bts, btr and btc. */
 uint64_t address_of(const struct decoded *insn, const ZydisDecodedOperand *operand, struct user_regs_struct *regs);
@@ -50,5 +51,5 @@ int spans_of(const struct decoded *insn, struct user_regs_struct *regs, struct s
 
 /* The bytes of the question: those of the instruction, with zeros for a displacement relative to the next one; whether there is one,
    and the address that it names. */
-int question_of(const struct decoded *decoded, uint8_t bytes[MOST_BYTES], uint64_t *names);
+bool question_of(const struct decoded *decoded, uint8_t bytes[MOST_BYTES], uint64_t *names);
 #endif

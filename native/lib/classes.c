@@ -1,31 +1,16 @@
 #include "classes.h"
 
-#include <string.h>
-
 #include "front.h"
 
-static int is_within(int low, int high, int opcode) { return low <= opcode && opcode <= high; }
-
-static int is_among(int opcode, const char *opcodes, int count) { return memchr(opcodes, opcode, (size_t)count) != NULL; }
-
-static int is_branch_or_end(const struct front *it, int reg) {
-    int op = it->opcode;
-    if (it->map == 2)
-        return is_within(0x80, 0x8F, op) || is_within(0x06, 0x09, op) || is_among(op, "\x0B\x30\x32\x34\x35\xAA", 6);
-    return is_within(0x70, 0x7F, op) || is_within(0xE0, 0xE9, op) || op == 0xEB || is_within(0xEC, 0xEF, op) || is_within(0xC2, 0xC3, op)
-           || is_within(0x6C, 0x6F, op) || is_within(0xCA, 0xCD, op) || op == 0xCF || is_among(op, "\xF1\xF4\xFA\xFB", 4)
-           || ((op == 0xC6 || op == 0xC7) && reg != 0) || (op == 0xFE && reg > 1) || (op == 0xFF && is_within(2, 5, reg)) || (op == 0xFF && reg == 7);
-}
-
-static int is_exact_two(const struct front *it) {
+static bool is_exact_two(const struct front *it) {
     int op = it->opcode;
     return is_within(0x40, 0x4F, op) || is_within(0x90, 0x9F, op) || op == 0xB6 || op == 0xBE || op == 0x1F
            || ((op == 0xB7 || op == 0xBF) && !it->operand_size);
 }
 
-static int is_shift(int op) { return is_within(0xC0, 0xC1, op) || is_within(0xD0, 0xD3, op); }
+static bool is_shift(int op) { return is_within(0xC0, 0xC1, op) || is_within(0xD0, 0xD3, op); }
 
-static int is_exact_one(const struct front *it, int reg, int registers) {
+static bool is_exact_one(const struct front *it, int reg, int registers) {
     int op = it->opcode, wide = it->rex >> 3 & 1;
     if (is_within(0x50, 0x5F, op) || op == 0x68 || op == 0x6A || op == 0x8F || op == 0xC9 || (op == 0xFF && reg == 6))
         return !it->operand_size;
@@ -37,25 +22,25 @@ static int is_exact_one(const struct front *it, int reg, int registers) {
 }
 
 /* Of the exact ones: or, and, xor, test and shifts. */
-static int leaves_flags(int op, int reg) {
+static bool leaves_flags(int op, int reg) {
     int which = op < 0x40 ? op / 8 : op == 0x80 || op == 0x81 || op == 0x83 ? reg : 0;
     return which == 1 || which == 4 || which == 6 || op == 0x84 || op == 0x85 || op == 0xA8 || op == 0xA9 || ((op == 0xF6 || op == 0xF7) && reg == 0)
            || is_shift(op);
 }
 
 /* F3 90 without REX.B, and F3 0F 1E FA: pause and endbr64. */
-static int is_nop_with_prefix(const struct front *it, int modrm) {
-    int is_nop = it->map == 2 ? it->opcode == 0x1E && modrm == 0xFA : it->opcode == 0x90 && !(it->rex & 1);
+static bool is_nop_with_prefix(const struct front *it, int modrm) {
+    bool is_nop = it->map == 2 ? it->opcode == 0x1E && modrm == 0xFA : it->opcode == 0x90 && !(it->rex & 1);
     return is_nop && it->repe && !it->lock && !it->repne;
 }
 
-enum asking class_of(const uint8_t *bytes, int count, int *shifts) {
+enum asking class_of(const uint8_t *bytes, int count, bool *shifts) {
     struct front it;
-    *shifts = 0;
+    *shifts = false;
     if (!take_front(&it, bytes, count) || it.map > 2)
         return ASKED;
     int modrm = it.at < count ? bytes[it.at] : 0, reg = modrm >> 3 & 7;
-    if (is_branch_or_end(&it, reg) || (it.fs && it.gs) || (it.repne && it.repe))
+    if (is_near_branch(&it, reg) || ends_run(&it, reg) || (it.fs && it.gs) || (it.repne && it.repe))
         return PLAIN;
     if (it.lock || it.repne || it.repe)
         return is_nop_with_prefix(&it, modrm) ? PLAIN : ASKED;

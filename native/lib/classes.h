@@ -1,6 +1,7 @@
 /* What an instruction asks of the world, by docs/reference/formats.md, Classes of instructions. */
 #ifndef CLASSES_H
 #define CLASSES_H
+#include <stdbool.h>
 #include <stdint.h>
 
 /* PLAIN: it is exact and defines all that it changes, or it ends a run. FLAGS_ALONE: it is exact, and leaves flags undefined. Of an
@@ -8,5 +9,5 @@
 enum asking { PLAIN, FLAGS_ALONE, ASKED };
 
 /* The class of what the bytes spell; `shifts` tells of FLAGS_ALONE whether flags change only where a count isn't 0. */
-enum asking class_of(const uint8_t *bytes, int count, int *shifts);
+enum asking class_of(const uint8_t *bytes, int count, bool *shifts);
 #endif

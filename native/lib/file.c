@@ -6,11 +6,11 @@
 #include <sys/stat.h>
 #include <unistd.h>
 
-int map_file(struct file *file, const char *path, size_t least) {
+bool map_file(struct file *file, const char *path, size_t least) {
     int descriptor = open(path, O_RDONLY | O_CLOEXEC);
     struct stat known;
     if (descriptor < 0 || fstat(descriptor, &known))
-        return 0;
+        return false;
     void *bytes = MAP_FAILED;
     errno = 0;
     file->size = (size_t)known.st_size;
@@ -21,9 +21,9 @@ int map_file(struct file *file, const char *path, size_t least) {
     return bytes != MAP_FAILED;
 }
 
-int is_in_file(const struct file *file, uint64_t offset, uint64_t length) { return offset <= file->size && length <= file->size - offset; }
+bool is_in_file(const struct file *file, uint64_t offset, uint64_t length) { return offset <= file->size && length <= file->size - offset; }
 
-int find_tables(struct elf *elf) {
+bool find_tables(struct elf *elf) {
     const Elf64_Ehdr *head = head_of(elf);
     if (head->e_shoff && head->e_shoff % 8 == 0 && head->e_shentsize == sizeof(Elf64_Shdr)
         && is_in_file(&elf->file, head->e_shoff, head->e_shnum * sizeof(Elf64_Shdr))) {

@@ -2,6 +2,7 @@
 #ifndef FILE_H
 #define FILE_H
 #include <elf.h>
+#include <stdbool.h>
 #include <stddef.h>
 #include <stdint.h>
 
@@ -10,10 +11,10 @@ struct file {
     size_t size;
 };
 
-/* Maps a file of so many bytes at least; 0 where it can't be (errno), or is shorter (errno is 0). */
-int map_file(struct file *file, const char *path, size_t least);
+/* Maps a file of so many bytes at least; false where it can't be (errno), or is shorter (errno is 0). */
+bool map_file(struct file *file, const char *path, size_t least);
 
-int is_in_file(const struct file *file, uint64_t offset, uint64_t length);
+bool is_in_file(const struct file *file, uint64_t offset, uint64_t length);
 
 /* A file's tables: of program headers, and of sections where it has a whole one. */
 struct elf {
@@ -26,5 +27,5 @@ struct elf {
 static inline const Elf64_Ehdr *head_of(const struct elf *elf) { return (const void *)elf->file.bytes; }
 
 /* Finds the tables of a mapped file; whether that of program headers is whole. */
-int find_tables(struct elf *elf);
+bool find_tables(struct elf *elf);
 #endif

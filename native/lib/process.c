@@ -13,20 +13,20 @@
 
 enum { WORD = 8 };
 
-int read_memory(pid_t tid, uint64_t at, void *to, size_t length) {
+bool read_memory(pid_t tid, uint64_t at, void *to, size_t length) {
     struct iovec here = {to, length}, there = {(void *)at, length};
     return process_vm_readv(tid, &here, 1, &there, 1, 0) == (ssize_t)length;
 }
 
-int write_memory(pid_t tid, uint64_t at, const void *from, size_t length) {
+bool write_memory(pid_t tid, uint64_t at, const void *from, size_t length) {
     struct iovec here = {(void *)from, length}, there = {(void *)at, length};
     return process_vm_writev(tid, &here, 1, &there, 1, 0) == (ssize_t)length;
 }
 
-int read_word(pid_t tid, uint64_t at, uint64_t *word) { return read_memory(tid, at, word, sizeof *word); }
+bool read_word(pid_t tid, uint64_t at, uint64_t *word) { return read_memory(tid, at, word, sizeof *word); }
 
 /* By aligned words, of which none lies across the end of the memory. */
-int write_code(pid_t tid, uint64_t at, const uint8_t *code, size_t length) {
+bool write_code(pid_t tid, uint64_t at, const uint8_t *code, size_t length) {
     for (size_t done = 0, taken; done < length; done += taken) {
         uint64_t from = at + done, place = from & ~7ull;
         errno = 0;
@@ -34,9 +34,9 @@ int write_code(pid_t tid, uint64_t at, const uint8_t *code, size_t length) {
         taken = WORD - (from - place) < length - done ? WORD - (from - place) : length - done;
         memcpy((uint8_t *)&word + (from - place), code + done, taken);
         if (errno || ptrace(PTRACE_POKETEXT, tid, place, word))
-            return 0;
+            return false;
     }
-    return 1;
+    return true;
 }
 
 const char *status_of(pid_t pid, const char *word) {
@@ -50,7 +50,7 @@ const char *status_of(pid_t pid, const char *word) {
     return found ? found + strlen(word) : "";
 }
 
-int is_signal_in(pid_t pid, const char *word, int number) { return strtoull(status_of(pid, word), NULL, 16) >> (number - 1) & 1; }
+bool is_signal_in(pid_t pid, const char *word, int number) { return strtoull(status_of(pid, word), NULL, 16) >> (number - 1) & 1; }
 
 unsigned long long *register_of(struct user_regs_struct *regs, unsigned number) {
     unsigned long long *all[] = {&regs->rax, &regs->rcx, &regs->rdx, &regs->rbx, &regs->rsp, &regs->rbp, &regs->rsi, &regs->rdi,
@@ -65,17 +65,17 @@ static uint64_t value_of(uint64_t kind, uint64_t value, const struct told *told)
 }
 
 /* Above the stack pointer lie the count of arguments, these and a zero, the environment and a zero, and the vector, which ends with AT_NULL. */
-int change_vector(pid_t tid, uint64_t rsp, const struct told *told, int hides_vdso) {
+bool change_vector(pid_t tid, uint64_t rsp, const struct told *told, bool hides_vdso) {
     uint64_t count, word = 1, was[2];
     if (!read_word(tid, rsp, &count))
-        return 1;
+        return true;
     uint64_t at = rsp + WORD * (count + 2);
     while (word && read_word(tid, at, &word))
         at += WORD;
     for (; read_memory(tid, at, was, sizeof was) && was[0] != AT_NULL; at += sizeof was) {
         const uint64_t is[] = {hides_vdso && was[0] == AT_SYSINFO_EHDR ? AT_IGNORE : was[0], value_of(was[0], was[1], told)};
         if (memcmp(is, was, sizeof is) && !write_memory(tid, at, is, sizeof is))
-            return 0;
+            return false;
     }
-    return 1;
+    return true;
 }

@@ -1,7 +1,5 @@
 #include "spelling.h"
 
-#include <string.h>
-
 #include "front.h"
 
 /* What follows an opcode byte. */
@@ -75,16 +73,6 @@ static int operand_length(const uint8_t *bytes, int count) {
     return length + (mod == 1 ? 1 : mod == 2 || (mod == 0 && rm == 5) ? 4 : 0);
 }
 
-/* Branches by a displacement, near returns, and indirect near calls and jumps, which processors with 66 don't read alike. */
-static int is_near_branch(const struct front *it, int reg) {
-    uint8_t op = it->opcode;
-    if (it->map == 2)
-        return op >= 0x80 && op <= 0x8F;
-    return it->map == 1
-           && ((op >= 0x70 && op <= 0x7F) || op == 0xC2 || op == 0xC3 || (op >= 0xE0 && op <= 0xE3) || op == 0xE8 || op == 0xE9 || op == 0xEB
-               || (op == 0xFF && (reg == 2 || reg == 4)));
-}
-
 static int immediate_length(const struct front *it, int what, int reg) {
     int wide = it->rex >> 3 & 1, z = it->operand_size && !wide ? 2 : 4;
     switch (what) {
@@ -103,7 +91,7 @@ static int immediate_length(const struct front *it, int what, int reg) {
     }
 }
 
-static int has_modrm(int what) { return what == MODRM || what == MODRM_BYTE || what == MODRM_Z || what == GROUP || what == GROUP_Z; }
+static bool has_modrm(int what) { return what == MODRM || what == MODRM_BYTE || what == MODRM_Z || what == GROUP || what == GROUP_Z; }
 
 int spelled_length(const uint8_t *bytes, int count) {
     struct front it;
@@ -127,33 +115,25 @@ int spelled_length(const uint8_t *bytes, int count) {
     return length <= count ? length : 0;
 }
 
-static int is_among(uint8_t opcode, const char *opcodes, int count) { return memchr(opcodes, opcode, (size_t)count) != NULL; }
-
-static int two_byte_stays(uint8_t op) { return is_among(op, "\x00\x01\x06\x07\x08\x09\x0B\x30\x32\x34\x35\xAA\xAE\xC7", 14); }
-
-static int one_byte_stays(const struct front *it, int reg) {
-    uint8_t op = it->opcode;
-    if ((op >= 0x6C && op <= 0x6F) || (op >= 0xCA && op <= 0xCD) || (op >= 0xD8 && op <= 0xE7) || (op >= 0xEC && op <= 0xEF)
-        || is_among(op, "\x9B\xCF\xF1\xF4\xFA\xFB", 6))
-        return 1;
-    if (op == 0xFF)
-        return reg == 3 || reg == 5 || reg == 7 || ((reg == 2 || reg == 4) && (it->lock || it->repne || it->repe));
-    return ((op == 0xC6 || op == 0xC7) && reg) || (op == 0xFE && reg > 1);
+static bool one_byte_stays(const struct front *it, int reg) {
+    bool is_indirect = it->opcode == 0xFF && (reg == 2 || reg == 4);
+    return ends_run(it, reg) || is_within(0xD8, 0xE3, it->opcode) || it->opcode == 0x9B || (is_indirect && (it->lock || it->repne || it->repe));
 }
 
-static int is_direct_branch(const struct front *it) { return is_near_branch(it, 0) && !(it->map == 1 && it->opcode >= 0xE0 && it->opcode <= 0xE3); }
+static bool is_direct_branch(const struct front *it) { return is_near_branch(it, 0) && !(it->map == 1 && it->opcode >= 0xE0 && it->opcode <= 0xE3); }
 
-int can_be_displaced(const uint8_t *bytes, int count) {
+bool can_be_displaced(const uint8_t *bytes, int count) {
     struct front it;
     if (!take_front(&it, bytes, count) || (it.fs && it.gs) || (it.repne && it.repe))
-        return 0;
-    int repeats = it.lock || it.repne || it.repe, reg = it.at < count ? bytes[it.at] >> 3 & 7 : 0;
-    int is_relative = has_modrm(follows(&it)) && it.at < count && (bytes[it.at] & 0xC7) == 5; /* to the next instruction */
+        return false;
+    bool repeats = it.lock || it.repne || it.repe;
+    int reg = it.at < count ? bytes[it.at] >> 3 & 7 : 0;
+    bool is_relative = has_modrm(follows(&it)) && it.at < count && (bytes[it.at] & 0xC7) == 5; /* to the next instruction */
     if (it.address_size && is_relative)
-        return 0;
+        return false;
     if (is_direct_branch(&it))
         return (!repeats && !it.fs && !it.gs) || (it.opcode == 0xC3 && it.map == 1 && it.repe && !it.lock && !it.fs && !it.gs);
     if (it.map == 2) /* F2 and F3 leave 0F 05 a system call, which shows where it stands */
-        return !two_byte_stays(it.opcode) && !(it.opcode == 0x05 && (it.repne || it.repe));
+        return !ends_run(&it, reg) && !is_among(it.opcode, "\x00\x01\xAE\xC7", 4) && !(it.opcode == 0x05 && (it.repne || it.repe));
     return it.map != 1 || !one_byte_stays(&it, reg);
 }

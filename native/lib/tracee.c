@@ -60,7 +60,7 @@ void change_memory(pid_t tid, uint64_t at, const void *from, size_t length) {
         die("the program's memory can't be changed");
 }
 
-const struct decoded *decode(pid_t tid, uint64_t rip, int is_kept) {
+const struct decoded *decode(pid_t tid, uint64_t rip, bool is_kept) {
     static struct decoded known[KNOWN];
     struct decoded *insn = &known[(rip * 0x9e3779b97f4a7c15) >> 48];
     uint8_t bytes[MOST_BYTES];
@@ -72,7 +72,7 @@ const struct decoded *decode(pid_t tid, uint64_t rip, int is_kept) {
     return decode_bytes(insn, rip, bytes, size) ? insn : NULL;
 }
 
-void put_right(pid_t tid, const struct decoded *insn, const struct user_regs_struct *before, struct user_regs_struct *after, int keeps_evex) {
+void put_right(pid_t tid, const struct decoded *insn, const struct user_regs_struct *before, struct user_regs_struct *after, bool keeps_evex) {
     ZydisMnemonic name = insn->insn.mnemonic;
     if (name == ZYDIS_MNEMONIC_PUSHF || name == ZYDIS_MNEMONIC_PUSHFQ) {
         uint16_t low;

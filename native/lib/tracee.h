@@ -1,6 +1,8 @@
 /* A program that is traced step by step, as a plain run would have it. */
 #ifndef TRACEE_H
 #define TRACEE_H
+#include <stdbool.h>
+
 #include "asking.h"
 #include "process.h"
 
@@ -17,10 +19,10 @@ void set_regs(pid_t tid, const struct user_regs_struct *regs);
 void change_memory(pid_t tid, uint64_t at, const void *from, size_t length);
 
 /* The instruction at an address of a process, or nothing. One that was decoded there before is taken without a look, if it is `kept`. */
-const struct decoded *decode(pid_t tid, uint64_t rip, int is_kept);
+const struct decoded *decode(pid_t tid, uint64_t rip, bool is_kept);
 
 /* What the trap flag and AVX-512 would show behind an instruction is put right in the process, as a plain run has it. */
-void put_right(pid_t tid, const struct decoded *insn, const struct user_regs_struct *before, struct user_regs_struct *after, int keeps_evex);
+void put_right(pid_t tid, const struct decoded *insn, const struct user_regs_struct *before, struct user_regs_struct *after, bool keeps_evex);
 
 /* A system call that the run does without: rseq, whose memory the kernel changes at any time. */
 void refuse_rseq(pid_t tid, const struct user_regs_struct *regs);

@@ -6,46 +6,24 @@
 
 enum { SAVED_STATE = 16384 };
 
-static int is_between(int low, int high, int opcode) { return low <= opcode && opcode <= high; }
-
-static int is_branch(const struct front *it, int reg) {
-    int op = it->opcode;
-    if (it->map == 2)
-        return is_between(0x80, 0x8F, op);
-    return it->map == 1
-           && (is_between(0x70, 0x7F, op) || is_between(0xE0, 0xE3, op) || op == 0xE8 || op == 0xE9 || op == 0xEB || op == 0xC2 || op == 0xC3
-               || (op == 0xFF && (reg == 2 || reg == 4)));
-}
-
-/* Whether an opcode ends a run, whatever its prefixes (docs/reference/formats.md, Classes of instructions). */
-static int is_ending_opcode(const struct front *it, int reg) {
-    int op = it->opcode;
-    if (it->map == 2)
-        return is_between(0x06, 0x09, op) || op == 0x0B || op == 0x30 || op == 0x32 || op == 0x34 || op == 0x35 || op == 0xAA;
-    return it->map == 1
-           && (is_between(0x6C, 0x6F, op) || is_between(0xCA, 0xCD, op) || op == 0xCF || is_between(0xE4, 0xE7, op) || is_between(0xEC, 0xEF, op) || op == 0xF1
-               || op == 0xF4 || op == 0xFA || op == 0xFB || ((op == 0xC6 || op == 0xC7) && reg != 0) || (op == 0xFE && reg > 1)
-               || (op == 0xFF && (reg == 3 || reg == 5 || reg == 7)));
-}
-
-static int is_ending(const struct decoded *insn) {
+static bool is_ending(const struct decoded *insn) {
     struct front it;
     if (!take_front(&it, insn->bytes, insn->insn.length))
-        return 1;
+        return true;
     int modrm = it.at < insn->insn.length ? insn->bytes[it.at] : 0, reg = modrm >> 3 & 7;
-    int is_relative = insn->insn.attributes & ZYDIS_ATTRIB_HAS_MODRM && (modrm & 0xC7) == 5;
-    if (is_ending_opcode(&it, reg) || (it.fs && it.gs) || (it.repne && it.repe) || (it.address_size && is_relative))
-        return 1;
-    if (!is_branch(&it, reg))
-        return 0;
-    int is_plain_return = it.map == 1 && it.opcode == 0xC3 && it.repe && !it.lock;
-    int is_indirect = it.map == 1 && it.opcode == 0xFF;
+    bool is_relative = insn->insn.attributes & ZYDIS_ATTRIB_HAS_MODRM && (modrm & 0xC7) == 5;
+    if (ends_run(&it, reg) || (it.fs && it.gs) || (it.repne && it.repe) || (it.address_size && is_relative))
+        return true;
+    if (!is_near_branch(&it, reg))
+        return false;
+    bool is_plain_return = it.map == 1 && it.opcode == 0xC3 && it.repe && !it.lock;
+    bool is_indirect = it.map == 1 && it.opcode == 0xFF;
     return ((it.lock || it.repne || it.repe) && !is_plain_return) || ((it.fs || it.gs) && !is_indirect)
-           || (it.map == 1 && is_between(0xE0, 0xE2, it.opcode) && it.address_size);
+           || (it.map == 1 && is_within(0xE0, 0xE2, it.opcode) && it.address_size);
 }
 
 /* LOCK INC of eight bytes at an address, and LOCK XADD of four with eax, which threads make in one step. */
-static int is_locked(const struct decoded *insn) {
+static bool is_locked(const struct decoded *insn) {
     return insn->insn.length == 9 && (!memcmp(insn->bytes, "\xf0\x48\xff\x04\x25", 5) || !memcmp(insn->bytes, "\xf0\x0f\xc1\x04\x25", 5));
 }
 
@@ -60,13 +38,13 @@ enum work work_of(const struct decoded *insn) {
 /* How far below its operand's address an instruction writes that moves the stack pointer first. */
 static uint64_t below_stack(const struct decoded *insn, const ZydisDecodedOperand *operand) {
     ZydisMnemonic name = insn->insn.mnemonic;
-    int is_push = name == ZYDIS_MNEMONIC_PUSH || name == ZYDIS_MNEMONIC_PUSHF || name == ZYDIS_MNEMONIC_PUSHFQ || name == ZYDIS_MNEMONIC_CALL
-                  || name == ZYDIS_MNEMONIC_ENTER;
-    int is_hidden = operand->visibility == ZYDIS_OPERAND_VISIBILITY_HIDDEN && operand->mem.base == ZYDIS_REGISTER_RSP;
+    bool is_push = name == ZYDIS_MNEMONIC_PUSH || name == ZYDIS_MNEMONIC_PUSHF || name == ZYDIS_MNEMONIC_PUSHFQ || name == ZYDIS_MNEMONIC_CALL
+                   || name == ZYDIS_MNEMONIC_ENTER;
+    bool is_hidden = operand->visibility == ZYDIS_OPERAND_VISIBILITY_HIDDEN && operand->mem.base == ZYDIS_REGISTER_RSP;
     return is_push && is_hidden && operand->actions & ZYDIS_OPERAND_ACTION_MASK_WRITE ? operand->size / 8 : 0;
 }
 
-static int has_wide_state(const struct decoded *insn) {
+static bool has_wide_state(const struct decoded *insn) {
     ZydisInstructionCategory of = insn->insn.meta.category;
     return of == ZYDIS_CATEGORY_XSAVE || of == ZYDIS_CATEGORY_XSAVEOPT;
 }
@@ -75,11 +53,11 @@ static int has_wide_state(const struct decoded *insn) {
 static struct access access_of(const struct decoded *insn, const ZydisDecodedOperand *operand, struct user_regs_struct *before,
                                const struct user_regs_struct *after) {
     uint64_t addr = address_of(insn, operand, before) - below_stack(insn, operand), size = operand->size / 8, turns = 1;
-    int may = operand->actions & (ZYDIS_OPERAND_ACTION_CONDWRITE), is_wide = has_wide_state(insn);
+    bool may = operand->actions & (ZYDIS_OPERAND_ACTION_CONDWRITE), is_wide = has_wide_state(insn);
     if (repeats_string(insn) && insn->insn.mnemonic != ZYDIS_MNEMONIC_RET)
         turns = insn->insn.address_width == 32 ? (uint32_t)(before->rcx - after->rcx) : before->rcx - after->rcx;
     uint64_t down = turns && before->eflags >> 10 & 1 && turns > 1 ? size * (turns - 1) : 0;
-    struct access it = {addr - down, addr - down + (is_wide ? SAVED_STATE : size * turns), 0, 0, !may && !is_wide};
+    struct access it = {addr - down, addr - down + (is_wide ? SAVED_STATE : size * turns), false, false, !may && !is_wide};
     it.reads = (operand->actions & ZYDIS_OPERAND_ACTION_MASK_READ) != 0;
     it.writes = (operand->actions & ZYDIS_OPERAND_ACTION_MASK_WRITE) != 0;
     return it;

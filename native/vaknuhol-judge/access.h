@@ -1,6 +1,8 @@
 /* Which bytes of memory an instruction reads and writes, and which the kernel does in a system call. */
 #ifndef ACCESS_H
 #define ACCESS_H
+#include <stdbool.h>
+
 #include "asking.h"
 
 enum { MOST_ACCESSES = 24, MOST_VECTORS = 16, MOST_READS = 64 };
@@ -8,7 +10,7 @@ enum { MOST_ACCESSES = 24, MOST_VECTORS = 16, MOST_READS = 64 };
 /* Bytes that are read or written; `surely` if each of them is written whenever the step is made. */
 struct access {
     uint64_t lo, hi;
-    int reads, writes, surely;
+    bool reads, writes, surely;
 };
 
 /* What an instruction is to the model: its work is defined, or the world answers it, or it ends a run. */
@@ -27,7 +29,7 @@ struct call {
     uint64_t args[3];                /* of clone and clone3: flags, and where the thread's number goes */
     struct access reads[MOST_READS]; /* what its answer depends on */
     int read_count;
-    int is_known; /* whether all that it reads and writes is known */
+    bool is_known; /* whether all that it reads and writes is known */
 };
 
 struct call begin_call(pid_t tid, const struct user_regs_struct *regs);
@@ -38,7 +40,7 @@ uint64_t argument_of(const struct call *call, int number);
 uint64_t selected_bytes(const struct call *call);
 
 /* call_reads.c: adds what the kernel reads; whether this is a call that reads memory. */
-int find_reads(struct call *call, pid_t tid);
+bool find_reads(struct call *call, pid_t tid);
 
 /* What the kernel wrote, once the call has answered; how many accesses there are, or -1 where that, or what it read, isn't known. */
 int answer_accesses(const struct call *call, int64_t answer, struct access accesses[MOST_ACCESSES]);

@@ -66,9 +66,9 @@ static void add(struct call *call, uint64_t lo, uint64_t size) {
     if (call->read_count && call->reads[call->read_count - 1].hi == lo)
         call->reads[call->read_count - 1].hi = hi;
     else if (call->read_count == MOST_READS)
-        call->is_known = 0;
+        call->is_known = false;
     else
-        call->reads[call->read_count++] = (struct access){lo, hi, 1, 0, 0};
+        call->reads[call->read_count++] = (struct access){lo, hi, true, false, false};
 }
 
 /* A string with its 0, as far as it can be read. */
@@ -97,7 +97,7 @@ static void add_strings(struct call *call, pid_t tid, uint64_t at) {
     }
 }
 
-static void add_buffers(struct call *call, pid_t tid, uint64_t at, uint64_t count, int are_filled) {
+static void add_buffers(struct call *call, pid_t tid, uint64_t at, uint64_t count, bool are_filled) {
     uint64_t words[2];
     add(call, at, VECTOR * count);
     for (uint64_t number = 0; are_filled && number < count && call->is_known; number++)
@@ -106,7 +106,7 @@ static void add_buffers(struct call *call, pid_t tid, uint64_t at, uint64_t coun
 }
 
 /* The head of a message, its buffers, and what it sends. */
-static void add_message(struct call *call, pid_t tid, uint64_t at, int is_sent) {
+static void add_message(struct call *call, pid_t tid, uint64_t at, bool is_sent) {
     struct msghdr head;
     if (!read_memory(tid, at, &head, sizeof head))
         return;
@@ -120,7 +120,8 @@ static void add_message(struct call *call, pid_t tid, uint64_t at, int is_sent) 
 }
 
 static void add_futex(struct call *call) {
-    int what = (int)argument_of(call, 1) & FUTEX_CMD_MASK, waits = what == FUTEX_WAIT || what == FUTEX_WAIT_BITSET;
+    int what = (int)argument_of(call, 1) & FUTEX_CMD_MASK;
+    bool waits = what == FUTEX_WAIT || what == FUTEX_WAIT_BITSET;
     if (what == FUTEX_WAKE || what == FUTEX_WAKE_BITSET || what == FUTEX_REQUEUE)
         return;
     add(call, argument_of(call, what == FUTEX_WAKE_OP ? 4 : 0), 4);
@@ -174,41 +175,41 @@ static void add_frame(struct call *call) {
 }
 
 /* Calls that the table hasn't; whether this is one. */
-static int add_special(struct call *call, pid_t tid) {
+static bool add_special(struct call *call, pid_t tid) {
     switch (call->regs.rax) {
     case SYS_execve:
         add_string(call, tid, argument_of(call, 0), LONGEST_STRING);
         add_strings(call, tid, argument_of(call, 1)), add_strings(call, tid, argument_of(call, 2));
-        return 1;
+        return true;
     case SYS_sendmsg:
-    case SYS_recvmsg: add_message(call, tid, argument_of(call, 1), call->regs.rax == SYS_sendmsg); return 1;
-    case SYS_futex: add_futex(call); return 1;
+    case SYS_recvmsg: add_message(call, tid, argument_of(call, 1), call->regs.rax == SYS_sendmsg); return true;
+    case SYS_futex: add_futex(call); return true;
     case SYS_select:
-    case SYS_pselect6: add_selected(call, tid); return 1;
-    case SYS_ioctl: add_ioctl(call); return 1;
-    case SYS_fcntl: add_fcntl(call); return 1;
-    case SYS_rt_sigreturn: add_frame(call); return 1;
-    case SYS_epoll_ctl: add(call, argument_of(call, 3), 12); return 1;
+    case SYS_pselect6: add_selected(call, tid); return true;
+    case SYS_ioctl: add_ioctl(call); return true;
+    case SYS_fcntl: add_fcntl(call); return true;
+    case SYS_rt_sigreturn: add_frame(call); return true;
+    case SYS_epoll_ctl: add(call, argument_of(call, 3), 12); return true;
     case SYS_prctl:
         call->is_known = argument_of(call, 0) == PR_SET_NAME;
         add_string(call, tid, call->is_known ? argument_of(call, 1) : 0, THREAD_NAME);
-        return 1;
+        return true;
     case SYS_poll:
-    case SYS_ppoll: add_polled(call); return 0;
-    default: return 0;
+    case SYS_ppoll: add_polled(call); return false;
+    default: return false;
     }
 }
 
 uint64_t selected_bytes(const struct call *call) { return (argument_of(call, 0) + 63) / 64 * 8; }
 
-int find_reads(struct call *call, pid_t tid) {
-    int is_found = add_special(call, tid);
+bool find_reads(struct call *call, pid_t tid) {
+    bool is_found = add_special(call, tid);
     for (size_t at = 0; at < sizeof QUESTIONS / sizeof *QUESTIONS; at++) {
         const struct question *it = &QUESTIONS[at];
         if ((uint64_t)it->call != call->regs.rax)
             continue;
         uint64_t addr = argument_of(call, it->argument), next = it->argument < 5 ? argument_of(call, it->argument + 1) : 0;
-        is_found = 1;
+        is_found = true;
         switch (addr ? it->form : FIXED) {
         case FIXED: add(call, addr ? addr + (uint64_t)it->offset : 0, (uint64_t)it->size); break;
         case COUNTED: add(call, addr, (uint64_t)it->size * next); break;

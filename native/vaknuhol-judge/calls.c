@@ -49,55 +49,15 @@ static const struct buffer BUFFERS[] = {
     { SYS_getgroups, 1, ANSWERED_TIMES, 4 },   { SYS_statfs, 1, FIXED, 120 },             { SYS_fstatfs, 1, FIXED, 120 },
     { SYS_sendfile, 2, UP_TO, 8 },             { SYS_timerfd_settime, 3, FIXED, 32 },
 };
-/* clang-format on */
 
 /* Calls that read and write none. */
 static const int SILENT[] = {
-    SYS_close,
-    SYS_lseek,
-    SYS_mprotect,
-    SYS_brk,
-    SYS_sched_yield,
-    SYS_dup,
-    SYS_dup2,
-    SYS_dup3,
-    SYS_pause,
-    SYS_alarm,
-    SYS_getpid,
-    SYS_gettid,
-    SYS_getppid,
-    SYS_getuid,
-    SYS_geteuid,
-    SYS_getgid,
-    SYS_getegid,
-    SYS_socket,
-    SYS_listen,
-    SYS_shutdown,
-    SYS_fork,
-    SYS_vfork,
-    SYS_exit,
-    SYS_exit_group,
-    SYS_kill,
-    SYS_tkill,
-    SYS_tgkill,
-    SYS_fsync,
-    SYS_ftruncate,
-    SYS_umask,
-    SYS_setsid,
-    SYS_set_tid_address,
-    SYS_set_robust_list,
-    SYS_rseq,
-    SYS_membarrier,
-    SYS_eventfd2,
-    SYS_epoll_create1,
-    SYS_flock,
-    SYS_msync,
-    SYS_getpgrp,
-    SYS_setpriority,
-    SYS_fadvise64,
-    SYS_timerfd_create,
-    SYS_timer_delete,
+    SYS_close, SYS_lseek, SYS_mprotect, SYS_brk, SYS_sched_yield, SYS_dup, SYS_dup2, SYS_dup3, SYS_pause, SYS_alarm, SYS_getpid, SYS_gettid, SYS_getppid,
+    SYS_getuid, SYS_geteuid, SYS_getgid, SYS_getegid, SYS_socket, SYS_listen, SYS_shutdown, SYS_fork, SYS_vfork, SYS_exit, SYS_exit_group, SYS_kill,
+    SYS_tkill, SYS_tgkill, SYS_fsync, SYS_ftruncate, SYS_umask, SYS_setsid, SYS_set_tid_address, SYS_set_robust_list, SYS_rseq, SYS_membarrier, SYS_eventfd2,
+    SYS_epoll_create1, SYS_flock, SYS_msync, SYS_getpgrp, SYS_setpriority, SYS_fadvise64, SYS_timerfd_create, SYS_timer_delete,
 };
+/* clang-format on */
 
 uint64_t argument_of(const struct call *call, int number) {
     const struct user_regs_struct *r = &call->regs;
@@ -105,17 +65,17 @@ uint64_t argument_of(const struct call *call, int number) {
     return all[number];
 }
 
-static int add(struct access *accesses, int count, uint64_t lo, uint64_t size, int surely) {
+static int add(struct access *accesses, int count, uint64_t lo, uint64_t size, bool surely) {
     if (!lo || !size)
         return count;
-    accesses[count] = (struct access){lo, lo + size, 0, 1, surely};
+    accesses[count] = (struct access){lo, lo + size, false, true, surely};
     return count + 1;
 }
 
 /* Whether a call is one of those that write, or of those that do neither; `answer_accesses` has some more. */
-static int is_listed(uint64_t number) {
+static bool is_listed(uint64_t number) {
     static const int MORE[] = {SYS_clone, SYS_mmap, SYS_munmap, SYS_madvise, SYS_arch_prctl};
-    int is_found = 0;
+    bool is_found = false;
     for (size_t at = 0; at < sizeof MORE / sizeof *MORE; at++)
         is_found |= (uint64_t)MORE[at] == number;
     for (size_t at = 0; at < sizeof BUFFERS / sizeof *BUFFERS; at++)
@@ -125,18 +85,18 @@ static int is_listed(uint64_t number) {
     return is_found;
 }
 
-static void name(struct call *call, uint64_t lo, uint64_t size, int surely) {
+static void name(struct call *call, uint64_t lo, uint64_t size, bool surely) {
     if (call->named_count == MOST_VECTORS)
-        call->is_known = 0;
+        call->is_known = false;
     else if (lo && size)
-        call->named[call->named_count++] = (struct access){lo, lo + size, 0, 1, surely};
+        call->named[call->named_count++] = (struct access){lo, lo + size, false, true, surely};
 }
 
 static void name_buffers(struct call *call, pid_t tid, uint64_t at, uint64_t count) {
     uint64_t vector[2];
     for (uint64_t number = 0; number < count && call->is_known; number++)
         if (read_memory(tid, at + 16 * number, vector, sizeof vector))
-            name(call, vector[0], vector[1], 1);
+            name(call, vector[0], vector[1], true);
 }
 
 /* A message that is received: lengths and flags of its head, a name, control data, buffers. */
@@ -144,15 +104,15 @@ static void name_message(struct call *call, pid_t tid, uint64_t at) {
     struct msghdr head;
     if (!read_memory(tid, at, &head, sizeof head))
         return;
-    name(call, at + offsetof(struct msghdr, msg_namelen), sizeof head.msg_namelen, 0);
-    name(call, at + offsetof(struct msghdr, msg_controllen), sizeof head.msg_controllen + sizeof head.msg_flags, 0);
-    name(call, (uint64_t)head.msg_name, head.msg_namelen, 0);
-    name(call, (uint64_t)head.msg_control, head.msg_controllen, 0);
+    name(call, at + offsetof(struct msghdr, msg_namelen), sizeof head.msg_namelen, false);
+    name(call, at + offsetof(struct msghdr, msg_controllen), sizeof head.msg_controllen + sizeof head.msg_flags, false);
+    name(call, (uint64_t)head.msg_name, head.msg_namelen, false);
+    name(call, (uint64_t)head.msg_control, head.msg_controllen, false);
     name_buffers(call, tid, (uint64_t)head.msg_iov, head.msg_iovlen);
 }
 
 struct call begin_call(pid_t tid, const struct user_regs_struct *regs) {
-    struct call call = {.regs = *regs, .is_known = 1};
+    struct call call = {.regs = *regs, .is_known = true};
     uint32_t length = 0;
     uint64_t words[4] = {0};
     switch (regs->rax) {
@@ -160,7 +120,7 @@ struct call begin_call(pid_t tid, const struct user_regs_struct *regs) {
     case SYS_recvmsg: name_message(&call, tid, regs->rsi); break;
     case SYS_getsockopt:
         read_memory(tid, regs->r8, &length, sizeof length);
-        name(&call, regs->r10, length, 0), name(&call, regs->r8, sizeof length, 0);
+        name(&call, regs->r10, length, false), name(&call, regs->r8, sizeof length, false);
         break;
     case SYS_vfork: call.args[0] = CLONE_VM | CLONE_VFORK; break;
     case SYS_clone: call.args[0] = regs->rdi, call.args[1] = regs->rdx, call.args[2] = regs->r10; break;
@@ -176,8 +136,8 @@ struct call begin_call(pid_t tid, const struct user_regs_struct *regs) {
 
 /* A thread's number goes to its parent's word, and to its own. */
 static int clone_accesses(const struct call *call, struct access *accesses) {
-    int count = call->args[0] & 0x100000 ? add(accesses, 0, call->args[1], 4, 1) : 0;
-    return call->args[0] & 0x1000000 ? add(accesses, count, call->args[2], 4, 1) : count;
+    int count = call->args[0] & 0x100000 ? add(accesses, 0, call->args[1], 4, true) : 0;
+    return call->args[0] & 0x1000000 ? add(accesses, count, call->args[2], 4, true) : count;
 }
 
 static int ioctl_accesses(const struct call *call, struct access *accesses) {
@@ -187,7 +147,7 @@ static int ioctl_accesses(const struct call *call, struct access *accesses) {
         size = 4;
     if (request == TCSETS || request == TCSETSW || request == TCSETSF || request == TIOCSWINSZ || request == TIOCSPGRP || request == FIONBIO)
         return 0;
-    return size ? add(accesses, 0, argument_of(call, 2), size, 0) : -1;
+    return size ? add(accesses, 0, argument_of(call, 2), size, false) : -1;
 }
 
 static int futex_accesses(const struct call *call, struct access *accesses) {
@@ -195,16 +155,16 @@ static int futex_accesses(const struct call *call, struct access *accesses) {
     if (what == FUTEX_WAIT || what == FUTEX_WAIT_BITSET || what == FUTEX_WAKE || what == FUTEX_WAKE_BITSET || what == FUTEX_REQUEUE
         || what == FUTEX_CMP_REQUEUE)
         return 0;
-    return what == FUTEX_WAKE_OP ? add(accesses, 0, argument_of(call, 4), 4, 0) : add(accesses, 0, argument_of(call, 0), 4, 0);
+    return what == FUTEX_WAKE_OP ? add(accesses, 0, argument_of(call, 4), 4, false) : add(accesses, 0, argument_of(call, 0), 4, false);
 }
 
 /* Calls that map memory: what lies there is as new. */
 static int map_accesses(const struct call *call, int64_t answer, struct access *accesses) {
     switch (call->regs.rax) {
-    case SYS_mmap: return add(accesses, 0, (uint64_t)answer, (argument_of(call, 1) + 4095) & ~4095ull, 1);
-    case SYS_munmap: return add(accesses, 0, argument_of(call, 0), argument_of(call, 1), 0);
-    case SYS_mremap: return add(accesses, 0, (uint64_t)answer, argument_of(call, 2), 0);
-    default: return argument_of(call, 2) == MADV_DONTNEED ? add(accesses, 0, argument_of(call, 0), argument_of(call, 1), 0) : 0;
+    case SYS_mmap: return add(accesses, 0, (uint64_t)answer, (argument_of(call, 1) + 4095) & ~4095ull, true);
+    case SYS_munmap: return add(accesses, 0, argument_of(call, 0), argument_of(call, 1), false);
+    case SYS_mremap: return add(accesses, 0, (uint64_t)answer, argument_of(call, 2), false);
+    default: return argument_of(call, 2) == MADV_DONTNEED ? add(accesses, 0, argument_of(call, 0), argument_of(call, 1), false) : 0;
     }
 }
 
@@ -223,8 +183,8 @@ static int named_accesses(const struct call *call, int64_t answer, struct access
 static int selected_accesses(const struct call *call, struct access *accesses) {
     int count = 0;
     for (int at = 1; at <= 3; at++)
-        count = add(accesses, count, argument_of(call, at), selected_bytes(call), 1);
-    return add(accesses, count, argument_of(call, 4), 16, 0);
+        count = add(accesses, count, argument_of(call, at), selected_bytes(call), true);
+    return add(accesses, count, argument_of(call, 4), 16, false);
 }
 
 static int table_accesses(const struct call *call, int64_t answer, struct access *accesses) {
@@ -254,14 +214,14 @@ static int written(const struct call *call, int64_t answer, struct access *acces
     case SYS_munmap:
     case SYS_mremap:
     case SYS_madvise: return map_accesses(call, answer, accesses);
-    case SYS_fcntl: return argument_of(call, 1) == F_GETLK || argument_of(call, 1) == F_OFD_GETLK ? add(accesses, 0, argument_of(call, 2), 32, 0) : 0;
-    case SYS_arch_prctl: return argument_of(call, 0) == GET_FS || argument_of(call, 0) == GET_GS ? add(accesses, 0, argument_of(call, 1), 8, 1) : 0;
+    case SYS_fcntl: return argument_of(call, 1) == F_GETLK || argument_of(call, 1) == F_OFD_GETLK ? add(accesses, 0, argument_of(call, 2), 32, false) : 0;
+    case SYS_arch_prctl: return argument_of(call, 0) == GET_FS || argument_of(call, 0) == GET_GS ? add(accesses, 0, argument_of(call, 1), 8, true) : 0;
     default: return table_accesses(call, answer, accesses);
     }
 }
 
 int answer_accesses(const struct call *call, int64_t answer, struct access accesses[MOST_ACCESSES]) {
-    int is_error = OLDEST_ERROR <= answer && answer < 0 && call->regs.rax != SYS_nanosleep && call->regs.rax != SYS_clock_nanosleep;
+    bool is_error = OLDEST_ERROR <= answer && answer < 0 && call->regs.rax != SYS_nanosleep && call->regs.rax != SYS_clock_nanosleep;
     int count = is_error ? 0 : written(call, answer, accesses);
     return call->is_known ? count : -1;
 }

@@ -26,7 +26,7 @@ static struct told told;
 static struct event event;
 
 /* The marks of a page's addresses; without `made` none where there are none yet. */
-static uint16_t *page_marks(uint64_t page, int made) {
+static uint16_t *page_marks(uint64_t page, bool made) {
     size_t at = (page * 0x9e3779b97f4a7c15) >> 46, tries = 0;
     for (; pages[at].marks; at = (at + 1) % PAGES, tries++)
         if (pages[at].page == page)
@@ -41,11 +41,11 @@ static uint16_t *page_marks(uint64_t page, int made) {
 }
 
 unsigned marks_of(uint64_t addr) {
-    uint16_t *marks = page_marks(addr / PAGE, 0);
+    uint16_t *marks = page_marks(addr / PAGE, false);
     return marks ? marks[addr % PAGE] : 0;
 }
 
-void set_marks(uint64_t addr, unsigned bits) { page_marks(addr / PAGE, 1)[addr % PAGE] |= bits; }
+void set_marks(uint64_t addr, unsigned bits) { page_marks(addr / PAGE, true)[addr % PAGE] |= bits; }
 
 /* The end of the page of an address, or an end before it. */
 static uint64_t page_end(uint64_t addr, uint64_t hi) {
@@ -55,7 +55,7 @@ static uint64_t page_end(uint64_t addr, uint64_t hi) {
 
 void clear_marks(uint64_t lo, uint64_t hi, unsigned bits) {
     for (uint64_t end; lo < hi; lo = end) {
-        uint16_t *marks = page_marks(lo / PAGE, 0);
+        uint16_t *marks = page_marks(lo / PAGE, false);
         end = page_end(lo, hi);
         for (; marks && lo < end; lo++)
             marks[lo % PAGE] &= ~bits;
@@ -64,7 +64,7 @@ void clear_marks(uint64_t lo, uint64_t hi, unsigned bits) {
 
 uint64_t first_marked(uint64_t lo, uint64_t hi, unsigned bits) {
     for (uint64_t end; lo < hi; lo = end) {
-        uint16_t *marks = page_marks(lo / PAGE, 0);
+        uint16_t *marks = page_marks(lo / PAGE, false);
         end = page_end(lo, hi);
         for (; marks && lo < end; lo++)
             if (marks[lo % PAGE] & bits)
@@ -151,14 +151,14 @@ static int by_place(const void *a, const void *b) {
 }
 
 /* Whether a line is one of what every event does. */
-static int is_event_line(const char *line) {
+static bool is_event_line(const char *line) {
     int at = event.comparison_count;
     if (sscanf(line, "event %lu %lu", &event.recorded, &event.size) == 2 || sscanf(line, "ring %lu %lu", &event.slots, &event.claimed) == 2)
-        return 1;
+        return true;
     if (at == MOST_COMPARISONS || sscanf(line, "when %d %d %lu", &event.comparisons[at].reg, &event.comparisons[at].sign, &event.comparisons[at].value) != 3)
-        return 0;
+        return false;
     event.comparison_count++;
-    return 1;
+    return true;
 }
 
 void read_facts(const char *original, const char *facts) {

@@ -30,20 +30,20 @@ void limit_theorem(const char *limit) {
 /* Where a thread stands, in the original's addresses but in relocated code. */
 static uint64_t place_of(const struct thread *thread) { return thread->is_behind ? (uint64_t)thread->regs.rip : thread->projected; }
 
-int breaks(const struct thread *thread, const char *form, ...) {
+bool breaks(const struct thread *thread, const char *form, ...) {
     char what[160];
     va_list values;
     if (*judged.broken)
-        return 0;
+        return false;
     limit_theorem(HERE);
     va_start(values, form);
     vsnprintf(what, sizeof what, form, values);
     va_end(values);
     snprintf(judged.broken, sizeof judged.broken, "step %lu, of thread %d, at %08lx, %s", judged.steps, thread->number, place_of(thread), what);
-    return 0;
+    return false;
 }
 
-int is_outside(const struct thread *thread) { return !thread->is_behind && thread->projected == thread->regs.rip && marks_of(thread->projected) & START; }
+bool is_outside(const struct thread *thread) { return !thread->is_behind && thread->projected == thread->regs.rip && marks_of(thread->projected) & START; }
 
 static const char *kind_of(uint64_t addr) { return marks_of(addr) & NEW ? "a new address, of the patch alone" : "a byte of a listed instruction"; }
 
@@ -66,7 +66,7 @@ static void doubt(struct thread *thread, uint64_t step, uint64_t found, const ch
     char how[32] = "";
     if (thread->is_doubted)
         return;
-    thread->is_doubted = 1;
+    thread->is_doubted = true;
     limit_theorem(HERE);
     if (judged.doubts++)
         return;
@@ -111,7 +111,7 @@ static const struct thread *other_saved(const struct thread *thread, uint64_t lo
 }
 
 /* The instruction of an effect step is of known length, and leaves listed instructions and new addresses alone. */
-static int is_quiet(struct thread *thread, const struct touched *it) {
+static bool is_quiet(struct thread *thread, const struct touched *it) {
     if (!(marks_of(thread->projected) & KNOWN))
         return breaks(thread, "is of no known length");
     if (it->work == ENDS)
@@ -125,11 +125,11 @@ static int is_quiet(struct thread *thread, const struct touched *it) {
             return breaks(thread, "%s %08lx, %s", access->writes ? "writes" : "reads", found, kind_of(found));
         doubt(thread, judged.steps, found, kind_of(found));
     }
-    return 1;
+    return true;
 }
 
 /* A step outside an event reads no stale byte. */
-static int is_fresh(struct thread *thread, const struct touched *it) {
+static bool is_fresh(struct thread *thread, const struct touched *it) {
     for (int at = 0; at < it->count; at++) {
         const struct access *access = &it->accesses[at];
         uint64_t found = access->reads ? first_marked(access->lo, access->hi, STALE) : access->hi;
@@ -139,11 +139,11 @@ static int is_fresh(struct thread *thread, const struct touched *it) {
             return breaks(thread, "reads %08lx, %s", found, stale_kind());
         doubt(thread, judged.steps, found, stale_kind());
     }
-    return 1;
+    return true;
 }
 
 /* A step leaves alone what other threads have saved. */
-static int is_apart(struct thread *thread, const struct touched *it) {
+static bool is_apart(struct thread *thread, const struct touched *it) {
     for (int at = 0; at < it->count; at++) {
         const struct access *access = &it->accesses[at];
         const struct thread *other = other_saved(thread, access->lo, access->hi);
@@ -151,7 +151,7 @@ static int is_apart(struct thread *thread, const struct touched *it) {
             return breaks(thread, "%s saved bytes of thread %d, at %lx, while that stands in its event", access->writes ? "writes" : "reads", other->number,
                           saved_at(&other->regs));
     }
-    return 1;
+    return true;
 }
 
 static void set_stale(const struct thread *thread, unsigned here, const struct touched *it) {
@@ -165,19 +165,19 @@ static void set_stale(const struct thread *thread, unsigned here, const struct t
 }
 
 /* Whether an event records a thread that comes to it with these registers. */
-static int is_recorded(struct user_regs_struct regs) {
+static bool is_recorded(struct user_regs_struct regs) {
     const struct event *event = every_event();
     for (int at = 0; at < event->comparison_count; at++) {
         uint64_t a = *register_of(&regs, event->comparisons[at].reg), b = event->comparisons[at].value;
-        const int answers[] = {a == b, a != b, a<b, a <= b, a> b, a >= b};
+        const bool answers[] = {a == b, a != b, a<b, a <= b, a> b, a >= b};
         if (!answers[event->comparisons[at].sign])
-            return 0;
+            return false;
     }
-    return 1;
+    return true;
 }
 
 /* The projection goes on; it stands at a listed start. */
-static int goes_on(struct thread *thread, int is_kept, int is_work, uint64_t to) {
+static bool goes_on(struct thread *thread, bool is_kept, bool is_work, uint64_t to) {
     if (is_kept)
         thread->projected = to;
     thread->is_behind |= is_work;
@@ -185,30 +185,30 @@ static int goes_on(struct thread *thread, int is_kept, int is_work, uint64_t to)
         return breaks(thread, "leads to %08lx, a new address, of the patch alone", to);
     uint64_t from = thread->projected;
     if (thread->is_behind && !(marks_of(to) & NEW))
-        thread->is_behind = 0, thread->projected = to;
+        thread->is_behind = false, thread->projected = to;
     if (thread->is_behind || marks_of(thread->projected) & START)
-        return 1;
+        return true;
     uint64_t led = thread->projected;
     thread->projected = is_kept ? thread->regs.rip : from;
     return breaks(thread, "leads to %08lx, which is no listed start", led);
 }
 
-int judge_begin(struct thread *thread, int is_behind) {
+bool judge_begin(struct thread *thread, bool is_behind) {
     thread->projected = thread->regs.rip;
     thread->is_behind = is_behind && marks_of(thread->regs.rip) & NEW;
     return thread->is_behind || marks_of(thread->projected) & START || breaks(thread, "begins, where no listed start is");
 }
 
-int judge_step(struct thread *thread, struct user_regs_struct *after) {
+bool judge_step(struct thread *thread, struct user_regs_struct *after) {
     unsigned here = marks_of(thread->insn.rip);
-    int is_kept = here & START && !(here & SITE), is_work = (here & WORK) != 0, is_well = 1;
+    bool is_kept = here & START && !(here & SITE), is_work = (here & WORK) != 0, is_well = true;
     struct touched made = touched_by(&thread->insn, thread, after);
     judged.steps++;
     if (is_work) {
         struct decoded original;
         uint8_t bytes[LONGEST];
         struct site *site = site_at(thread->insn.rip);
-        int is_read = decode_bytes(&original, thread->projected, bytes, original_code(thread->projected, bytes));
+        bool is_read = decode_bytes(&original, thread->projected, bytes, original_code(thread->projected, bytes));
         if (!is_read)
             return breaks(thread, "is no instruction");
         const struct touched asked = touched_by(&original, thread, after);
@@ -225,17 +225,17 @@ int judge_step(struct thread *thread, struct user_regs_struct *after) {
     if (is_well && here & SAVES && first_marked(saved, saved + saved_length(), NEW) < saved + saved_length())
         is_well = breaks(thread, "comes to its event, whose saved bytes at %lx are new addresses, of the patch alone", saved);
     if (!is_well || !is_apart(thread, &made))
-        return 0;
+        return false;
     set_stale(thread, here, &made);
     if (!goes_on(thread, is_kept, is_work, after->rip))
-        return 0;
+        return false;
     if (!judged.limit)
         judged.covered = judged.steps;
-    return 1;
+    return true;
 }
 
 /* What a delivery or a thread's end writes leaves listed instructions, new addresses and other threads' saved bytes alone. */
-static int leaves(struct thread *thread, uint64_t lo, uint64_t hi, const char *what) {
+static bool leaves(struct thread *thread, uint64_t lo, uint64_t hi, const char *what) {
     uint64_t found = first_marked(lo, hi, LISTED | NEW);
     const struct thread *other = other_saved(thread, lo, hi);
     if (found < hi)
@@ -252,7 +252,7 @@ static uint64_t frame_end(pid_t tid, uint64_t stack_pointer, uint64_t frame) {
     return lo <= frame && frame < hi && !(lo < stack_pointer && stack_pointer <= hi) ? hi : stack_pointer - RED_ZONE;
 }
 
-int judge_entry(struct thread *thread, int number, uint64_t stack_pointer, const struct user_regs_struct *after) {
+bool judge_entry(struct thread *thread, int number, uint64_t stack_pointer, const struct user_regs_struct *after) {
     char what[40];
     uint64_t frame = after->rsp;
     snprintf(what, sizeof what, "the handler of signal %d", number);
@@ -260,32 +260,32 @@ int judge_entry(struct thread *thread, int number, uint64_t stack_pointer, const
     if (!(marks_of(after->rip) & START))
         return breaks(thread, "%s begins at %08lx, which is no listed start", what, (uint64_t)after->rip);
     if (!leaves(thread, frame, frame_end(thread->tid, stack_pointer, frame), what))
-        return 0;
+        return false;
     /* The frame's words that the kernel writes each time: up to the flags of the stack, from its size to the state's place, mask, info. */
     const uint64_t parts[][2] = {{0, 36}, {40, 240}, {304, 440}};
     for (size_t at = 0; at < sizeof parts / sizeof *parts; at++)
         clear_marks(frame + parts[at][0], frame + parts[at][1], STALE);
     thread->projected = after->rip;
-    return 1;
+    return true;
 }
 
-int judge_return(struct thread *thread, const struct user_regs_struct *after) {
+bool judge_return(struct thread *thread, const struct user_regs_struct *after) {
     judged.deliveries++;
     if (thread->is_behind)
         return breaks(thread, "comes back from a handler inside a trampoline");
     if (!(marks_of(after->rip) & START))
         return breaks(thread, "comes back from a handler to %08lx, which is no listed start", (uint64_t)after->rip);
     thread->projected = after->rip;
-    return 1;
+    return true;
 }
 
-int judge_end(struct thread *thread) {
+bool judge_end(struct thread *thread) {
     if (marks_of(thread->insn.rip) & WORK)
         site_at(thread->insn.rip)->pending += is_recorded(thread->regs);
     if (!thread->clears || !leaves(thread, thread->clears, thread->clears + 4, "the end of it"))
         return !*judged.broken;
     clear_marks(thread->clears, thread->clears + 4, STALE);
-    return 1;
+    return true;
 }
 
 /* How many threads that are recorded stand at a site between what its event does and the effect step. Before the event's end rax is saved. */
@@ -303,7 +303,7 @@ static uint64_t standing_at(const struct site *site) {
     return found;
 }
 
-int judge_counters(void) {
+bool judge_counters(void) {
     if (every_event()->slots)
         return judge_ring(judged.broken, sizeof judged.broken);
     for (size_t at = 0; at < site_count(); at++) {
@@ -314,8 +314,8 @@ int judge_counters(void) {
         if (!read_memory(living(), mark_address(site), &told, every_event()->size) || told != (every_event()->size > 1 ? made : made > 0)) {
             snprintf(judged.broken, sizeof judged.broken, "the record of the site at %08lx is %lu, but %lu came by it%s", site->addr, told, made,
                      every_event()->comparison_count ? " with the condition met" : "");
-            return 0;
+            return false;
         }
     }
-    return 1;
+    return true;
 }

@@ -21,10 +21,10 @@ struct judged {
 extern struct judged judged;
 
 /* A thread stands outside: at a listed start, at which it counts as standing. */
-int is_outside(const struct thread *thread);
+bool is_outside(const struct thread *thread);
 
 /* A thread begins, where its registers have it. */
-int judge_begin(struct thread *thread, int is_behind);
+bool judge_begin(struct thread *thread, bool is_behind);
 
 /* The theorem doesn't speak of what comes now, unless it ended before. */
 void limit_theorem(const char *limit);
@@ -33,20 +33,20 @@ void limit_theorem(const char *limit);
 void judge_call(struct thread *thread);
 
 /* A thread made its instruction and has these registers now; whether all premises held. */
-int judge_step(struct thread *thread, struct user_regs_struct *after);
+bool judge_step(struct thread *thread, struct user_regs_struct *after);
 
 /* A thread enters a handler from these registers, or comes back from it. */
-int judge_entry(struct thread *thread, int number, uint64_t stack_pointer, const struct user_regs_struct *after);
-int judge_return(struct thread *thread, const struct user_regs_struct *after);
+bool judge_entry(struct thread *thread, int number, uint64_t stack_pointer, const struct user_regs_struct *after);
+bool judge_return(struct thread *thread, const struct user_regs_struct *after);
 
 /* A thread ends, and the kernel clears a word. */
-int judge_end(struct thread *thread);
+bool judge_end(struct thread *thread);
 
-/* Says what broke a premise; returns 0. */
-int breaks(const struct thread *thread, const char *form, ...) __attribute__((format(printf, 2, 3)));
+/* Says what broke a premise; returns false. */
+bool breaks(const struct thread *thread, const char *form, ...) __attribute__((format(printf, 2, 3)));
 
 /* Each counter, or byte, is what the steps of its site make of it, and a ring what the claims and fills make of it. */
-int judge_counters(void);
+bool judge_counters(void);
 
 /* The first of the bytes in which an event saves rax, or of a ring the flags and rax; how many they are. */
 uint64_t saved_at(const struct user_regs_struct *regs);
@@ -56,5 +56,5 @@ uint64_t saved_length(void);
 void watch_ring(struct thread *thread, const struct site *site);
 
 /* What of the ring in memory isn't as claims and fills left it, in words; whether it is. */
-int judge_ring(char *what, size_t size);
+bool judge_ring(char *what, size_t size);
 #endif

@@ -28,15 +28,15 @@ enum { RESTARTS = 512, RESTARTS_ALWAYS = 513, RESTARTS_UNHANDLED = 514, RESTARTS
 
 const struct refusal refusal = {2, "no memory: %m"};
 static char ending[40];
-static int keeps_evex;
+static bool keeps_evex;
 
-static int ends_by(const char *form, int number) {
+static bool ends_by(const char *form, int number) {
     if (!*ending)
         snprintf(ending, sizeof ending, form, number);
-    return 0;
+    return false;
 }
 
-static int is_over(void) { return *ending || *judged.broken; }
+static bool is_over(void) { return *ending || *judged.broken; }
 
 /* A thread that a call started stands where its parent does after the call. */
 static void begin_thread(struct thread *it, const struct thread *parent) {
@@ -45,7 +45,7 @@ static void begin_thread(struct thread *it, const struct thread *parent) {
     set_regs(it->tid, &it->regs);
     it->clears = parent->call.args[0] & 0x200000 ? parent->call.args[2] : 0;
     it->state = READY;
-    int is_inside = (marks_of(parent->insn.rip) & WORK) != 0;
+    bool is_inside = (marks_of(parent->insn.rip) & WORK) != 0;
     if (is_inside)
         limit_theorem("before a thread begins inside a trampoline");
     judge_begin(it, is_inside);
@@ -76,7 +76,7 @@ static void finish_step(struct thread *it, struct user_regs_struct *after) {
 /* The stop that ends the step of a system call shows what the kernel answers itself, and no program sees, where a signal interrupted the
    call. The call isn't over: as the thread goes on it enters the signal's handler, or where another thread has taken the signal meanwhile,
    or it is ignored, makes the call again, and may wait in it for the other threads, which all stand still while one step is waited for. */
-static int is_interrupted(const struct user_regs_struct *after) {
+static bool is_interrupted(const struct user_regs_struct *after) {
     int64_t answer = (int64_t)after->rax;
     return answer == -RESTARTS || answer == -RESTARTS_ALWAYS || answer == -RESTARTS_UNHANDLED || answer == -RESTARTS_REST;
 }
@@ -85,7 +85,7 @@ static int is_interrupted(const struct user_regs_struct *after) {
 static void made(struct thread *it) {
     struct user_regs_struct after;
     get_regs(it->tid, &after);
-    int may_stay = enters_kernel(&it->insn) || repeats_string(&it->insn);
+    bool may_stay = enters_kernel(&it->insn) || repeats_string(&it->insn);
     if (may_stay && after.rip == it->insn.rip) {
         step(it, 0);
         return;
@@ -141,13 +141,13 @@ static void deliver(struct thread *it, const siginfo_t *info, int ends_call) {
     }
 }
 
-static int is_fault(const siginfo_t *info) {
+static bool is_fault(const siginfo_t *info) {
     int number = info->si_signo;
     return (number == SIGSEGV || number == SIGBUS || number == SIGILL || number == SIGFPE) && info->si_code > 0;
 }
 
 /* A fault inside a trampoline is one of an event; or of relocated code, as in the original, which a handler must not see there. */
-static int fails_inside(const struct thread *it, int number, int is_caught) {
+static bool fails_inside(const struct thread *it, int number, bool is_caught) {
     unsigned here = marks_of(it->regs.rip);
     if (here & (SAVES | HAS_SAVED))
         return !breaks(it, "comes to its event, whose saved bytes at %lx can't be read and written", saved_at(&it->regs));
@@ -158,8 +158,8 @@ static int fails_inside(const struct thread *it, int number, int is_caught) {
 static void take_signal(struct thread *it, int number) {
     siginfo_t info;
     struct user_regs_struct now;
-    int is_default = number == SIGCHLD || number == SIGURG || number == SIGWINCH || number == SIGCONT;
-    int is_caught = is_signal_in(living(), "\nSigCgt:", number);
+    bool is_default = number == SIGCHLD || number == SIGURG || number == SIGWINCH || number == SIGCONT;
+    bool is_caught = is_signal_in(living(), "\nSigCgt:", number);
     if (!is_caught && (is_default || is_signal_in(living(), "\nSigIgn:", number))) {
         step(it, 0);
         return;
@@ -173,7 +173,7 @@ static void take_signal(struct thread *it, int number) {
         return;
     }
     get_regs(it->tid, &now);
-    int ends_call = is_syscall(&it->insn) && now.rip != it->insn.rip;
+    bool ends_call = is_syscall(&it->insn) && now.rip != it->insn.rip;
     if (is_outside(it) || ends_call || is_fault(&info))
         deliver(it, &info, ends_call);
     else if (it->held_count == MOST_HELD)
@@ -211,7 +211,7 @@ static void stopped(pid_t tid, int status) {
 }
 
 /* Whether a stop came, of any thread, since where the process is killed its first thread ends last; with `waits` one is waited for. */
-static int take_stop(int waits) {
+static bool take_stop(bool waits) {
     int status;
     pid_t found = waitpid(-1, &status, __WALL | (waits ? 0 : WNOHANG));
     if (found > 0)
@@ -222,7 +222,7 @@ static int take_stop(int waits) {
 }
 
 /* Whether a system call may be made by a step: one that ends the run may not. */
-static int may_call(struct thread *it) {
+static bool may_call(struct thread *it) {
     const struct user_regs_struct *r = &it->regs;
     it->call = begin_call(it->tid, r);
     judge_call(it);
@@ -232,11 +232,11 @@ static int may_call(struct thread *it) {
     if (flags & IS_SHARED && !(flags & IS_THREAD)) /* its events, too, would be in this memory */
         return ends_by("process", 0);
     refuse_rseq(it->tid, r);
-    return 1;
+    return true;
 }
 
 /* Delivers the first signal that waited and isn't blocked now, as in a handler of its own number; whether there is one. */
-static int deliver_held(struct thread *it) {
+static bool deliver_held(struct thread *it) {
     uint64_t blocked;
     if (ptrace(PTRACE_GETSIGMASK, it->tid, sizeof blocked, &blocked))
         die("the blocked signals can't be read");
@@ -246,9 +246,9 @@ static int deliver_held(struct thread *it) {
             continue;
         memmove(it->held + at, it->held + at + 1, (--it->held_count - at) * sizeof *it->held);
         deliver(it, &info, 0);
-        return 1;
+        return true;
     }
-    return 0;
+    return false;
 }
 
 /* Lets a thread make its instruction. A system call that doesn't answer soon is left to itself. */
@@ -261,8 +261,8 @@ static void make(struct thread *it) {
         return;
     }
     it->insn = *insn;
-    int is_call = enters_kernel(&it->insn);
-    it->is_doubted = 0;
+    bool is_call = enters_kernel(&it->insn);
+    it->is_doubted = false;
     if (is_syscall(&it->insn) && !may_call(it))
         return;
     it->state = CALLS;
@@ -287,7 +287,7 @@ static void bring_out(void) {
 }
 
 static void run(uint64_t limit) {
-    int last = 0, calling = 0;
+    int last = 0;
     while (!is_over() && living_count()) {
         if (judged.steps >= limit) {
             ends_by("limit", 0);
@@ -297,16 +297,16 @@ static void run(uint64_t limit) {
         while (at < count && thread_number((last + 1 + at) % count)->state != READY)
             at++;
         if (at == count) {
-            take_stop(1);
+            take_stop(true);
             continue;
         }
         last = (last + 1 + at) % count;
         make(thread_number(last));
-        calling = 0;
+        bool calling = false;
         for (at = 0; at < thread_count(); at++)
             calling |= thread_number(at)->state == CALLS || thread_number(at)->state == BORN;
         if (calling && !is_over())
-            take_stop(0);
+            take_stop(false);
     }
     if (!*judged.broken && living_count())
         bring_out();
@@ -341,7 +341,7 @@ int main(int count, char **words) {
         die("the result can't be written");
     read_facts(words[2], words[3]);
     start(words + program);
-    judge_begin(thread_number(0), 0);
+    judge_begin(thread_number(0), false);
     run(strtoull(words[4], 0, 10));
     write_result(result);
     return 0;

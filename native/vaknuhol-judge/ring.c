@@ -23,18 +23,18 @@ void watch_ring(struct thread *thread, const struct site *site) {
         filled[thread->claim % event->slots] = (uint32_t)site->number + 1;
 }
 
-int judge_ring(char *what, size_t size) {
+bool judge_ring(char *what, size_t size) {
     uint32_t told = 0;
     uint64_t at = record_address();
     prepare_ring();
     if (!read_memory(living(), at, &told, sizeof told) || told != (uint32_t)claims) {
         snprintf(what, size, "the position of the ring is %u, but %lu slots were claimed", told, claims);
-        return 0;
+        return false;
     }
     for (uint64_t slot = 0; slot < every_event()->slots; slot++)
         if (!read_memory(living(), at + (1 + slot) * sizeof told, &told, sizeof told) || told != filled[slot]) {
             snprintf(what, size, "slot %lu of the ring is %u, but %u was written last", slot, told, filled[slot]);
-            return 0;
+            return false;
         }
-    return 1;
+    return true;
 }

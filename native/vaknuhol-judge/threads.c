@@ -54,7 +54,7 @@ void start(char **command) {
     pid_t tid = start_program(command, PTRACE_O_TRACEEXEC | PTRACE_O_TRACECLONE);
     struct thread *first = add_thread(tid);
     get_regs(tid, &first->regs);
-    if (!change_vector(tid, first->regs.rsp, told_to_original(), 1))
+    if (!change_vector(tid, first->regs.rsp, told_to_original(), true))
         die("the program's memory can't be changed");
     first->state = READY;
 }

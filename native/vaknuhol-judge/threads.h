@@ -19,8 +19,8 @@ struct thread {
     struct decoded insn;          /* that instruction */
     struct call call;             /* where it is a system call */
     uint64_t projected;           /* the address of its projection, unless it is behind an effect step in relocated code */
-    int is_behind;
-    int is_doubted;            /* what its instruction reads has been told */
+    bool is_behind;
+    bool is_doubted;           /* what its instruction reads has been told */
     uint64_t claim;            /* how many claims of a ring's slots came before its last one */
     uint64_t clears;           /* where the kernel writes 0 as it ends */
     siginfo_t held[MOST_HELD]; /* signals that wait until it stands outside */

@@ -53,13 +53,13 @@ static bool row_of(Dwarf_Line *line, const char *folder, struct row *row) {
     return true;
 }
 
-int read_rows(Dwarf_Die *unit, const char *folder, Dwarf_Addr lowest) {
+bool read_rows(Dwarf_Die *unit, const char *folder, Dwarf_Addr lowest) {
     Dwarf_Lines *lines;
     size_t lines_count;
     if (!dwarf_hasattr(unit, DW_AT_stmt_list))
-        return 1;
+        return true;
     if (dwarf_getsrclines(unit, &lines, &lines_count))
-        return 0;
+        return false;
     static uint32_t number; /* of the unit */
     struct row row = {0}, following;
     bool is_row = false;
@@ -75,7 +75,7 @@ int read_rows(Dwarf_Die *unit, const char *folder, Dwarf_Addr lowest) {
         row = following;
         is_row = is_next;
     }
-    return 1;
+    return true;
 }
 
 static int by_address(const void *left, const void *right) {

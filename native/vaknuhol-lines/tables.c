@@ -36,21 +36,21 @@ size_t length_of(enum table table) { return tables[table].length; }
 
 const char *bytes_of(enum table table) { return tables[table].at; }
 
-static int write_word(uint64_t number, FILE *out) {
+static bool write_word(uint64_t number, FILE *out) {
     for (int i = 0; i < 8; i++)
         if (putc((int)(number >> 8 * i & 255), out) == EOF)
-            return 0;
-    return 1;
+            return false;
+    return true;
 }
 
-int write_tables(FILE *out) {
+bool write_tables(FILE *out) {
     static const char zeros[8];
     if (fwrite("VAKLINES", 1, 8, out) != 8 || !write_word(2, out))
-        return 0;
+        return false;
     for (int i = 0; i < TABLES; i++) {
         size_t length = tables[i].length, padding = -length % 8;
         if (!write_word(length, out) || (length && fwrite(tables[i].at, 1, length, out) != length) || fwrite(zeros, 1, padding, out) != padding)
-            return 0;
+            return false;
     }
     return fflush(out) == 0;
 }

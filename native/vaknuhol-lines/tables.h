@@ -5,6 +5,7 @@
    their place in FILE_NAME (from 0) and in TEXT (the offset of their first byte); an instance by its place, from 1 on, 0 is none.  */
 #ifndef TABLES_H
 #define TABLES_H
+#include <stdbool.h>
 #include <stdint.h>
 #include <stdio.h>
 
@@ -53,5 +54,5 @@ size_t length_of(enum table table);
 const char *bytes_of(enum table table);
 
 /* Writes all tables; false where that fails. */
-int write_tables(FILE *out);
+bool write_tables(FILE *out);
 #endif

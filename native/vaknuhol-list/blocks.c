@@ -68,16 +68,16 @@ static void find_leaders(const struct evidence *it, struct leaders *to) {
             to->begins[at] = 1;
 }
 
-static int follows_on(const struct instruction *one, const struct instruction *before) {
+static bool follows_on(const struct instruction *one, const struct instruction *before) {
     return before->addr + before->length == one->addr && before->kind == FALLS && one->kind != KERNEL;
 }
 
 /* The instructions, parted before and after each that begins or ends a block, and where what fills room ends. */
 static void part(const struct evidence *it, const struct leaders *by, struct blocks *blocks) {
-    int fills = 0;
+    bool fills = false;
     for (size_t at = 0; at < it->count; at++) {
         const struct instruction *one = it->found + at, *before = at ? one - 1 : NULL;
-        int is_led = by->begins[one->addr - it->program->lo], is_nothing = one->marks & NOTHING;
+        bool is_led = by->begins[one->addr - it->program->lo], is_nothing = one->marks & NOTHING;
         if (before && !is_led && follows_on(one, before) && (!fills || is_nothing)) {
             blocks->all[blocks->count - 1].size++;
             continue;
@@ -87,29 +87,29 @@ static void part(const struct evidence *it, const struct leaders *by, struct blo
     }
 }
 
-static int is_int3(const struct instruction *one) { return one->kind == TRAP && one->marks & NOTHING; }
+static bool is_int3(const struct instruction *one) { return one->kind == TRAP && one->marks & NOTHING; }
 
 /* Whether a block only fills the room after what doesn't return, or is an int3 behind another one, and nothing leads to it. */
-static int is_padding(const struct evidence *it, const struct leaders *by, const struct block *block) {
+static bool is_padding(const struct evidence *it, const struct leaders *by, const struct block *block) {
     const struct instruction *first = it->found + block->first, *last = first + block->size - 1;
     const struct instruction *before = block->first ? first - 1 : NULL;
     if (by->begins[first->addr - it->program->lo])
-        return 0;
+        return false;
     for (const struct instruction *one = first; one <= last; one++)
         if (!(one->marks & NOTHING))
-            return 0;
-    int goes_on = block->first + block->size < it->count && last[1].addr == last->addr + last->length && !(it->names[last[1].addr - it->program->lo] & NAMED);
+            return false;
+    bool goes_on = block->first + block->size < it->count && last[1].addr == last->addr + last->length && !(it->names[last[1].addr - it->program->lo] & NAMED);
     if (before && is_int3(before) && is_int3(first))
-        return 1;
+        return true;
     return !before || ends(before->kind) || before->addr + before->length != first->addr || !goes_on;
 }
 
 /* What says that a function begins at an address. */
 static uint8_t begins(const struct evidence *it, const struct leaders *by, uint32_t addr) {
     uint32_t at = addr - it->program->lo, extent = it->extent_of[at];
-    int is_within = extent && it->extents[extent - 1].lo < addr;
-    int is_named = it->names[at] & NAMED, is_called = by->called[at];
-    int is_begin = it->names[at] || addr == it->program->entry || (is_called && !is_within);
+    bool is_within = extent && it->extents[extent - 1].lo < addr;
+    bool is_named = it->names[at] & NAMED, is_called = by->called[at];
+    bool is_begin = it->names[at] || addr == it->program->entry || (is_called && !is_within);
     return (uint8_t)((is_named ? HAS_NAME : 0) | (is_called ? IS_CALLED : 0) | (is_begin ? BEGINS : 0));
 }
 

@@ -20,19 +20,19 @@ struct clones {
 };
 
 /* Whether an instruction loads or pushes a number, or adds bits. */
-static int loads_number(const struct evidence *it, const struct instruction *one) {
+static bool loads_number(const struct evidence *it, const struct instruction *one) {
     const uint8_t *bytes = bytes_at(it->program, one->addr, 2);
     if (!one->number || !bytes || segment_of(it->program, one->number))
-        return 0;
+        return false;
     uint8_t opcode = bytes[(bytes[0] & 0xF0) == 0x40];
     return opcode == 0x68 || (opcode & 0xF8) == 0xB8 || opcode == 0xC7 || opcode == 0x81 || opcode == 0x0D;
 }
 
-static int is_for_thread(const struct evidence *it, const struct instruction *one) {
+static bool is_for_thread(const struct evidence *it, const struct instruction *one) {
     return (one->number & (OF_A_THREAD | OF_NO_THREAD)) == OF_A_THREAD && loads_number(it, one);
 }
 
-static int is_for_memory(const struct evidence *it, const struct instruction *one) {
+static bool is_for_memory(const struct evidence *it, const struct instruction *one) {
     return (one->number & (CLONE_VM | CLONE_VFORK)) == CLONE_VM && (one->number & SIGNAL) <= MOST_SIGNALS && loads_number(it, one);
 }
 
@@ -50,16 +50,16 @@ static uint32_t moved(const struct evidence *it, const struct instruction *one, 
     return bytes && one->length == 5 && bytes[0] == opcode ? bytes[1] | (uint32_t)bytes[2] << 8 | (uint32_t)bytes[3] << 16 : 0;
 }
 
-static int is_clone(uint32_t number) { return number == CLONE || number == CLONE3; }
+static bool is_clone(uint32_t number) { return number == CLONE || number == CLONE3; }
 
 /* Adds the nearest instruction before a call, in its function, that loads flags for a process in the same memory; whether there is one. */
-static int add_flags(struct clones *to, const struct evidence *it, size_t call) {
+static bool add_flags(struct clones *to, const struct evidence *it, size_t call) {
     for (size_t at = call; at-- > 0 && call - at < FLAGS_BEFORE && !ends(it->found[at].kind);)
         if (is_for_memory(it, it->found + at)) {
             add(to, it->found + at);
-            return 1;
+            return true;
         }
-    return 0;
+    return false;
 }
 
 /* The function of a call: the nearest instruction at or before it that is called or named. */
@@ -81,19 +81,19 @@ static void take_kernel_call(struct clones *to, const struct evidence *it, size_
         }
 }
 
-static int is_wrapper(const struct clones *to, uint32_t function) {
+static bool is_wrapper(const struct clones *to, uint32_t function) {
     for (int at = 0; at < to->wrapper_count; at++)
         if (to->wrappers[at] == function)
-            return 1;
-    return 0;
+            return true;
+    return false;
 }
 
 /* Whether a call has the number of clone as its first argument, as the C library's function for any call of the kernel has. */
-static int has_number(const struct evidence *it, size_t call) {
+static bool has_number(const struct evidence *it, size_t call) {
     for (size_t at = call; at-- > 0 && call - at < NUMBER_BEFORE / 2 && it->found[at].kind == FALLS;)
         if (moved(it, it->found + at, MOV_EDI))
             return is_clone(moved(it, it->found + at, MOV_EDI));
-    return 0;
+    return false;
 }
 
 size_t find_clones(const struct evidence *it, struct range **found) {

@@ -51,7 +51,7 @@ static void add_text(struct program *program, uint64_t lo, uint64_t length, cons
     program->text_count++;
 }
 
-static int is_executed(const struct program *program, uint64_t addr) {
+static bool is_executed(const struct program *program, uint64_t addr) {
     const struct segment *holder = segment_of(program, addr);
     return holder && holder->flags & PF_X;
 }
@@ -105,13 +105,13 @@ void open_program(struct program *program, const char *path) {
     take_text(program, path);
 }
 
-int in_text(const struct program *program, uint64_t addr) {
+bool in_text(const struct program *program, uint64_t addr) {
     if (addr < program->lo || addr >= program->hi)
-        return 0;
+        return false;
     for (int at = 0; at < program->text_count; at++)
         if (program->text[at].lo <= addr && addr < program->text[at].hi)
-            return 1;
-    return 0;
+            return true;
+    return false;
 }
 
 uint32_t text_end(const struct program *program, uint32_t addr) {

@@ -1,6 +1,8 @@
 /* A static ELF-64 file: what it loads, and which of it is text. All offsets of the file are checked before they are followed. */
 #ifndef ELF_FILE_H
 #define ELF_FILE_H
+#include <stdbool.h>
+
 #include "file.h"
 
 enum { MOST_PARTS = 64 };
@@ -28,7 +30,7 @@ struct program {
 /* Reads a program; another file is refused. */
 void open_program(struct program *program, const char *path);
 
-int in_text(const struct program *program, uint64_t addr);
+bool in_text(const struct program *program, uint64_t addr);
 
 /* The end of the part of the text that holds the address. */
 uint32_t text_end(const struct program *program, uint32_t addr);

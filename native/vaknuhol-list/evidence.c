@@ -87,13 +87,13 @@ void judge_holders(struct evidence *it) {
     }
 }
 
-int are_prefixes(const struct evidence *it, uint32_t from, uint32_t to) {
+bool are_prefixes(const struct evidence *it, uint32_t from, uint32_t to) {
     static const char PREFIXES[] = "\x66\x67\xF0\xF2\xF3\x26\x2E\x36\x3E\x64\x65";
     const uint8_t *bytes = bytes_at(it->program, from, to - from);
     for (uint32_t at = 0; at < to - from; at++)
         if (!bytes || !memchr(PREFIXES, bytes[at], sizeof PREFIXES - 1))
-            return 0;
-    return 1;
+            return false;
+    return true;
 }
 
 /* The start of the instruction that has a byte after its first one. */
@@ -103,61 +103,61 @@ static uint32_t holder_of(const struct evidence *it, uint32_t addr) {
     return addr;
 }
 
-int enters_inside(const struct evidence *it, uint32_t addr) {
+bool enters_inside(const struct evidence *it, uint32_t addr) {
     return addr && in_text(it->program, addr) && is_inside(it, addr) && !are_prefixes(it, holder_of(it, addr), addr);
 }
 
-static int covers_start(const struct evidence *it, const struct instruction *one) {
+static bool covers_start(const struct evidence *it, const struct instruction *one) {
     for (uint32_t at = one->addr + 1; at < one->addr + one->length; at++)
         if (is_start(it, at))
-            return 1;
-    return 0;
+            return true;
+    return false;
 }
 
-int is_filled(const struct evidence *it, uint32_t addr) {
+bool is_filled(const struct evidence *it, uint32_t addr) {
     const uint8_t *next = bytes_at(it->program, addr, 2);
     if (!next || next[0] == 0xCC)
-        return 1;
+        return true;
     return next[0] == 0 && (next[1] == 0 || (addr + 1) % ALIGNED == 0 || (in_text(it->program, addr + 1) && is_start(it, addr + 1)));
 }
 
-int reads_on(const struct evidence *it, uint32_t addr, uint32_t bytes) {
+bool reads_on(const struct evidence *it, uint32_t addr, uint32_t bytes) {
     uint32_t last = addr + bytes;
     struct instruction one;
-    int is_odd;
+    bool is_odd;
     while (addr < last && in_text(it->program, addr)) {
         if (is_start(it, addr))
-            return 1;
+            return true;
         if (is_inside(it, addr) || is_data(it, addr) || !decode(it->program, addr, &one, &is_odd) || is_odd)
-            return 0;
+            return false;
         if (covers_start(it, &one) || enters_inside(it, one.target))
-            return 0;
+            return false;
         addr += one.length;
         if (ends(one.kind) && is_filled(it, addr))
-            return 1;
+            return true;
     }
-    return 1;
+    return true;
 }
 
 /* Whether a run may begin there; `is_shared` tells that its bytes are those of a listed instruction, too. */
-static int may_begin(const struct evidence *it, uint32_t first, int level, int *is_shared) {
+static bool may_begin(const struct evidence *it, uint32_t first, int level, bool *is_shared) {
     *is_shared = is_inside(it, first);
     if (*is_shared && level > DIRECT && enters_inside(it, first))
-        return 0;
+        return false;
     if (is_data(it, first) && level > DIRECT)
-        return 0;
+        return false;
     if (level == WORD)
         return reads_on(it, first, OF_WORD);
     return level < NUMBER || it->extent_of[first - it->program->lo] || reads_on(it, first, OF_NUMBER);
 }
 
 /* Whether an instruction of a weak run speaks against the run. */
-static int speaks_against(const struct evidence *it, const struct instruction *one, int is_first, int is_odd, int level) {
+static bool speaks_against(const struct evidence *it, const struct instruction *one, bool is_first, bool is_odd, int level) {
     return is_odd || is_data(it, one->addr) || enters_inside(it, one->target) || (level >= WORD && is_first && one->kind == END);
 }
 
 /* Whether it covers starts that are listed; `is_wrong` where they are after more than its prefixes. */
-static int meets_starts(const struct evidence *it, const struct instruction *one, int *is_wrong) {
+static bool meets_starts(const struct evidence *it, const struct instruction *one, bool *is_wrong) {
     int meets = 0;
     for (uint32_t at = one->addr + 1; at < one->addr + one->length; at++)
         if (is_start(it, at)) {
@@ -169,35 +169,35 @@ static int meets_starts(const struct evidence *it, const struct instruction *one
 
 /* Reads a run after the listed instructions. Where it breaks off, 0 is answered, and `next` is the place; else `next` is what stands
    after the call that ends it, or 0. */
-static int read_run(struct evidence *it, uint32_t first, int level, int is_shared, uint32_t *next) {
+static bool read_run(struct evidence *it, uint32_t first, int level, bool is_shared, uint32_t *next) {
     for (uint32_t addr = first;;) {
-        int is_odd, is_wrong = 0;
+        bool is_odd, is_wrong = false;
         *next = addr;
         if (!in_text(it->program, addr))
-            return 0;
+            return false;
         if (addr != first && is_start(it, addr))
             break;
         if (addr != first && is_inside(it, addr) && !is_shared)
-            return 0;
+            return false;
         it->found = room_for_one(it->found, it->count, &it->capacity, sizeof *it->found);
         struct instruction *one = it->found + it->count;
         if (!decode(it->program, addr, one, &is_odd))
-            return 0;
+            return false;
         one->level = (uint8_t)level;
         if (level > DIRECT && speaks_against(it, one, addr == first, is_odd, level))
-            return 0;
+            return false;
         if (meets_starts(it, one, &is_wrong) && is_wrong && level > DIRECT)
-            return 0;
+            return false;
         it->count++;
         addr += one->length;
         *next = addr;
         if (may_return(one->kind))
-            return 1;
+            return true;
         if (ends(one->kind))
             break;
     }
     *next = 0;
-    return 1;
+    return true;
 }
 
 static void mark_listed(struct evidence *it, size_t number) {
@@ -259,18 +259,18 @@ static void add_break(struct evidence *it, uint32_t addr) {
     it->breaks[it->break_count++] = (struct range){addr, addr + 1};
 }
 
-int list_run(struct evidence *it, uint32_t first, int level) {
+bool list_run(struct evidence *it, uint32_t first, int level) {
     size_t before = it->count;
     uint32_t next;
-    int is_shared;
+    bool is_shared;
     if (is_start(it, first))
-        return 1;
+        return true;
     if (!may_begin(it, first, level, &is_shared))
-        return 0;
+        return false;
     if (!read_run(it, first, level, is_shared, &next)) {
         if (level > DIRECT) {
             it->count = before;
-            return 0;
+            return false;
         }
         add_break(it, next);
         next = 0;
@@ -285,7 +285,7 @@ int list_run(struct evidence *it, uint32_t first, int level) {
         struct instruction last = it->found[it->count - 1];
         propose_behind(it, &last, next, level);
     }
-    return 1;
+    return true;
 }
 
 void list_alone(struct evidence *it, const struct instruction *one, int level) {
@@ -301,11 +301,11 @@ static int by_address(const void *one, const void *other) {
 }
 
 /* Whether all bytes of the text that a jump at an instruction may reach are supported. */
-static int has_support(const struct evidence *it, const struct instruction *one) {
+static bool has_support(const struct evidence *it, const struct instruction *one) {
     for (uint32_t at = one->addr; one->length < JUMP_SIZE && at < one->addr + REACH; at++)
         if (in_text(it->program, at) && !is_supported(it, at))
-            return 0;
-    return 1;
+            return false;
+    return true;
 }
 
 /* What e9tool makes of its bytes. */

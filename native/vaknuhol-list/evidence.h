@@ -68,12 +68,12 @@ struct evidence {
 
 void begin_evidence(struct evidence *it, const struct program *program);
 
-static inline int is_start(const struct evidence *it, uint32_t addr) { return it->state[addr - it->program->lo] & START; }
+static inline bool is_start(const struct evidence *it, uint32_t addr) { return it->state[addr - it->program->lo] & START; }
 
 /* Whether the byte is only after the first one of a listed instruction. */
-static inline int is_inside(const struct evidence *it, uint32_t addr) { return it->state[addr - it->program->lo] == INSIDE; }
+static inline bool is_inside(const struct evidence *it, uint32_t addr) { return it->state[addr - it->program->lo] == INSIDE; }
 
-static inline int is_data(const struct evidence *it, uint32_t addr) { return it->is_data[addr - it->program->lo]; }
+static inline bool is_data(const struct evidence *it, uint32_t addr) { return it->is_data[addr - it->program->lo]; }
 
 /* The listed instruction that begins at a start. */
 struct instruction *at_start(const struct evidence *it, uint32_t addr);
@@ -94,30 +94,30 @@ void add_data(struct evidence *it, uint64_t addr, uint64_t length);
 void judge_holders(struct evidence *it);
 
 /* Whether data begins there, whose end isn't known. */
-static inline int begins_data(const struct evidence *it, uint32_t addr) {
+static inline bool begins_data(const struct evidence *it, uint32_t addr) {
     return it->is_data[addr - it->program->lo] == DATA_BEGINS && !it->state[addr - it->program->lo];
 }
 
 /* Whether a jump from anywhere to an address would enter an accepted instruction after more than its prefixes. */
-int enters_inside(const struct evidence *it, uint32_t addr);
+bool enters_inside(const struct evidence *it, uint32_t addr);
 
 /* Whether there are only prefixes from one address up to another. */
-int are_prefixes(const struct evidence *it, uint32_t from, uint32_t to);
+bool are_prefixes(const struct evidence *it, uint32_t from, uint32_t to);
 
 /* Whether what stands after an end only fills room: CC, several zeros, or one up to a start or to where functions are aligned. */
-int is_filled(const struct evidence *it, uint32_t addr);
+bool is_filled(const struct evidence *it, uint32_t addr);
 
 /* Whether so many bytes from an address on read as code, or fewer up to a start or to what fills room. */
-int reads_on(const struct evidence *it, uint32_t addr, uint32_t bytes);
+bool reads_on(const struct evidence *it, uint32_t addr, uint32_t bytes);
 
 /* Lists a run; whether it is listed. */
-int list_run(struct evidence *it, uint32_t first, int level);
+bool list_run(struct evidence *it, uint32_t first, int level);
 
 /* Lists one more instruction by itself, as a nop that fills room. */
 void list_alone(struct evidence *it, const struct instruction *one, int level);
 
 /* Whether an instruction has the byte for which there is more than weak evidence; known when all is listed. */
-static inline int is_supported(const struct evidence *it, uint32_t addr) { return it->state[addr - it->program->lo] & SURE; }
+static inline bool is_supported(const struct evidence *it, uint32_t addr) { return it->state[addr - it->program->lo] & SURE; }
 
 /* Puts the instructions in order, and marks those that share bytes, that e9tool can't displace, and that are unsure. */
 void finish(struct evidence *it);

@@ -9,19 +9,20 @@ enum { ABSOLUTE = 0, UDATA2 = 2, UDATA4 = 3, UDATA8 = 4, SDATA2 = 10, SDATA4 = 1
 struct reader {
     const uint8_t *bytes;
     uint64_t left, addr;
-    int ok;
+    bool ok;
 };
 
 /* What a common information entry tells of its frames. */
 struct common {
     uint64_t offset;
-    int encoding, is_signal;
+    int encoding;
+    bool is_signal;
 };
 
 static const uint8_t *take(struct reader *from, uint64_t count) {
     const uint8_t *bytes = from->bytes;
     if (count > from->left) {
-        from->ok = 0;
+        from->ok = false;
         return NULL;
     }
     from->bytes += count;
@@ -64,7 +65,7 @@ static uint64_t take_pointer(struct reader *from, int encoding) {
 
 /* The encoding of the frames' pointers, and whether they are frames of signal handlers. */
 static struct common read_common(struct reader from, uint64_t offset) {
-    struct common found = {offset, ABSOLUTE, 0};
+    struct common found = {offset, ABSOLUTE, false};
     take_byte(&from);
     const char *letter = (const char *)from.bytes;
     while (from.ok && take_byte(&from))
@@ -79,7 +80,7 @@ static struct common read_common(struct reader from, uint64_t offset) {
         if (*letter == 'R')
             found.encoding = take_byte(&from);
         else if (*letter == 'S')
-            found.is_signal = 1;
+            found.is_signal = true;
         else if (*letter == 'L')
             take_byte(&from);
         else if (*letter == 'P')
@@ -103,21 +104,21 @@ static void propose_frame(struct evidence *it, struct reader *from, const struct
 }
 
 static void read_frames(struct evidence *it, const uint8_t *bytes, uint64_t addr, uint64_t length) {
-    struct reader all = {bytes, length, addr, 1};
-    struct common common = {~0ull, 0, 0};
+    struct reader all = {bytes, length, addr, true};
+    struct common common = {~0ull, 0, false};
     while (all.left >= 4) {
         uint32_t size = take_word(&all);
         uint64_t offset = length - all.left;
         const uint8_t *entry = size == ~0u ? NULL : take(&all, size);
         if (!entry)
             return;
-        struct reader from = {entry, size, addr + offset, 1};
+        struct reader from = {entry, size, addr + offset, true};
         uint32_t back = size ? take_word(&from) : 0;
         if (!back || back > offset)
             continue;
         uint64_t place = offset - back; /* of the common entry, which begins with its length and a number */
         if (place != common.offset && place + 8 <= length)
-            common = read_common((struct reader){bytes + place + 8, length - place - 8, addr + place + 8, 1}, place);
+            common = read_common((struct reader){bytes + place + 8, length - place - 8, addr + place + 8, true}, place);
         if (place == common.offset)
             propose_frame(it, &from, &common);
     }
@@ -125,19 +126,19 @@ static void read_frames(struct evidence *it, const uint8_t *bytes, uint64_t addr
 
 void propose_frames(struct evidence *it) {
     const struct program *program = it->program;
-    int is_there = 0;
+    bool is_there = false;
     for (int at = 0; at < program->elf.section_count; at++) {
         const Elf64_Shdr *section = program->elf.sections + at;
         const uint8_t *bytes = section_bytes(program, section);
         if (!bytes || strcmp(section_name(program, section), ".eh_frame"))
             continue;
         read_frames(it, bytes, section->sh_addr, section->sh_size);
-        is_there = 1;
+        is_there = true;
     }
     const uint8_t *header = program->frame_header ? bytes_at(program, program->frame_header, 8) : NULL;
     if (is_there || !header)
         return;
-    struct reader from = {header + 4, 4, program->frame_header + 4, 1};
+    struct reader from = {header + 4, 4, program->frame_header + 4, true};
     uint64_t addr = (header[1] & 15) == SDATA4 ? take_pointer(&from, header[1]) : 0;
     const struct segment *holder = segment_of(program, addr);
     if (holder && bytes_at(program, addr, 1))

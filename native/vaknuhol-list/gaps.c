@@ -10,7 +10,7 @@ void drain(struct evidence *it, int weakest) {
         struct queue *queue = it->queues + level;
         if (level == WORD)
             judge_holders(it);
-        if (level == WORD && judge_known_tables(it, 0)) {
+        if (level == WORD && judge_known_tables(it, false)) {
             level = ENTRY;
         } else if (queue->count) {
             list_run(it, queue->addrs[--queue->count], level);
@@ -23,7 +23,7 @@ void drain(struct evidence *it, int weakest) {
     }
 }
 
-static int is_known(const struct evidence *it, uint32_t addr) { return it->state[addr - it->program->lo] || is_data(it, addr); }
+static bool is_known(const struct evidence *it, uint32_t addr) { return it->state[addr - it->program->lo] || is_data(it, addr); }
 
 /* Where data of unknown length begins, a gap ends, and one begins. */
 static uint32_t gap_end(const struct evidence *it, uint32_t addr, uint32_t end) {
@@ -35,26 +35,26 @@ static uint32_t gap_end(const struct evidence *it, uint32_t addr, uint32_t end) 
 }
 
 /* Lists the runs of a gap of an extent that reads as code up to its end; whether it does. */
-static int list_extent(struct evidence *it, uint32_t first, uint32_t end) {
+static bool list_extent(struct evidence *it, uint32_t first, uint32_t end) {
     struct instruction one;
-    int is_odd;
+    bool is_odd;
     uint32_t at = first;
     while (at < end && decode(it->program, at, &one, &is_odd) && !is_odd)
         at += one.length;
     if (at != end)
-        return 0;
+        return false;
     for (at = first; at < end;) {
         if (!it->state[at - it->program->lo] && !list_run(it, at, EXTENT))
-            return 1;
+            return true;
         drain(it, EXTENT);
         while (at < end && it->state[at - it->program->lo])
             at++;
     }
-    return 1;
+    return true;
 }
 
 void sweep_extents(struct evidence *it) {
-    for (int again = 1; again;) {
+    for (bool again = true; again;) {
         size_t before = it->count;
         judge_holders(it);
         for (size_t number = 0; number < it->extent_count; number++) {
@@ -71,9 +71,10 @@ void sweep_extents(struct evidence *it) {
 }
 
 /* Whether the code there leads to a start; it isn't read further than to its end. */
-static int leads_to_start(const struct evidence *it, uint32_t addr, uint32_t end) {
+static bool leads_to_start(const struct evidence *it, uint32_t addr, uint32_t end) {
     struct instruction one;
-    int is_odd, leads = 0, count = 0;
+    bool is_odd, leads = false;
+    int count = 0;
     while (addr < end && count++ < MOST_READ && decode(it->program, addr, &one, &is_odd) && !is_odd) {
         leads |= one.target && is_start(it, one.target);
         addr += one.length;
@@ -84,12 +85,12 @@ static int leads_to_start(const struct evidence *it, uint32_t addr, uint32_t end
 }
 
 /* Whether all reads as code up to what fills room, or to the gap's end, and leads to a start. */
-static int is_body(const struct evidence *it, uint32_t addr, uint32_t end) {
+static bool is_body(const struct evidence *it, uint32_t addr, uint32_t end) {
     struct instruction one;
-    int is_odd, leads = 0;
+    bool is_odd, leads = false;
     while (addr < end) {
         if (!decode(it->program, addr, &one, &is_odd) || is_odd || enters_inside(it, one.target))
-            return 0;
+            return false;
         leads |= one.target && is_start(it, one.target);
         addr += one.length;
         if (ends(one.kind) && is_filled(it, addr))
@@ -99,14 +100,15 @@ static int is_body(const struct evidence *it, uint32_t addr, uint32_t end) {
 }
 
 /* Whether a gap reads as code from there up to the start at its end, with nothing but fill after what ends. */
-static int is_seamless(const struct evidence *it, uint32_t addr, uint32_t end) {
+static bool is_seamless(const struct evidence *it, uint32_t addr, uint32_t end) {
     struct instruction one;
-    int is_odd, count = 0;
+    bool is_odd;
+    int count = 0;
     if (end >= it->program->hi || !in_text(it->program, end) || !is_start(it, end))
-        return 0;
+        return false;
     while (addr < end) {
         if (!decode(it->program, addr, &one, &is_odd) || is_odd || addr + one.length > end || enters_inside(it, one.target))
-            return 0;
+            return false;
         addr += one.length;
         count++;
         const uint8_t *next = bytes_at(it->program, addr, 1);
@@ -120,7 +122,7 @@ static int is_seamless(const struct evidence *it, uint32_t addr, uint32_t end) {
 /* What stands after the bytes that fill the gap from there on; nops are listed. */
 static uint32_t skip_fill(struct evidence *it, struct gaps *gaps, uint32_t addr, uint32_t end) {
     struct instruction one;
-    int is_odd;
+    bool is_odd;
     while (addr < end) {
         const uint8_t *byte = bytes_at(it->program, addr, 1);
         if (*byte == 0 || *byte == FILL) {
@@ -161,7 +163,7 @@ static void add_doubtful(struct gaps *gaps, uint32_t lo, uint32_t hi) {
 static uint32_t list_in_gap(struct evidence *it, struct gaps *gaps, uint32_t first, uint32_t end) {
     uint32_t at = first;
     for (; at < end; at = next_place(it, at, end)) {
-        int has_support = (at == first && (is_seamless(it, at, end) || is_body(it, at, end))) || leads_to_start(it, at, end);
+        bool has_support = (at == first && (is_seamless(it, at, end) || is_body(it, at, end))) || leads_to_start(it, at, end);
         if (has_support && list_run(it, at, SWEEP)) {
             drain(it, SWEEP);
             break;
@@ -171,9 +173,9 @@ static uint32_t list_in_gap(struct evidence *it, struct gaps *gaps, uint32_t fir
     return at;
 }
 
-static int sweep_once(struct evidence *it, struct gaps *gaps) {
+static bool sweep_once(struct evidence *it, struct gaps *gaps) {
     const struct program *program = it->program;
-    int more = 0;
+    bool more = false;
     gaps->count = gaps->zeros = gaps->traps = 0;
     judge_holders(it);
     for (int part = 0; part < program->text_count; part++)

@@ -6,12 +6,12 @@
 
 enum { LONGEST = 15, SMALL = 4096, PAGE = 0x1000, TOP = (int)0x80000000 };
 
-static int ready;
+static bool is_ready;
 static ZydisDecoder decoder;
 
-int ends(int kind) { return kind == JUMP || kind == RETURN || kind == JUMP_INDIRECT || kind == END; }
+bool ends(int kind) { return kind == JUMP || kind == RETURN || kind == JUMP_INDIRECT || kind == END; }
 
-int may_return(int kind) { return kind == CALL || kind == CALL_INDIRECT || kind == KERNEL || kind == TRAP; }
+bool may_return(int kind) { return kind == CALL || kind == CALL_INDIRECT || kind == KERNEL || kind == TRAP; }
 
 static uint32_t bit_of(ZydisRegister name) {
     ZydisRegister whole = ZydisRegisterGetLargestEnclosing(ZYDIS_MACHINE_MODE_LONG_64, name);
@@ -32,11 +32,11 @@ static uint32_t bit_of(ZydisRegister name) {
 }
 
 /* What no compiler writes into a program for users. */
-static int is_rare(const ZydisDecodedInstruction *insn) {
+static bool is_rare(const ZydisDecodedInstruction *insn) {
     if (insn->attributes & ZYDIS_ATTRIB_IS_PRIVILEGED && insn->mnemonic != ZYDIS_MNEMONIC_HLT)
-        return 1;
+        return true;
     if (insn->meta.branch_type == ZYDIS_BRANCH_TYPE_FAR)
-        return 1;
+        return true;
     switch (insn->mnemonic) {
     case ZYDIS_MNEMONIC_IN:
     case ZYDIS_MNEMONIC_OUT:
@@ -57,12 +57,12 @@ static int is_rare(const ZydisDecodedInstruction *insn) {
     case ZYDIS_MNEMONIC_LSS:
     case ZYDIS_MNEMONIC_LFS:
     case ZYDIS_MNEMONIC_LGS:
-    case ZYDIS_MNEMONIC_INT: return 1;
-    default: return 0;
+    case ZYDIS_MNEMONIC_INT: return true;
+    default: return false;
     }
 }
 
-static int kind_of(const ZydisDecodedInstruction *insn, int is_direct) {
+static int kind_of(const ZydisDecodedInstruction *insn, bool is_direct) {
     switch (insn->mnemonic) {
     case ZYDIS_MNEMONIC_HLT:
     case ZYDIS_MNEMONIC_UD0:
@@ -89,12 +89,12 @@ static int kind_of(const ZydisDecodedInstruction *insn, int is_direct) {
     }
 }
 
-static int is_in_thread_area(const ZydisDecodedOperand *operand) {
+static bool is_in_thread_area(const ZydisDecodedOperand *operand) {
     return operand->mem.segment == ZYDIS_REGISTER_FS || operand->mem.segment == ZYDIS_REGISTER_GS;
 }
 
 /* The address that an operand names without any register; 0 where there is none. */
-static uint64_t named_address(const struct instruction *it, const ZydisDecodedOperand *operand, int *is_whole) {
+static uint64_t named_address(const struct instruction *it, const ZydisDecodedOperand *operand, bool *is_whole) {
     *is_whole = operand->mem.base == ZYDIS_REGISTER_RIP;
     if (*is_whole)
         return it->addr + it->length + (uint64_t)operand->mem.disp.value;
@@ -105,28 +105,28 @@ static uint64_t named_address(const struct instruction *it, const ZydisDecodedOp
 }
 
 /* Whether an operand is read at a distance from an address of text, by a register. */
-static int is_table(const struct program *program, const ZydisDecodedOperand *operand) {
-    int has_register = operand->mem.base != ZYDIS_REGISTER_NONE || operand->mem.index != ZYDIS_REGISTER_NONE;
+static bool is_table(const struct program *program, const ZydisDecodedOperand *operand) {
+    bool has_register = operand->mem.base != ZYDIS_REGISTER_NONE || operand->mem.index != ZYDIS_REGISTER_NONE;
     return has_register && operand->mem.base != ZYDIS_REGISTER_RIP && operand->mem.type == ZYDIS_MEMOP_TYPE_MEM
            && operand->actions & ZYDIS_OPERAND_ACTION_MASK_READ && operand->mem.disp.has_displacement && operand->mem.disp.value > 0
            && in_text(program, (uint64_t)operand->mem.disp.value);
 }
 
-static int is_aligned_vector(const ZydisDecodedInstruction *insn, const ZydisDecodedOperand *operand) {
+static bool is_aligned_vector(const ZydisDecodedInstruction *insn, const ZydisDecodedOperand *operand) {
     if (operand->size < 128)
-        return 0;
+        return false;
     switch (insn->mnemonic) {
     case ZYDIS_MNEMONIC_MOVUPS:
     case ZYDIS_MNEMONIC_MOVUPD:
     case ZYDIS_MNEMONIC_MOVDQU:
-    case ZYDIS_MNEMONIC_LDDQU: return 0;
-    default: return 1;
+    case ZYDIS_MNEMONIC_LDDQU: return false;
+    default: return true;
     }
 }
 
 static void take_memory(const struct program *program, struct instruction *it, const ZydisDecodedInstruction *insn, const ZydisDecodedOperand *operand,
-                        int *is_odd) {
-    int is_whole;
+                        bool *is_odd) {
+    bool is_whole;
     uint64_t named = named_address(it, operand, &is_whole);
     it->reads |= bit_of(operand->mem.base) | bit_of(operand->mem.index);
     if (named && named < (uint32_t)TOP && !is_in_thread_area(operand))
@@ -134,7 +134,7 @@ static void take_memory(const struct program *program, struct instruction *it, c
     if (is_table(program, operand) && !is_in_thread_area(operand))
         it->table = (uint32_t)operand->mem.disp.value;
     if (operand->mem.type == ZYDIS_MEMOP_TYPE_AGEN) {
-        it->is_lea = 1;
+        it->is_lea = true;
         return;
     }
     if (insn->mnemonic == ZYDIS_MNEMONIC_NOP)
@@ -148,9 +148,9 @@ static void take_memory(const struct program *program, struct instruction *it, c
     if (operand->mem.base != ZYDIS_REGISTER_RSP || operand->mem.index != ZYDIS_REGISTER_NONE || is_aligned_vector(insn, operand))
         it->marks |= FAULTS;
     /* gcc keeps reads of the first page and of the last one behind what can't be reached */
-    int is_absolute = operand->mem.base == ZYDIS_REGISTER_NONE && operand->mem.index == ZYDIS_REGISTER_NONE;
+    bool is_absolute = operand->mem.base == ZYDIS_REGISTER_NONE && operand->mem.index == ZYDIS_REGISTER_NONE;
     if (is_absolute && !is_in_thread_area(operand) && !segment_of(program, named) && named + PAGE >= 2 * PAGE)
-        *is_odd = 1;
+        *is_odd = true;
 }
 
 static void take_register(struct instruction *it, const ZydisDecodedOperand *operand) {
@@ -165,26 +165,26 @@ static void take_register(struct instruction *it, const ZydisDecodedOperand *ope
 }
 
 /* Whether there is a target. */
-static int take_immediate(const struct program *program, struct instruction *it, const ZydisDecodedInstruction *insn, const ZydisDecodedOperand *operand,
-                          int *is_odd) {
+static bool take_immediate(const struct program *program, struct instruction *it, const ZydisDecodedInstruction *insn, const ZydisDecodedOperand *operand,
+                           bool *is_odd) {
     if (operand->imm.is_relative) {
         uint64_t target = it->addr + it->length + operand->imm.value.u;
         it->target = target == program->base ? 0 : (uint32_t)target; /* an undefined weak symbol is 0, at the base */
         if (it->target && !in_text(program, target))
-            *is_odd = 1;
-        return 1;
+            *is_odd = true;
+        return true;
     }
     if (insn->mnemonic == ZYDIS_MNEMONIC_CMP && operand->imm.value.u < SMALL)
         it->cases = (uint16_t)(operand->imm.value.u + 1);
     else if (operand->size >= 32 && operand->imm.value.u < (uint32_t)TOP)
         it->number = (uint32_t)operand->imm.value.u;
-    return 0;
+    return false;
 }
 
 /* Instructions that may fault whatever their operands are: by what they do, or since not all processors have them. */
-static int faults_alone(const ZydisDecodedInstruction *insn, int kind) {
+static bool faults_alone(const ZydisDecodedInstruction *insn, int kind) {
     if (kind == END || kind == KERNEL || kind == TRAP || insn->encoding != ZYDIS_INSTRUCTION_ENCODING_LEGACY)
-        return 1;
+        return true;
     switch (insn->meta.isa_ext) {
     case ZYDIS_ISA_EXT_BASE:
     case ZYDIS_ISA_EXT_LONGMODE:
@@ -192,13 +192,13 @@ static int faults_alone(const ZydisDecodedInstruction *insn, int kind) {
     case ZYDIS_ISA_EXT_SSE:
     case ZYDIS_ISA_EXT_SSE2: /* numeric exceptions */
         return insn->meta.exception_class == ZYDIS_EXCEPTION_CLASS_SSE2 || insn->meta.exception_class == ZYDIS_EXCEPTION_CLASS_SSE3;
-    default: return 1;
+    default: return true;
     }
     return insn->mnemonic == ZYDIS_MNEMONIC_DIV || insn->mnemonic == ZYDIS_MNEMONIC_IDIV || insn->meta.category == ZYDIS_CATEGORY_IO
            || insn->meta.category == ZYDIS_CATEGORY_SYSTEM || insn->meta.category == ZYDIS_CATEGORY_SEGOP || insn->attributes & ZYDIS_ATTRIB_IS_PRIVILEGED;
 }
 
-static int fills_room(const ZydisDecodedInstruction *insn, const ZydisDecodedOperand *operands, const uint8_t *bytes) {
+static bool fills_room(const ZydisDecodedInstruction *insn, const ZydisDecodedOperand *operands, const uint8_t *bytes) {
     if (insn->mnemonic == ZYDIS_MNEMONIC_LEA)
         return operands[0].reg.value == operands[1].mem.base && operands[1].mem.index == ZYDIS_REGISTER_NONE && operands[1].mem.disp.value == 0;
     return insn->mnemonic == ZYDIS_MNEMONIC_NOP || insn->mnemonic == ZYDIS_MNEMONIC_INT3 || (bytes[0] == 0x66 && bytes[1] == 0x90);
@@ -223,15 +223,15 @@ static void take_flags(struct instruction *it, const ZydisDecodedInstruction *in
     it->flags_written = (uint16_t)(insn->cpu_flags->modified | insn->cpu_flags->set_0 | insn->cpu_flags->set_1 | insn->cpu_flags->undefined);
 }
 
-int decode_whole(const struct program *program, uint32_t addr, struct instruction *it, int *is_odd, ZydisDecodedInstruction *insn,
-                 ZydisDecodedOperand operands[ZYDIS_MAX_OPERAND_COUNT]) {
+bool decode_whole(const struct program *program, uint32_t addr, struct instruction *it, bool *is_odd, ZydisDecodedInstruction *insn,
+                  ZydisDecodedOperand operands[ZYDIS_MAX_OPERAND_COUNT]) {
     uint32_t room = text_end(program, addr) - addr;
     const uint8_t *bytes = bytes_at(program, addr, 1);
-    int is_direct = 0;
-    if (!ready)
-        ready = ZYAN_SUCCESS(ZydisDecoderInit(&decoder, ZYDIS_MACHINE_MODE_LONG_64, ZYDIS_STACK_WIDTH_64));
+    bool is_direct = false;
+    if (!is_ready)
+        is_ready = ZYAN_SUCCESS(ZydisDecoderInit(&decoder, ZYDIS_MACHINE_MODE_LONG_64, ZYDIS_STACK_WIDTH_64));
     if (!bytes || !room || !ZYAN_SUCCESS(ZydisDecoderDecodeFull(&decoder, bytes, room < LONGEST ? room : LONGEST, insn, operands)))
-        return 0;
+        return false;
     memset(it, 0, sizeof *it);
     it->addr = addr;
     it->length = insn->length;
@@ -248,10 +248,10 @@ int decode_whole(const struct program *program, uint32_t addr, struct instructio
     }
     it->kind = (uint8_t)kind_of(insn, is_direct);
     mark(it, insn, operands, bytes);
-    return 1;
+    return true;
 }
 
-int decode(const struct program *program, uint32_t addr, struct instruction *it, int *is_odd) {
+bool decode(const struct program *program, uint32_t addr, struct instruction *it, bool *is_odd) {
     ZydisDecodedInstruction insn;
     ZydisDecodedOperand operands[ZYDIS_MAX_OPERAND_COUNT];
     return decode_whole(program, addr, it, is_odd, &insn, operands);

@@ -34,21 +34,21 @@ struct instruction {
     uint16_t flags_read, flags_written; /* of rflags' low 16 bits */
     uint16_t cases, marks;              /* cases: of a comparison with a small number: that and one */
     uint8_t length, kind, level;
-    uint8_t width;               /* bytes of its operand in memory */
-    uint8_t is_lea, is_absolute; /* whether its operand names an address and isn't read; whether `held` is read or written */
+    uint8_t width;            /* bytes of its operand in memory */
+    bool is_lea, is_absolute; /* whether its operand names an address and isn't read; whether `held` is read or written */
 };
 
-/* Decodes what stands at an address, at most up to the end of its part of the text; 0 where it can't. `is_odd` tells that no
+/* Decodes what stands at an address, at most up to the end of its part of the text; false where it can't. `is_odd` tells that no
    compiler writes it: such an instruction is good evidence against what leads to it. */
-int decode(const struct program *program, uint32_t addr, struct instruction *it, int *is_odd);
+bool decode(const struct program *program, uint32_t addr, struct instruction *it, bool *is_odd);
 
 /* The same, with what Zydis decodes, and all operands. */
-int decode_whole(const struct program *program, uint32_t addr, struct instruction *it, int *is_odd, ZydisDecodedInstruction *insn,
-                 ZydisDecodedOperand operands[ZYDIS_MAX_OPERAND_COUNT]);
+bool decode_whole(const struct program *program, uint32_t addr, struct instruction *it, bool *is_odd, ZydisDecodedInstruction *insn,
+                  ZydisDecodedOperand operands[ZYDIS_MAX_OPERAND_COUNT]);
 
 /* Whether nothing falls through after it, and nothing returns there. */
-int ends(int kind);
+bool ends(int kind);
 
 /* Whether it may come back after itself from elsewhere, or may not. */
-int may_return(int kind);
+bool may_return(int kind);
 #endif

@@ -21,7 +21,7 @@ static void set_bit(uint8_t **bits, uint32_t addr) {
     (*bits)[addr >> 5] |= (uint8_t)(1 << (addr >> 2 & 7));
 }
 
-static int has_bit(const uint8_t *bits, uint32_t addr) { return bits && bits[addr >> 5] >> (addr >> 2 & 7) & 1; }
+static bool has_bit(const uint8_t *bits, uint32_t addr) { return bits && bits[addr >> 5] >> (addr >> 2 & 7) & 1; }
 
 void name_word(uint32_t addr) {
     if (addr % 4 == 0 && addr <= HIGHEST)
@@ -36,21 +36,21 @@ void add_table(struct evidence *it, uint32_t addr, uint32_t from, uint32_t width
 }
 
 /* A jump where the number is above that of a comparison. */
-static int is_jump_above(const uint8_t *bytes) { return bytes[0] == 0x77 || (bytes[0] == 0x0F && bytes[1] == 0x87); }
+static bool is_jump_above(const uint8_t *bytes) { return bytes[0] == 0x77 || (bytes[0] == 0x0F && bytes[1] == 0x87); }
 
 /* OCaml compares a number with its tag, and shifts the tag out. */
-static int is_shift_by_one(const struct instruction *one, const uint8_t *bytes) {
+static bool is_shift_by_one(const struct instruction *one, const uint8_t *bytes) {
     return one->length == 3 && (bytes[0] & 0xFE) == 0x48 && bytes[1] == 0xD1 && (bytes[2] & 0xF8) >= 0xE8 && bytes[2] != 0xF0;
 }
 
 /* How many entries the comparison before a table's use allows; 0 where none is found. */
 static uint32_t entries_of(const struct evidence *it, uint32_t from) {
-    int is_above = 0, is_half = 0;
+    bool is_above = false, is_half = false;
     const struct instruction *one = one_before(it, from);
     for (int turn = 0; one && turn < BEHIND_COMPARISON; turn++, one = one_before(it, one->addr)) {
         const uint8_t *bytes = bytes_at(it->program, one->addr, one->length);
         if (one->kind == BRANCH && is_jump_above(bytes))
-            is_above = 1;
+            is_above = true;
         else if (one->kind == BRANCH && !is_above)
             return 0;
         else if (one->kind != BRANCH && one->kind != FALLS)
@@ -58,18 +58,18 @@ static uint32_t entries_of(const struct evidence *it, uint32_t from) {
         else if (is_above && one->cases)
             return is_half ? one->cases / 2u : one->cases;
         else if (!is_above && is_shift_by_one(one, bytes))
-            is_half = 1;
+            is_half = true;
     }
     return 0;
 }
 
 /* Where an entry of a table leads; whether it can be one. */
-static int read_entry(const struct evidence *it, const struct table *table, uint32_t number, uint32_t *target) {
+static bool read_entry(const struct evidence *it, const struct table *table, uint32_t number, uint32_t *target) {
     uint64_t at = table->addr + (uint64_t)number * table->width, value;
     const uint8_t *bytes = bytes_at(it->program, at, table->width);
     int32_t distance;
     if (!bytes)
-        return 0;
+        return false;
     if (table->width == 8) {
         memcpy(&value, bytes, 8);
     } else {
@@ -81,37 +81,37 @@ static int read_entry(const struct evidence *it, const struct table *table, uint
 }
 
 /* Whether an entry leaves the function that uses the table; to a start it may. */
-static int leaves_function(const struct evidence *it, const struct table *table, uint32_t target) {
+static bool leaves_function(const struct evidence *it, const struct table *table, uint32_t target) {
     uint32_t own = it->extent_of[table->from - it->program->lo];
     return own && it->extent_of[target - it->program->lo] != own && !is_start(it, target);
 }
 
-static int fits_whole(const struct evidence *it, const struct table *table, uint32_t entries) {
+static bool fits_whole(const struct evidence *it, const struct table *table, uint32_t entries) {
     uint32_t target;
     for (uint32_t number = 0; number < entries; number++) {
         uint32_t at = table->addr + number * table->width;
         if (!read_entry(it, table, number, &target) || leaves_function(it, table, target))
-            return 0;
+            return false;
         if (in_text(it->program, at) && it->state[at - it->program->lo])
-            return 0;
+            return false;
     }
-    return 1;
+    return true;
 }
 
 /* A table of a known number of entries: all fit, or none is taken. A table in text becomes data. */
-static int take_whole(struct evidence *it, const struct table *table, uint32_t entries, int level) {
+static bool take_whole(struct evidence *it, const struct table *table, uint32_t entries, int level) {
     uint32_t target;
     if (!fits_whole(it, table, entries))
-        return 0;
+        return false;
     for (uint32_t number = 0; number < entries; number++)
         if (read_entry(it, table, number, &target))
             propose(it, target, level);
     if (in_text(it->program, table->addr))
         add_data(it, table->addr, (uint64_t)entries * table->width);
-    return 1;
+    return true;
 }
 
-int judge_known_tables(struct evidence *it, int all) {
+bool judge_known_tables(struct evidence *it, bool all) {
     size_t kept = all ? 0 : judged, taken = 0;
     for (size_t at = kept; at < table_count; at++) {
         struct table table = tables[at];
@@ -126,30 +126,30 @@ int judge_known_tables(struct evidence *it, int all) {
 }
 
 /* Whether a table begins with entries: three at least, aligned as compilers do, and no other table was begun there. */
-static int begins(const struct evidence *it, const struct table *table) {
+static bool begins(const struct evidence *it, const struct table *table) {
     uint32_t target;
     if (table->addr % 4 || has_bit(begun, table->addr))
-        return 0;
+        return false;
     set_bit(&begun, table->addr);
     for (uint32_t number = 0; number < AT_LEAST; number++)
         if (!read_entry(it, table, number, &target))
-            return 0;
-    return 1;
+            return false;
+    return true;
 }
 
 /* Proposes the next entry; whether the table may go on. */
-static int go_on(struct evidence *it, struct table *table) {
+static bool go_on(struct evidence *it, struct table *table) {
     uint32_t target, at = table->addr + table->entry * table->width;
     if (!read_entry(it, table, table->entry, &target) || leaves_function(it, table, target))
-        return 0;
+        return false;
     if (table->entry ? has_bit(named, at) : !begins(it, table))
-        return 0;
+        return false;
     table->entry++;
     propose(it, target, TABLE);
-    return 1;
+    return true;
 }
 
-int go_on_in_tables(struct evidence *it) {
+bool go_on_in_tables(struct evidence *it) {
     size_t kept = 0;
     for (size_t at = 0; at < table_count; at++) {
         struct table table = tables[at];

@@ -10,8 +10,8 @@ void name_word(uint32_t addr);
 void add_table(struct evidence *it, uint32_t addr, uint32_t from, uint32_t width);
 
 /* Proposes the entries of the tables whose number of entries is known, of new tables or of all; whether there was one. */
-int judge_known_tables(struct evidence *it, int all);
+bool judge_known_tables(struct evidence *it, bool all);
 
 /* Proposes one more entry of each table whose number of entries isn't known; whether there was one. */
-int go_on_in_tables(struct evidence *it);
+bool go_on_in_tables(struct evidence *it);
 #endif

@@ -21,11 +21,11 @@ static void list_all(struct evidence *it, struct names *names, struct gaps *gaps
     propose_entries(it);
     drain(it, AFTER_CALL);
     sweep_extents(it);
-    propose_words(it, 1);
+    propose_words(it, true);
     drain(it, WORD);
-    propose_words(it, 0);
+    propose_words(it, false);
     drain(it, WORD);
-    if (judge_known_tables(it, 1))
+    if (judge_known_tables(it, true))
         drain(it, WORD);
     drain(it, TABLE);
     sweep_extents(it);

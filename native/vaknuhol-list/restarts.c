@@ -13,7 +13,7 @@ struct description {
     uint64_t start, length, abort;
 };
 
-static int has_signature(const struct program *program, uint64_t addr) {
+static bool has_signature(const struct program *program, uint64_t addr) {
     uint32_t word = 0;
     const uint8_t *bytes = bytes_at(program, addr - sizeof word, sizeof word);
     if (bytes)
@@ -21,7 +21,7 @@ static int has_signature(const struct program *program, uint64_t addr) {
     return word == SIGNATURE;
 }
 
-static int is_sequence(const struct program *program, const struct description *one) {
+static bool is_sequence(const struct program *program, const struct description *one) {
     return !one->version && one->flags <= FLAGS && one->length && one->length <= LONGEST && in_text(program, one->start)
            && in_text(program, one->start + one->length - 1) && in_text(program, one->abort) && one->abort - one->start >= one->length;
 }
@@ -34,7 +34,7 @@ static uint32_t begin_of(const struct evidence *it, uint32_t start) {
     return start;
 }
 
-static void take(struct evidence *it, const uint8_t *bytes, int is_told) {
+static void take(struct evidence *it, const uint8_t *bytes, bool is_told) {
     struct description one;
     memcpy(&one, bytes, sizeof one);
     if (!is_sequence(it->program, &one) || !(is_told || has_signature(it->program, one.abort)))
@@ -51,7 +51,7 @@ static void take(struct evidence *it, const uint8_t *bytes, int is_told) {
 static void take_section(struct evidence *it, const Elf64_Shdr *section) {
     const uint8_t *bytes = section_bytes(it->program, section);
     for (uint64_t at = 0; bytes && at + sizeof(struct description) <= section->sh_size; at += sizeof(struct description))
-        take(it, bytes + at, 1);
+        take(it, bytes + at, true);
 }
 
 void find_restarts(struct evidence *it) {
@@ -63,17 +63,17 @@ void find_restarts(struct evidence *it) {
         const struct segment *segment = program->segments + at;
         for (uint64_t place = -segment->addr & 7; place + sizeof(struct description) <= segment->in_file; place += 8)
             if (!in_text(program, segment->addr + place))
-                take(it, segment->bytes + place, 0);
+                take(it, segment->bytes + place, false);
     }
 }
 
-static int meets(const struct instruction *one, uint32_t lo, uint32_t hi) { return one->addr < hi && one->addr + one->length > lo; }
+static bool meets(const struct instruction *one, uint32_t lo, uint32_t hi) { return one->addr < hi && one->addr + one->length > lo; }
 
-int is_restarted(const struct evidence *it, const struct instruction *one) {
+bool is_restarted(const struct evidence *it, const struct instruction *one) {
     for (size_t at = 0; at < it->restart_count; at++) {
         const struct restart *restart = it->restarts + at;
         if (meets(one, restart->begin, restart->range.hi) || meets(one, restart->signature.lo, restart->signature.hi))
-            return 1;
+            return true;
     }
-    return 0;
+    return false;
 }

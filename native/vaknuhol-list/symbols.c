@@ -40,10 +40,11 @@ static int compare(const void *first, const void *second) {
 }
 
 /* Labels whose addresses C code takes are objects of one byte for tcc; tables of one byte have no use. */
-static int is_label(const Elf64_Sym *symbol) { return ELF64_ST_TYPE(symbol->st_info) == STT_OBJECT && symbol->st_size == 1; }
+static bool is_label(const Elf64_Sym *symbol) { return ELF64_ST_TYPE(symbol->st_info) == STT_OBJECT && symbol->st_size == 1; }
 
 static void take_symbol(struct evidence *it, const Elf64_Sym *symbol, const char *text, struct candidates *found) {
-    int type = ELF64_ST_TYPE(symbol->st_info), is_function = type == STT_FUNC || type == STT_GNU_IFUNC;
+    int type = ELF64_ST_TYPE(symbol->st_info);
+    bool is_function = type == STT_FUNC || type == STT_GNU_IFUNC;
     uint64_t addr = symbol->st_value;
     if (is_function) {
         propose(it, addr, ENTRY);
@@ -56,7 +57,7 @@ static void take_symbol(struct evidence *it, const Elf64_Sym *symbol, const char
     if (type == STT_OBJECT && !is_label(symbol))
         add_data(it, addr, symbol->st_size);
     if (text[0] && type != STT_SECTION && type != STT_FILE && !is_label(symbol)) {
-        int is_local = ELF64_ST_BIND(symbol->st_info) != STB_GLOBAL;
+        bool is_local = ELF64_ST_BIND(symbol->st_info) != STB_GLOBAL;
         add_candidate(found, addr, (type == STT_FUNC ? 0 : type == STT_OBJECT ? 2 : 4) + is_local, symbol->st_size, text);
     }
 }

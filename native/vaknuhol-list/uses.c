@@ -37,14 +37,15 @@ struct state {
    a return to where it was called, where some of its ways don't end so, and none does. */
 struct walk {
     const struct evidence *it;
-    int steps, is_for_return, is_read, is_led_to, is_changed, is_returned, is_left;
+    int steps;
+    bool is_for_return, is_read, is_led_to, is_changed, is_returned, is_left;
     uint32_t seen[SEEN];
     uint8_t visits[SEEN];
 };
 
 static const struct value NOTHING_KNOWN = {OTHER_VALUE, 0};
 
-static int is_pointer(struct value value) { return value.has == EXACT || value.has == DERIVED; }
+static bool is_pointer(struct value value) { return value.has == EXACT || value.has == DERIVED; }
 
 static struct value derived(struct value value) { return is_pointer(value) ? (struct value){DERIVED, 0} : NOTHING_KNOWN; }
 
@@ -86,9 +87,9 @@ static void set_slot(struct state *state, int offset, struct value value) {
 }
 
 /* Whether an operand is a place of the stack, and which. */
-static int is_slot(const struct state *state, const ZydisDecodedOperand *operand, int *offset) {
+static bool is_slot(const struct state *state, const ZydisDecodedOperand *operand, int *offset) {
     if (operand->type != ZYDIS_OPERAND_TYPE_MEMORY || operand->mem.index != ZYDIS_REGISTER_NONE)
-        return 0;
+        return false;
     struct value base = of_register(state, operand->mem.base);
     *offset = base.offset + (int)operand->mem.disp.value;
     return base.has == STACK;
@@ -113,7 +114,8 @@ static void set_operand(struct state *state, const ZydisDecodedOperand *operand,
 /* The address that a lea makes. */
 static struct value of_address(const struct state *state, const ZydisDecodedOperand *operand) {
     struct value base = of_register(state, operand->mem.base), index = of_register(state, operand->mem.index);
-    int has_index = operand->mem.index != ZYDIS_REGISTER_NONE, distance = (int)operand->mem.disp.value;
+    bool has_index = operand->mem.index != ZYDIS_REGISTER_NONE;
+    int distance = (int)operand->mem.disp.value;
     if (base.has == STACK)
         return has_index ? NOTHING_KNOWN : (struct value){STACK, base.offset + distance};
     if (is_pointer(base))
@@ -122,9 +124,9 @@ static struct value of_address(const struct state *state, const ZydisDecodedOper
 }
 
 /* Whether memory is accessed by the address that is followed. */
-static int is_through(const struct state *state, const ZydisDecodedInstruction *insn, const ZydisDecodedOperand *operand) {
+static bool is_through(const struct state *state, const ZydisDecodedInstruction *insn, const ZydisDecodedOperand *operand) {
     if (operand->type != ZYDIS_OPERAND_TYPE_MEMORY || operand->mem.type != ZYDIS_MEMOP_TYPE_MEM || insn->mnemonic == ZYDIS_MNEMONIC_NOP)
-        return 0;
+        return false;
     return is_pointer(of_register(state, operand->mem.base)) || (operand->mem.scale == 1 && is_pointer(of_register(state, operand->mem.index)));
 }
 
@@ -145,7 +147,7 @@ static struct value pop(struct state *state) {
 /* An add or a subtraction: what is added to an address of the stack is a number, or its place isn't known any more. */
 static struct value moved(const struct state *state, const ZydisDecodedInstruction *insn, const ZydisDecodedOperand *operands) {
     struct value first = of_operand(state, operands), second = of_operand(state, operands + 1);
-    int is_sum = insn->mnemonic == ZYDIS_MNEMONIC_ADD, is_number = operands[1].type == ZYDIS_OPERAND_TYPE_IMMEDIATE;
+    bool is_sum = insn->mnemonic == ZYDIS_MNEMONIC_ADD, is_number = operands[1].type == ZYDIS_OPERAND_TYPE_IMMEDIATE;
     int distance = is_number ? (int)operands[1].imm.value.s : 0;
     if (first.has == STACK)
         return is_number ? (struct value){STACK, first.offset + (is_sum ? distance : -distance)} : NOTHING_KNOWN;
@@ -164,7 +166,7 @@ static void exchange(struct state *state, const ZydisDecodedOperand *operands) {
 static void write_others(struct state *state, const ZydisDecodedInstruction *insn, const ZydisDecodedOperand *operands) {
     for (int at = 0; at < insn->operand_count; at++)
         if (operands[at].actions & ZYDIS_OPERAND_ACTION_MASK_WRITE) {
-            int counts_on = operands[at].actions & ZYDIS_OPERAND_ACTION_MASK_READ;
+            bool counts_on = operands[at].actions & ZYDIS_OPERAND_ACTION_MASK_READ;
             set_operand(state, operands + at, counts_on ? derived(of_operand(state, operands + at)) : NOTHING_KNOWN);
         }
 }
@@ -196,14 +198,14 @@ static void apply(struct state *state, const ZydisDecodedInstruction *insn, cons
 }
 
 /* A call changes these; a system call the first two and r11. */
-static void forget(struct state *state, int is_call) {
+static void forget(struct state *state, bool is_call) {
     static const uint8_t OF_CALLS[] = {RAX, RCX, 11, RDX, RSI, RDI, 8, 9, 10};
     for (int at = 0; at < (is_call ? (int)sizeof OF_CALLS : 3); at++)
         state->registers[OF_CALLS[at]] = NOTHING_KNOWN;
 }
 
 /* Whether an address was come to often enough. */
-static int was_seen(struct walk *walk, uint32_t addr) {
+static bool was_seen(struct walk *walk, uint32_t addr) {
     uint32_t at = addr * 2654435761u >> 22;
     while (walk->seen[at] && walk->seen[at] != addr)
         at = (at + 1) % SEEN;
@@ -216,7 +218,7 @@ static void follow_from(struct walk *walk, const struct state *from, int nested)
 /* A function that is called with the address in a register is followed for what it reads. */
 static void follow_call(struct walk *walk, const struct state *state, uint32_t target, int nested) {
     struct state inner = *state;
-    int holds = 0;
+    bool holds = false;
     for (int at = 0; at < REGISTER_COUNT; at++)
         holds |= is_pointer(state->registers[at]);
     if (!holds || !target || nested == MOST_NESTED)
@@ -247,46 +249,46 @@ static void judge_accesses(struct walk *walk, const struct state *state, const Z
 }
 
 /* Whether a function may begin behind a call, which then doesn't return. */
-static int may_begin_function(const struct evidence *it, uint32_t addr) {
+static bool may_begin_function(const struct evidence *it, uint32_t addr) {
     struct instruction one;
-    int is_odd;
+    bool is_odd;
     return addr % ALIGNED == 0 || !in_text(it->program, addr) || it->names[addr - it->program->lo] || !decode(it->program, addr, &one, &is_odd)
            || one.marks & NOTHING;
 }
 
 /* One instruction; whether what stands behind it is followed. Where a branch leads is `target`. */
-static int make_step(struct walk *walk, struct state *state, uint32_t *target, int nested) {
+static bool make_step(struct walk *walk, struct state *state, uint32_t *target, int nested) {
     ZydisDecodedInstruction insn;
     ZydisDecodedOperand operands[ZYDIS_MAX_OPERAND_COUNT];
     struct instruction one;
-    int is_odd;
+    bool is_odd;
     *target = 0;
     if (!decode_whole(walk->it->program, state->addr, &one, &is_odd, &insn, operands) || is_odd)
-        return 0;
+        return false;
     judge_accesses(walk, state, &insn, operands);
     state->addr += one.length;
     switch (one.kind) {
     case RETURN:
         if (!nested && walk->is_for_return)
             judge_return(walk, state);
-        return 0;
-    case JUMP_INDIRECT: judge_jump(walk, of_operand(state, operands)); return 0;
-    case END: return 0;
-    case JUMP: *target = one.target; return 0;
-    case BRANCH: *target = one.target; return 1;
+        return false;
+    case JUMP_INDIRECT: judge_jump(walk, of_operand(state, operands)); return false;
+    case END: return false;
+    case JUMP: *target = one.target; return false;
+    case BRANCH: *target = one.target; return true;
     case CALL_INDIRECT:
         judge_jump(walk, of_operand(state, operands));
-        forget(state, 1);
+        forget(state, true);
         break;
     case CALL:
         follow_call(walk, state, one.target, nested);
         if (takes_return(walk->it, one.target))
-            return 0;
-        forget(state, 1);
+            return false;
+        forget(state, true);
         break;
     case KERNEL:
-    case TRAP: forget(state, 0); return 1;
-    default: apply(state, &insn, operands); return 1;
+    case TRAP: forget(state, false); return true;
+    default: apply(state, &insn, operands); return true;
     }
     return !may_begin_function(walk->it, state->addr);
 }
@@ -299,7 +301,7 @@ static void follow_from(struct walk *walk, const struct state *from, int nested)
     while (count && !walk->is_read && !walk->is_led_to && !walk->is_changed) {
         struct state state = waiting[--count];
         uint32_t target;
-        int goes_on = 1;
+        bool goes_on = true;
         while (goes_on && !was_seen(walk, state.addr) && walk->steps++ < MOST_STEPS) {
             goes_on = make_step(walk, &state, &target, nested);
             if (target && goes_on && count < MOST_WAITING) {
@@ -307,36 +309,36 @@ static void follow_from(struct walk *walk, const struct state *from, int nested)
                 waiting[count++].addr = target;
             } else if (target && !goes_on) {
                 state.addr = target;
-                goes_on = 1;
+                goes_on = true;
             }
         }
     }
     free(waiting);
 }
 
-int reads_through(const struct evidence *it, const struct instruction *from) {
+bool reads_through(const struct evidence *it, const struct instruction *from) {
     ZydisDecodedInstruction insn;
     ZydisDecodedOperand operands[ZYDIS_MAX_OPERAND_COUNT];
     struct walk walk = {.it = it};
     struct state state = {.addr = from->addr + from->length};
     struct instruction one;
-    int is_odd;
+    bool is_odd;
     state.registers[RSP] = (struct value){STACK, 0};
     if (!decode_whole(it->program, from->addr, &one, &is_odd, &insn, operands))
-        return 0;
+        return false;
     if (insn.mnemonic == ZYDIS_MNEMONIC_PUSH)
         push(&state, (struct value){EXACT, 0});
     else if (insn.mnemonic == ZYDIS_MNEMONIC_MOV || insn.mnemonic == ZYDIS_MNEMONIC_LEA)
         set_operand(&state, operands, (struct value){EXACT, 0});
     else
-        return 0;
+        return false;
     follow_from(&walk, &state, 0);
     return walk.is_read && !walk.is_led_to;
 }
 
 /* Whether a function takes its return address, as the function shows by itself. */
-static int judge(const struct evidence *it, uint32_t function) {
-    struct walk walk = {.it = it, .is_for_return = 1};
+static bool judge(const struct evidence *it, uint32_t function) {
+    struct walk walk = {.it = it, .is_for_return = true};
     struct state state = {.addr = function};
     state.registers[RSP] = (struct value){STACK, 0};
     set_slot(&state, 0, (struct value){EXACT, 0});
@@ -345,11 +347,11 @@ static int judge(const struct evidence *it, uint32_t function) {
 }
 
 /* Functions that they call are judged first, so many deep; one that calls itself is taken to return meanwhile. */
-int takes_return(const struct evidence *it, uint32_t function) {
+bool takes_return(const struct evidence *it, uint32_t function) {
     static int depth;
     uint8_t *known = it->callees + (function - it->program->lo);
     if (!in_text(it->program, function) || (!*known && depth == MOST_DEEP))
-        return 0;
+        return false;
     if (!*known) {
         depth++;
         *known = JUDGED;

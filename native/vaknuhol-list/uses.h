@@ -6,9 +6,9 @@
 #include "evidence.h"
 
 /* Whether code reads memory through an address that an instruction loads into a register or onto the stack, and doesn't lead to it. */
-int reads_through(const struct evidence *it, const struct instruction *from);
+bool reads_through(const struct evidence *it, const struct instruction *from);
 
 /* Whether a function doesn't return to where it was called, or reads what stands there: it takes its return address off the stack and doesn't
    give it back as it was, changes it, or reads through it. */
-int takes_return(const struct evidence *it, uint32_t function);
+bool takes_return(const struct evidence *it, uint32_t function);
 #endif

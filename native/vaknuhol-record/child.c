@@ -16,7 +16,7 @@ static const char *why_ended = "limit";
 
 pid_t tracee(void) { return child; }
 
-int is_running(void) { return child > 0 && strcmp(why_ended, "exec"); }
+bool is_running(void) { return child > 0 && strcmp(why_ended, "exec"); }
 
 const char *proc_path(const char *name) {
     static char path[40];
@@ -24,7 +24,7 @@ const char *proc_path(const char *name) {
     return path;
 }
 
-int read_pagemap(uint64_t page, uint64_t *entries, size_t count) {
+bool read_pagemap(uint64_t page, uint64_t *entries, size_t count) {
     return pread(pagemap, entries, count * sizeof *entries, page * sizeof *entries) == (ssize_t)(count * sizeof *entries);
 }
 

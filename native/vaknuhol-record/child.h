@@ -2,6 +2,7 @@
 #ifndef CHILD_H
 #define CHILD_H
 #include <signal.h>
+#include <stdbool.h>
 
 #include "tracee.h"
 
@@ -14,13 +15,13 @@ void start(char **command);
 pid_t tracee(void);
 
 /* Whether it runs the program that was started. */
-int is_running(void);
+bool is_running(void);
 
 /* The path of a file of the process in /proc; it stands until the next call. */
 const char *proc_path(const char *name);
 
 /* Entries of its pagemap, from a page on; whether they can be read. */
-int read_pagemap(uint64_t page, uint64_t *entries, size_t count);
+bool read_pagemap(uint64_t page, uint64_t *entries, size_t count);
 
 /* Notes why the run ends; returns 0. */
 int ends_by(const char *why);

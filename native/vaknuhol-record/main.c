@@ -23,7 +23,7 @@ enum { MOST_SCRIPT = 255 << 20 };
 const struct refusal refusal = {1, "no memory: %m"};
 static struct record record;
 static FILE *states;
-static int is_full, keeps_evex;
+static bool is_full, keeps_evex;
 static long written, delivered;
 
 /* Why the run ends at a system call: it starts a thread, or another program in its place. */
@@ -39,7 +39,8 @@ static const char *ends_at_call(const struct user_regs_struct *regs) {
 /* Makes an asked instruction and writes its entry. */
 static enum outcome make_asked(const struct decoded *insn, struct user_regs_struct *before, struct user_regs_struct *after) {
     struct span spans[MOST_SPANS];
-    int all = enters_kernel(insn) || is_full, count = all ? 0 : spans_of(insn, before, spans);
+    bool all = enters_kernel(insn) || is_full;
+    int count = all ? 0 : spans_of(insn, before, spans);
     if (is_syscall(insn)) {
         const char *why = ends_at_call(before);
         if (why)
@@ -82,13 +83,13 @@ static enum outcome make(const struct decoded *insn, struct user_regs_struct *be
 }
 
 /* Whether the script has room for what was written last; else it is as if that had not been made. */
-static int has_room(const struct record *before) {
+static bool has_room(const struct record *before) {
     if (ftell(record.entries) + ftell(record.deliveries) > MOST_SCRIPT) {
         record = *before;
         return ends_by("script");
     }
     written = ftell(record.entries), delivered = ftell(record.deliveries);
-    return 1;
+    return true;
 }
 
 static void run(struct user_regs_struct *regs, uint64_t every, uint64_t limit) {
@@ -149,7 +150,7 @@ int main(int count, char **words) {
     start(words + program);
     get_regs(tracee(), &first);
     first.orig_rax = -1;
-    if (!change_vector(tracee(), first.rsp, &(struct told){0}, 1))
+    if (!change_vector(tracee(), first.rsp, &(struct told){0}, true))
         die("the program's memory can't be changed");
     move_break(&first);
     set_regs(tracee(), &first);

@@ -61,14 +61,14 @@ static uint64_t kept_in_frame(const struct user_regs_struct *in_handler, int num
 }
 
 enum outcome deliver(struct record *record, const struct decoded *insn, struct user_regs_struct *before, struct user_regs_struct *after) {
-    int ends_call = is_syscall(insn) && after->rip != insn->rip;
+    bool ends_call = is_syscall(insn) && after->rip != insn->rip;
     char *first_writes = begun_writes(insn, before, after);
     if (ends_call) { /* all was taken over before the call; what it wrote belongs to the delivery */
         after->r11 = before->eflags;
         set_regs(tracee(), after);
     } else
         take_all(0);
-    int is_entered = enter_handler(after);
+    bool is_entered = enter_handler(after);
     if (is_entered && ends_call && kept_in_frame(after, REG_RIP) != insn->rip)
         write_call(record, insn, before, kept_in_frame(after, REG_RAX));
     if (is_entered)
@@ -77,7 +77,7 @@ enum outcome deliver(struct record *record, const struct decoded *insn, struct u
     return is_entered ? CAME : ENDED;
 }
 
-int is_return(const struct decoded *insn, const struct user_regs_struct *before) { return is_syscall(insn) && before->rax == SYS_rt_sigreturn; }
+bool is_return(const struct decoded *insn, const struct user_regs_struct *before) { return is_syscall(insn) && before->rax == SYS_rt_sigreturn; }
 
 enum outcome make_return(struct record *record, const struct decoded *insn, struct user_regs_struct *before, struct user_regs_struct *after) {
     take_all(0);

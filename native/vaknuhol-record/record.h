@@ -22,7 +22,7 @@ void count_step(struct record *record, const struct decoded *insn, struct user_r
 enum outcome deliver(struct record *record, const struct decoded *insn, struct user_regs_struct *before, struct user_regs_struct *after);
 
 /* Whether an instruction returns from a handler. */
-int is_return(const struct decoded *insn, const struct user_regs_struct *before);
+bool is_return(const struct decoded *insn, const struct user_regs_struct *before);
 
 /* Makes a return from a handler, and writes it as a step, whose answer is as that of any system call, and as a delivery. */
 enum outcome make_return(struct record *record, const struct decoded *insn, struct user_regs_struct *before, struct user_regs_struct *after);

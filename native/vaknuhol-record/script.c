@@ -13,7 +13,7 @@ static const char *NAMES[] = {"rax", "rcx", "rdx", "rbx", "rsp", "rbp", "rsi", "
 void write_question(FILE *entries, const struct decoded *insn) {
     uint8_t bytes[MOST_BYTES];
     uint64_t names = 0;
-    int is_named = question_of(insn, bytes, &names);
+    bool is_named = question_of(insn, bytes, &names);
     fputs("ask ", entries);
     for (int at = 0; at < insn->insn.length; at++)
         fprintf(entries, "%02x", bytes[at]);
@@ -90,7 +90,7 @@ static void write_regions(FILE *world, uint64_t rsp, const struct stack *stack) 
     int count = 0, most = seen_ranges(&ranges);
     for (int at = 0; at < most; at++) {
         struct range range = ranges[at], after = range;
-        int has_stack = range.lo <= rsp && rsp < range.hi;
+        bool has_stack = range.lo <= rsp && rsp < range.hi;
         if (has_stack)
             range.hi = rsp, after.lo = stack->end;
         count += write_zeros(world, range);

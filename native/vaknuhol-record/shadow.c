@@ -30,7 +30,7 @@ void read_segments(const char *path) {
         die(path);
     for (const Elf64_Phdr *it = elf.headers; it < elf.headers + elf.header_count; it++)
         if (it->p_type == PT_LOAD && it->p_memsz && own.count < MOST_RANGES)
-            own.at[own.count++] = (struct range){it->p_vaddr / PAGE * PAGE, (it->p_vaddr + it->p_memsz + PAGE - 1) / PAGE * PAGE, 0, 0};
+            own.at[own.count++] = (struct range){it->p_vaddr / PAGE * PAGE, (it->p_vaddr + it->p_memsz + PAGE - 1) / PAGE * PAGE, false, false};
 }
 
 /* The place of a page in the shadow, empty where the page isn't known. */
@@ -67,15 +67,15 @@ static uint8_t *shadow_of(uint64_t at) {
     return page->bytes;
 }
 
-int is_own(uint64_t at) {
+bool is_own(uint64_t at) {
     for (int place = 0; place < own.count; place++)
         if (own.at[place].lo <= at && at < own.at[place].hi)
-            return 1;
-    return 0;
+            return true;
+    return false;
 }
 
 /* Adds a range to the ones that the script has to hold, without the file's own pages. */
-static void add_seen(uint64_t lo, uint64_t hi, int executable) {
+static void add_seen(uint64_t lo, uint64_t hi, bool executable) {
     for (int at = 0; at < own.count; at++)
         if (lo < own.at[at].hi && own.at[at].lo < hi) {
             if (lo < own.at[at].lo)
@@ -93,7 +93,7 @@ static void add_seen(uint64_t lo, uint64_t hi, int executable) {
         }
     if (seen.count == MOST_RANGES)
         die("the program maps too many ranges of memory");
-    seen.at[seen.count++] = (struct range){lo, hi, executable, 0};
+    seen.at[seen.count++] = (struct range){lo, hi, executable, false};
 }
 
 /* The readable ranges of the process that the run may change or that lie beside its file; they are marked as seen. */
@@ -147,7 +147,7 @@ static void read_presence(const struct range *range, uint8_t *is_there, size_t p
     uint64_t entry[512];
     for (size_t at = 0; at < pages; at += 512) {
         size_t count = pages - at < 512 ? pages - at : 512;
-        int is_known = read_pagemap(range->lo / PAGE + at, entry, count);
+        bool is_known = read_pagemap(range->lo / PAGE + at, entry, count);
         for (size_t place = 0; place < count; place++)
             is_there[at + place] = !is_known || entry[place] >> 62 != 0 || (!range->anonymous && !is_own(range->lo));
     }
@@ -181,10 +181,10 @@ void take_all(FILE *entries) {
         read_presence(range, is_there, pages);
         for (size_t place = 0; place < pages; place++) {
             uint64_t page = range->lo + place * PAGE;
-            int read = is_there[place] && read_memory(tracee(), page, bytes, PAGE);
-            if (!read && (is_own(page) || !place_of(page)->bytes))
+            bool is_read = is_there[place] && read_memory(tracee(), page, bytes, PAGE);
+            if (!is_read && (is_own(page) || !place_of(page)->bytes))
                 continue;
-            if (!read)
+            if (!is_read)
                 memset(bytes, 0, PAGE);
             uint8_t *before = shadow_of(page);
             if (!entries)

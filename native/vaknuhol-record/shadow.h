@@ -3,18 +3,19 @@
 #define SHADOW_H
 #include "asking.h"
 
+#include <stdbool.h>
 #include <stdio.h>
 
 /* Addresses of the process: readable ones as /proc/PID/maps has them, or the ones that the script has to hold. */
 struct range {
     uint64_t lo, hi;
-    int executable, anonymous;
+    bool executable, anonymous;
 };
 
 /* The pages of the segments of the program's file. */
 void read_segments(const char *path);
 
-int is_own(uint64_t at);
+bool is_own(uint64_t at);
 
 /* Marks the readable ranges of the process that the run may change or that lie beside its file as seen. */
 void see_maps(void);

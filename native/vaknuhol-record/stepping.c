@@ -7,51 +7,52 @@ enum { REST = 100, MOST_HELD = 64 };
 
 static siginfo_t held[MOST_HELD]; /* signals from outside that wait, in order */
 static int held_count, came;      /* came: the signal of this stop, with a handler */
-static int is_held;               /* it is the first of those that waited */
+static bool is_held;              /* it is the first of those that waited */
 static uint64_t rested;           /* steps since a handler was entered or left */
 
 void rest(void) { rested = 0; }
 
 /* Whether a signal changes nothing: it is ignored. */
-static int is_idle(int number) {
-    int is_ignored = number == SIGCHLD || number == SIGURG || number == SIGWINCH || number == SIGCONT;
+static bool is_idle(int number) {
+    bool is_ignored = number == SIGCHLD || number == SIGURG || number == SIGWINCH || number == SIGCONT;
     return is_signal_in(tracee(), "\nSigIgn:", number) || (is_ignored && !is_signal_in(tracee(), "\nSigCgt:", number));
 }
 
 /* A repeated instruction stops after each turn, and a system call that a signal interrupts is made again. */
-static int is_interrupted(const struct decoded *insn, const struct user_regs_struct *regs) {
+static bool is_interrupted(const struct decoded *insn, const struct user_regs_struct *regs) {
     int64_t answer = regs->rax;
     return is_syscall(insn) && regs->rip != insn->rip && -516 <= answer && answer <= -512;
 }
 
-static int is_unfinished(const struct decoded *insn, const struct user_regs_struct *regs) {
-    int may_stay = is_syscall(insn) || repeats_string(insn);
+static bool is_unfinished(const struct decoded *insn, const struct user_regs_struct *regs) {
+    bool may_stay = is_syscall(insn) || repeats_string(insn);
     return is_interrupted(insn, regs) || (may_stay && regs->rip == insn->rip);
 }
 
 /* Whether a signal from outside may come before this instruction. Before a system call it doesn't wait for long: the call may wait for
    it. */
-static int may_come(const struct decoded *insn) { return rested >= REST || (enters_kernel(insn) && rested > 0); }
+static bool may_come(const struct decoded *insn) { return rested >= REST || (enters_kernel(insn) && rested > 0); }
 
 /* Whether a timer or another process sent a signal; a program that sends one itself has it at once. */
-static int is_from_outside(const siginfo_t *info) {
-    int number = info->si_signo, is_fault = number == SIGSEGV || number == SIGBUS || number == SIGILL || number == SIGFPE;
+static bool is_from_outside(const siginfo_t *info) {
+    int number = info->si_signo;
+    bool is_fault = number == SIGSEGV || number == SIGBUS || number == SIGILL || number == SIGFPE;
     return info->si_code > 0 ? info->si_code == SI_KERNEL && !is_fault : info->si_code == SI_TIMER || info->si_pid != tracee();
 }
 
 /* Keeps a signal from outside that comes too early; a pending one of the same number stands for both, as with the kernel. */
-static int is_kept(const struct decoded *insn, const struct user_regs_struct *regs) {
+static bool is_kept(const struct decoded *insn, const struct user_regs_struct *regs) {
     siginfo_t info;
     get_info(&info);
     if (!is_from_outside(&info) || may_come(insn) || is_interrupted(insn, regs))
-        return 0;
+        return false;
     for (int at = 0; at < held_count && info.si_signo < SIGRTMIN; at++)
         if (held[at].si_signo == info.si_signo)
-            return 1;
+            return true;
     if (held_count == MOST_HELD)
-        return 0;
+        return false;
     held[held_count++] = info;
-    return 1;
+    return true;
 }
 
 /* A signal that comes to the process as it makes an instruction: whether it is passed on, or kept; else the run stops. */
@@ -69,16 +70,16 @@ static enum outcome take_signal(int number, int *sent, const struct decoded *ins
     get_regs(tracee(), regs);
     if (is_kept(insn, regs))
         return MADE;
-    came = number, is_held = 0;
+    came = number, is_held = false;
     return CAME;
 }
 
 /* Whether a signal that waited comes now. */
-static int is_released(const struct decoded *insn) {
+static bool is_released(const struct decoded *insn) {
     if (!held_count || !may_come(insn) || is_signal_in(tracee(), "\nSigBlk:", held[0].si_signo))
-        return 0;
-    came = held[0].si_signo, is_held = 1;
-    return 1;
+        return false;
+    came = held[0].si_signo, is_held = true;
+    return true;
 }
 
 enum outcome make_step(const struct decoded *insn, struct user_regs_struct *regs) {
@@ -106,7 +107,7 @@ enum outcome make_step(const struct decoded *insn, struct user_regs_struct *regs
     }
 }
 
-int enter_handler(struct user_regs_struct *regs) {
+bool enter_handler(struct user_regs_struct *regs) {
     static char why[40];
     if (is_held) {
         set_info(&held[0]);

@@ -11,7 +11,7 @@ enum outcome { ENDED, MADE, CAME };
 enum outcome make_step(const struct decoded *insn, struct user_regs_struct *regs);
 
 /* Enters the handler of the signal that came; whether the run goes on in it. */
-int enter_handler(struct user_regs_struct *regs);
+bool enter_handler(struct user_regs_struct *regs);
 
 /* The program came back from a handler: for a while no signal from outside is let through. */
 void rest(void);

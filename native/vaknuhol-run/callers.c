@@ -18,7 +18,7 @@ static const struct rule *rule_at(uint64_t address) {
 }
 
 /* Whether a thread was led to where no memory is, as by a null pointer to a function. It has made no more than the call. Its stack can be read. */
-static int is_led_astray(pid_t tid, uint64_t at, uint64_t rsp) {
+static bool is_led_astray(pid_t tid, uint64_t at, uint64_t rsp) {
     uint8_t byte;
     uint64_t word;
     return !read_memory(tid, at, &byte, sizeof byte) && read_word(tid, rsp, &word);

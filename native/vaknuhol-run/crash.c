@@ -7,9 +7,9 @@ static const unsigned FAULTS = 1u << SIGSEGV | 1u << SIGBUS | 1u << SIGFPE | 1u 
                       OTHERS = 1u << SIGABRT | 1u << SIGQUIT | 1u << SIGXCPU | 1u << SIGXFSZ; /* these end a process with a core file, too */
 
 /* A fault that is blocked or ignored the kernel has made one that isn't. */
-int is_crash(pid_t tid, int number) {
+bool is_crash(pid_t tid, int number) {
     if (patch->kind != RING || !patch->for_threads || number >= SIGNALS || !((FAULTS | OTHERS) >> number & 1))
-        return 0;
+        return false;
     return !is_signal_in(tid, "\nSigCgt:", number) && !is_signal_in(tid, "\nSigIgn:", number);
 }
 
@@ -22,7 +22,7 @@ static pid_t own_pid(pid_t tid) {
     return pid;
 }
 
-int is_of_thread(pid_t tid, const siginfo_t *info) {
+bool is_of_thread(pid_t tid, const siginfo_t *info) {
     if (info->si_code == SI_TKILL)
         return info->si_pid == own_pid(tid);
     return info->si_code > 0 && info->si_signo < SIGNALS && FAULTS >> info->si_signo & 1;
@@ -40,7 +40,7 @@ static uint32_t block_of(uint64_t address) {
 }
 
 /* Words of the ring, of which others may be written meanwhile; whether they could be read. */
-static int read_ring(const struct space *space, pid_t tid, uint32_t first, uint32_t *to, uint32_t count) {
+static bool read_ring(const struct space *space, pid_t tid, uint32_t first, uint32_t *to, uint32_t count) {
     const uint32_t *ring = (const uint32_t *)(space->range + SCRATCH);
     for (uint32_t n = 0; space->is_shared && n < count; n++)
         to[n] = __atomic_load_n(&ring[first + n], __ATOMIC_SEQ_CST);
@@ -76,40 +76,40 @@ static void end_with(uint32_t *ring, uint32_t back, uint32_t number) {
     ring[0] = position - back + 1;
 }
 
-static int is_site_within(uint32_t number, uint64_t low, uint64_t high) {
+static bool is_site_within(uint32_t number, uint64_t low, uint64_t high) {
     if (number >= patch->row_count || patch->rows[number].number != number)
-        return 0;
+        return false;
     uint64_t site = address_of(patch->rows + number, SITE);
     return low <= site && site < high;
 }
 
 /* Ends with the last event of the sites in a range, or where others have claimed all slots since with that of one which is known to have been executed;
    whether there are such sites. */
-static int end_within(uint32_t *ring, uint64_t low, uint64_t high, uint32_t known) {
+static bool end_within(uint32_t *ring, uint64_t low, uint64_t high, uint32_t known) {
     uint32_t number = 0, back = 1;
     while (number < patch->row_count && !is_site_within(number, low, high))
         number++;
     if (number == patch->row_count)
-        return 0;
+        return false;
     while (back <= patch->slots && !is_site_within(ring[1 + (ring[0] - back) % patch->slots] - 1, low, high))
         back++;
     if (back <= patch->slots)
         end_with(ring, back, ring[1 + (ring[0] - back) % patch->slots] - 1);
     else if (ring[0] >= patch->slots && known != PLAIN)
         end_with(ring, back, known);
-    return 1;
+    return true;
 }
 
-static int end_with_site(uint32_t *ring, uint32_t number, int is_known) {
+static bool end_with_site(uint32_t *ring, uint32_t number, bool is_known) {
     uint64_t site = address_of(patch->rows + number, SITE);
     return end_within(ring, site, site + 1, is_known ? number : PLAIN);
 }
 
 /* Where a thread stands in its block behind the site, that is what it executed last. Where it isn't there yet, or the block isn't patched, it is the last
    event of its function, of which it has executed the first block. Whether it is one of this function. */
-static int end_with_stand(uint32_t *ring, const struct frame *frame) {
+static bool end_with_stand(uint32_t *ring, const struct frame *frame) {
     uint32_t number = block_of(frame->at), first = block_of(frame->begin);
-    int is_before = number != PLAIN && frame->at <= address_of(patch->rows + number, SITE);
+    bool is_before = number != PLAIN && frame->at <= address_of(patch->rows + number, SITE);
     if (number != PLAIN && (!is_before || !frame->end))
         return end_with_site(ring, number, !is_before);
     return !(is_before && number == first) && end_within(ring, frame->begin, frame->end, first);
@@ -128,7 +128,7 @@ void keep_ring(const struct task *it, int number, uint64_t stood, const struct u
     if (!outside)
         return;
     if (tramp && tramp->number != PLAIN && stood - tramp->place >= patch->event_length)
-        end_with_site(crash->ring, tramp->number, 1);
+        end_with_site(crash->ring, tramp->number, true);
     else
         for (unsigned n = 0, count = find_frames(it->tid, outside, frames); n < count && !end_with_stand(crash->ring, frames + n); n++)
             continue;

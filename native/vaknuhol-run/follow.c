@@ -10,7 +10,7 @@ static const int PASSED_ON[] = {SIGINT, SIGQUIT, SIGTERM, SIGHUP, SIGUSR1, SIGUS
 
 struct tasks all_tasks = LIST_HEAD_INITIALIZER(all_tasks);
 static struct run *run;
-static int is_loss_told, is_rest_told;
+static int losses_told, rests_told;
 
 /* The thread of that number, or one of that process, or nothing. */
 static struct task *find_task(pid_t tid, pid_t group) {
@@ -26,13 +26,13 @@ static void add_task(pid_t tid, pid_t group, struct space *space) {
     it->tid = tid, it->group = group, it->space = space;
     LIST_INSERT_HEAD(&all_tasks, it, others);
     if (space)
-        space->members++, run->is_written = 0;
+        space->members++, run->is_written = false;
 }
 
-void drop_task(struct task *it, const char *how, int has_memory) {
+void drop_task(struct task *it, const char *how, bool has_memory) {
     struct space *space = it->space;
     if (space && --space->members == 0) {
-        if (!(has_memory ? read_range(space, it->tid) : space->is_shared) && !is_loss_told++)
+        if (!(has_memory ? read_range(space, it->tid) : space->is_shared) && !losses_told++)
             warnx("warning: the memory of process %d was its own, and could not be read as it ended, or began another program (exec): its record has "
                   "too few events, what was read up to two seconds before, or none",
                   it->group);
@@ -44,7 +44,7 @@ void drop_task(struct task *it, const char *how, int has_memory) {
 }
 
 /* Whether the process runs the patched file. */
-static int is_ours(pid_t pid) {
+static bool is_ours(pid_t pid) {
     struct stat now;
     char path[40];
     snprintf(path, sizeof path, "/proc/%d/exe", pid);
@@ -63,14 +63,14 @@ static unsigned long birth_flags(pid_t tid) {
 }
 
 /* A thread, or a process that runs at once with its parent in the same memory. */
-static int is_beside(pid_t tid, pid_t group) { return group != tid || (birth_flags(tid) & (CLONE_VM | CLONE_VFORK)) == CLONE_VM; }
+static bool is_beside(pid_t tid, pid_t group) { return group != tid || (birth_flags(tid) & (CLONE_VM | CLONE_VFORK)) == CLONE_VM; }
 
 /* A thread or a process at its first stop. Its parent hasn't gone on yet, but may have been killed. */
 static void born(pid_t tid) {
     pid_t group = atoi(status_of(tid, "\nTgid:"));
     const struct task *parent = find_task(0, group == tid ? atoi(status_of(tid, "\nPPid:")) : group);
     struct space *space = parent ? parent->space : NULL;
-    int has_program = parent ? space != NULL : is_ours(tid);
+    bool has_program = parent ? space != NULL : is_ours(tid);
     if (space && is_beside(tid, group) && !run->threads++ && patch->warning[0])
         warnx("%s", patch->warning);
     if (has_program && !(birth_flags(tid) & CLONE_VM)) {
@@ -93,7 +93,7 @@ static void await_child(pid_t tid) {
 static void first_ends(void) {
     if (!run->processes)
         errx(REFUSED, "%s can't be started: is it a whole program, and may it be executed?", run->patched);
-    run->is_over = 1;
+    run->is_over = true;
     write_record(run, TAILQ_EMPTY(&all_spaces));
     if (run->is_stand_in)
         dup2(0, 2);
@@ -108,7 +108,7 @@ static void tell_rest(void) {
     LIST_FOREACH(it, &all_tasks, others)
     others += it == find_task(0, it->group);
     pid_t group = others ? LIST_FIRST(&all_tasks)->group : 0;
-    if (others && !run->is_stand_in && !is_rest_told++)
+    if (others && !run->is_stand_in && !rests_told++)
         warnx("the program has ended, and process %d, which it left%s, is waited for: kill %d ends it, vaknuhol dump --detach %d lets it run on", group,
               others > 1 ? " with others" : "", group, group);
 }
@@ -119,7 +119,7 @@ static void tell_rest(void) {
 static void tell_original(pid_t tid) {
     struct user_regs_struct regs;
     if (patch->told.header_count && !ptrace(PTRACE_GETREGS, tid, 0, &regs))
-        change_vector(tid, regs.rsp, &patch->told, 0);
+        change_vector(tid, regs.rsp, &patch->told, false);
 }
 
 /* At exec's stop the other threads are gone, and the process may run the patched program, or again. */
@@ -127,8 +127,8 @@ static void replaced(pid_t pid) {
     struct task *it = find_task(0, pid);
     run->execs += it && it->space;
     for (; it; it = find_task(0, pid))
-        drop_task(it, "exec", 0);
-    int has_program = is_ours(pid);
+        drop_task(it, "exec", false);
+    bool has_program = is_ours(pid);
     run->processes += has_program && !run->processes;
     if (has_program)
         tell_original(pid);
@@ -139,7 +139,7 @@ static void replaced(pid_t pid) {
     ptrace(has_program || !run->is_stand_in ? PTRACE_CONT : PTRACE_DETACH, pid, 0, 0);
 }
 
-static void ended(pid_t tid, int status, int has_memory) {
+static void ended(pid_t tid, int status, bool has_memory) {
     char how[24];
     struct task *it = find_task(tid, 0);
     snprintf(how, sizeof how, WIFEXITED(status) ? "exit %d" : "signal %d", WIFEXITED(status) ? WEXITSTATUS(status) : WTERMSIG(status));
@@ -162,7 +162,7 @@ static void stopped(pid_t tid, int number, int event) {
         if (event == PTRACE_EVENT_FORK || event == PTRACE_EVENT_VFORK || event == PTRACE_EVENT_CLONE)
             await_child((pid_t)told);
         else if (event == PTRACE_EVENT_EXIT)
-            ended(tid, (int)told, 1);
+            ended(tid, (int)told, true);
         else if (!event && is_inner_step(it, number))
             number = 0;
         else if (!event)
@@ -182,15 +182,16 @@ static void take_stop(pid_t tid) {
 
 /* Everything that the kernel tells by now; whether a process is left. Nobody sees the end of a process before it is waited for: the record is there by
    then. */
-static int take_stops(void) {
+static bool take_stops(void) {
     for (;;) {
         siginfo_t info = {0};
         int none = waitid(P_ALL, 0, &info, WEXITED | WSTOPPED | WNOWAIT | WNOHANG | __WALL);
-        int is_stop = info.si_code == CLD_TRAPPED, status = info.si_code == CLD_EXITED ? info.si_status << 8 : info.si_status;
+        bool is_stop = info.si_code == CLD_TRAPPED;
+        int status = info.si_code == CLD_EXITED ? info.si_status << 8 : info.si_status;
         if (is_stop)
             take_stop(info.si_pid);
         else if (info.si_pid)
-            ended(info.si_pid, status, 0);
+            ended(info.si_pid, status, false);
         if (info.si_pid == run->first)
             run->status = status;
         if (!run->is_over && !find_task(0, run->first))
@@ -220,7 +221,7 @@ static void write_so_far(void) {
     LIST_FOREACH(it, &all_tasks, others)
     if (it->space)
         read_range(it->space, it->tid);
-    write_record(run, 0);
+    write_record(run, false);
     if (run->is_over)
         tell_rest();
     alarm(PAUSE + (unsigned)(COSTS_AT_MOST * (clock() - begun) / CLOCKS_PER_SEC));
@@ -248,5 +249,5 @@ void follow(struct run *given) {
             pass_on(&info);
     }
     if (!run->is_written)
-        write_record(run, 1);
+        write_record(run, true);
 }

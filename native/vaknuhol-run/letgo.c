@@ -23,7 +23,7 @@ static int hold(const struct task *it) {
         return 0;
     for (int n = 0; n < MOST_LOOKS && !waitid(P_PID, (id_t)it->tid, &info, WEXITED | WSTOPPED | WNOWAIT | WNOHANG | __WALL) && !info.si_pid; n++)
         usleep(PAUSE);
-    int is_plain = info.si_status >> 8 == 0 || info.si_status >> 8 == PTRACE_EVENT_STOP;
+    bool is_plain = info.si_status >> 8 == 0 || info.si_status >> 8 == PTRACE_EVENT_STOP;
     return info.si_code == CLD_TRAPPED && is_plain ? info.si_status : 0;
 }
 
@@ -36,7 +36,7 @@ void let_go(pid_t group) {
         else if (it->stop && (it->stop = before_delivery(it, it->stop)) <= 0)
             it->stop = it->stop ? 0 : DELIVERED;
     }
-    int is_free = standing && (!standing->space || !standing->space->is_shared || make_own(standing->space, standing->tid));
+    bool is_free = standing && (!standing->space || !standing->space->is_shared || make_own(standing->space, standing->tid));
     for (it = LIST_FIRST(&all_tasks); it; it = next) {
         pid_t tid = it->tid;
         int number = it->stop >> 8 ? 0 : it->stop;
@@ -44,7 +44,7 @@ void let_go(pid_t group) {
         if (!it->stop)
             continue;
         if (is_free)
-            drop_task(it, "running", 1);
+            drop_task(it, "running", true);
         ptrace(PTRACE_INTERRUPT, tid, 0, 0); /* so that a call which was interrupted is made again */
         ptrace(is_free ? PTRACE_DETACH : PTRACE_CONT, tid, 0, number);
     }

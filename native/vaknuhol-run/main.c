@@ -9,7 +9,7 @@
 
 /* A program waits, before it becomes the patched file, until its runner traces it. The two speak by a socket: a stand-in's runner says its number, the
    program gives it leave to trace, and the runner says by an empty line that it does, or else why it can't. */
-int is_traced(int socket, pid_t runner, char line[ANSWER]) {
+bool is_traced(int socket, pid_t runner, char line[ANSWER]) {
     ssize_t length = -1;
     if (runner || read(socket, &runner, sizeof runner) == sizeof runner) {
         prctl(PR_SET_PTRACER, runner, 0, 0, 0); /* where the kernel knows no such leave, none is needed */

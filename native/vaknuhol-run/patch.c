@@ -12,7 +12,7 @@ static const struct tramp *tramps;
 
 enum { ADDRESS_DIGITS = 8, MOST_NUMBERS = 1 << 24, PAGE = 4096, SIGN_COUNT = 6, REGISTERS = 16, HIGHEST = 0x7fffffff };
 
-static int is_text(const char *text, size_t size) { return memchr(text, 0, size) != NULL; }
+static bool is_text(const char *text, size_t size) { return memchr(text, 0, size) != NULL; }
 
 /* What the record takes in the private range. */
 static uint64_t record_length(void) {
@@ -21,73 +21,73 @@ static uint64_t record_length(void) {
                                   : patch->sites;
 }
 
-static int has_right_head(void) {
-    int is_ring = patch->kind == RING;
+static bool has_right_head(void) {
+    bool is_ring = patch->kind == RING;
     return is_text(patch->head, sizeof patch->head) && is_text(patch->left, sizeof patch->left) && is_text(patch->warning, sizeof patch->warning)
            && patch->kind <= RING && patch->for_threads <= 1 && patch->sites <= MOST_NUMBERS && patch->slots <= MOST_NUMBERS
            && (!is_ring || (patch->shown && patch->shown <= patch->slots)) && patch->event_length <= LONGEST_EVENT
            && patch->comparison_count <= MOST_COMPARISONS && patch->told.header_count <= UINT16_MAX;
 }
 
-static int has_right_range(void) {
+static bool has_right_range(void) {
     return patch->data_length >= record_length() && patch->private_at % PAGE == 0 && patch->private_at && patch->private_at <= HIGHEST
            && patch->private_length % PAGE == 0 && patch->private_length <= HIGHEST && patch->data_length <= patch->private_length
            && patch->private_length - patch->data_length >= SCRATCH;
 }
 
-static int has_right_comparisons(void) {
+static bool has_right_comparisons(void) {
     for (unsigned n = 0; n < patch->comparison_count; n++)
         if (patch->comparisons[n].reg >= REGISTERS || patch->comparisons[n].sign >= SIGN_COUNT)
-            return 0;
-    return 1;
+            return false;
+    return true;
 }
 
 /* Whether a line begins there by three addresses, each with a blank after it. */
-static int is_row_text(uint32_t at) {
+static bool is_row_text(uint32_t at) {
     if (at > patch->text_length || patch->text_length - at <= ROW_ADDRESSES)
-        return 0;
+        return false;
     for (unsigned n = 0; n < ROW_ADDRESSES; n++)
         if (n % (ADDRESS_DIGITS + 1) == ADDRESS_DIGITS ? row_text[at + n] != ' ' : !isxdigit((unsigned char)row_text[at + n]))
-            return 0;
-    return 1;
+            return false;
+    return true;
 }
 
 /* Rows have their lines in order; those of a ring stand at their numbers, and where a number has no site there is no line. */
-static int has_right_rows(void) {
+static bool has_right_rows(void) {
     uint64_t behind = 0;
     for (uint32_t n = 0; n < patch->row_count; n++) {
         const struct row *row = patch->rows + n;
         if (row->number == PLAIN && patch->kind == RING)
             continue;
         if (!is_row_text(row->at) || (row->number != PLAIN && row->number >= patch->sites))
-            return 0;
+            return false;
         if (patch->kind == RING ? row->number != n : row->at < behind)
-            return 0;
+            return false;
         behind = (uint64_t)row->at + ROW_ADDRESSES + 1;
     }
-    return 1;
+    return true;
 }
 
 /* Trampolines ascend, and the last row is nowhere; those with an event have a site. */
-static int has_right_tramps(void) {
+static bool has_right_tramps(void) {
     for (uint32_t n = 0; n < patch->tramp_count; n++)
         if ((n && tramps[n].place < tramps[n - 1].place) || (tramps[n].number < NOWHERE && tramps[n].number >= patch->sites))
-            return 0;
+            return false;
     return !patch->tramp_count || tramps[patch->tramp_count - 1].number == NOWHERE;
 }
 
-static int has_right_rules(void) {
+static bool has_right_rules(void) {
     for (uint32_t n = 1; n < patch->rule_count; n++)
         if (rules[n].at < rules[n - 1].at)
-            return 0;
-    return 1;
+            return false;
+    return true;
 }
 
-static int has_right_covered(void) {
+static bool has_right_covered(void) {
     for (uint32_t n = 0; n < patch->covered_count; n++)
         if (covered[n].length > sizeof covered[n].bytes)
-            return 0;
-    return 1;
+            return false;
+    return true;
 }
 
 void read_patch(const char *path) {
@@ -131,13 +131,13 @@ const struct tramp *tramp_at(uint64_t address) {
 uint64_t event_of(const struct tramp *it) { return it->number == PLAIN ? 0 : patch->event_length; }
 
 /* An event for threads, and one that covers, saves none; a displaced call does where it isn't one for threads. */
-int is_shareable(pid_t tid) {
+bool is_shareable(pid_t tid) {
     uint64_t code;
     if (patch->for_threads)
-        return 1;
+        return true;
     for (uint32_t n = 0; n < patch->tramp_count; n++)
         if (tramps[n].number != NOWHERE && (!read_word(tid, tramps[n].place + event_of(tramps + n), &code) || code == (patch->private_at << 32 | SAVE_RAX)))
-            return 0;
+            return false;
     return patch->kind == COVER && !patch->comparison_count;
 }
 

@@ -108,17 +108,18 @@ static void remove_oldest(const struct run *run) {
 }
 
 /* The file takes the place of the one before, with its mode, and its owner where the system lets us give it away. */
-static int settle(const char *record_path) {
+static bool settle(const char *record_path) {
     struct stat former;
-    int is_whole = !ferror(half), file = fileno(half);
+    int file = fileno(half);
+    bool is_whole = !ferror(half);
     if (!stat(record_path, &former))
         is_whole &= !fchmod(file, former.st_mode & (fchown(file, former.st_uid, former.st_gid) ? 0777 : 07777));
     return !fclose(half) && is_whole && !rename(half_path, record_path);
 }
 
-void write_record(struct run *run, int is_ended) {
+void write_record(struct run *run, bool is_ended) {
     static char buffer[1 << 17];
-    static int is_failed;
+    static int failures;
     run->is_written = is_ended;
     half = new_half();
     if (half) {
@@ -131,8 +132,8 @@ void write_record(struct run *run, int is_ended) {
         patch->kind == RING ? put_rings() : put_counts();
         fputs("end\n", half);
     }
-    int is_there = half && settle(run->record);
-    if (!is_there && !is_failed++)
+    bool is_there = half && settle(run->record);
+    if (!is_there && !failures++)
         warn("%s can't be written", run->record);
     if (is_there && is_ended)
         remove_oldest(run);

@@ -71,27 +71,28 @@ const struct tramp *tramp_at(uint64_t address);
 /* How many bytes of a trampoline its event takes. */
 uint64_t event_of(const struct tramp *it);
 /* Whether processes can share the memory of a record, as threads do: no code saves a register in it. By the code in a process's memory. */
-int is_shareable(pid_t tid);
+bool is_shareable(pid_t tid);
 /* Memory of so many bytes, all zeros; the runner ends where there is none. */
 void *zeros(size_t bytes) __attribute__((returns_nonnull, malloc));
 
 /* tracee.c: a stopped thread, and system calls that it is made to make. */
 /* Whether a stopped thread comes from a call of the kernel. */
-int is_at_call(const struct user_regs_struct *regs);
+bool is_at_call(const struct user_regs_struct *regs);
 /* To the next stop at a system call, as at the end of exec; whether the thread comes to one. */
-int to_call_stop(pid_t tid);
+bool to_call_stop(pid_t tid);
 /* The answer to a call that the thread is made to make, as the kernel has it, a negative number of an error too. */
 int64_t make_call(pid_t tid, long number, uint64_t a, uint64_t b, uint64_t c, uint64_t d);
 /* Single steps of a thread at a signal's stop while they are wanted by its registers, which are those of its last stop then; whether all were made. A
    thread that a fault stops stands before what faults. */
-int make_steps(pid_t tid, struct user_regs_struct *regs, int (*is_wanted)(const struct user_regs_struct *regs));
+bool make_steps(pid_t tid, struct user_regs_struct *regs, bool (*is_wanted)(const struct user_regs_struct *regs));
 /* Delivers a signal; whether the thread stops as the handler begins, with these registers. */
-int begin_handler(pid_t tid, int number, struct user_regs_struct *regs);
+bool begin_handler(pid_t tid, int number, struct user_regs_struct *regs);
 
 /* spaces.c: address spaces with the patched program, and where each one's record lies. */
 enum { SIGNALS = 32 }; /* those that dump core have lower numbers */
 struct space {
-    int number, members, id, is_shared;
+    int number, members, id;
+    bool is_shared;
     uint8_t *range; /* the private range, as it stands, or where it isn't shared, as it was read last; nothing once it has ended */
     char ended[24];
     struct crash {
@@ -109,9 +110,9 @@ struct space *space_of(pid_t tid);
 /* That of a forked child at its first stop: its own, or its parent's, or nothing where it goes on as the original. */
 struct space *space_of_child(pid_t tid, struct space *parent);
 /* Takes the range back into the process's own memory, so that it can be left alone; whether that is done. */
-int make_own(struct space *it, pid_t tid);
+bool make_own(struct space *it, pid_t tid);
 /* Reads the range again, where it is the process's own; whether it is as it stands. */
-int read_range(struct space *it, pid_t tid);
+bool read_range(struct space *it, pid_t tid);
 /* A space that nobody is in any more: its counts go into the record, and a ring is kept. */
 void drop_space(struct space *it);
 
@@ -121,10 +122,11 @@ struct run {
     const char *run_file, *patched, *record, *folder;
     unsigned keep; /* so many records of the folder, the newest ones, or all where it is 0 */
     /* Another program in the place of one of ours is let go, since it may be a stand-in with a runner of its own. */
-    int is_stand_in;
+    bool is_stand_in;
     pid_t first;
-    struct stat image;                                                      /* of the patched file */
-    int processes, threads, execs, unrecorded, is_written, is_over, status; /* no process before the program has begun; is the whole record written? */
+    struct stat image;                                 /* of the patched file */
+    int processes, threads, execs, unrecorded, status; /* no process before the program has begun */
+    bool is_written, is_over;                          /* the whole record; the program itself */
 };
 struct task {
     pid_t tid, group;
@@ -135,7 +137,7 @@ struct task {
 LIST_HEAD(tasks, task);
 extern struct tasks all_tasks;
 /* A thread ends, or is let go of. Its space is summed up as its last member leaves it: `how` is told of a ring. */
-void drop_task(struct task *it, const char *how, int has_memory);
+void drop_task(struct task *it, const char *how, bool has_memory);
 /* The first process, from before it becomes the patched program, and all that come from it, to their ends. */
 void follow(struct run *run);
 
@@ -146,15 +148,15 @@ int before_delivery(const struct task *it, int number);
 /* Takes an event back that was made whole, with these registers before it. */
 void take_back(const struct space *space, pid_t tid, unsigned number, struct user_regs_struct *before);
 /* Whether a signal is of a step that a thread makes of its own (by the trap flag) in a trampoline: the original has one alone, behind the instruction. */
-int is_inner_step(const struct task *it, int number);
+bool is_inner_step(const struct task *it, int number);
 /* A child that was made by a call in a trampoline goes on behind it in the original. */
 void put_behind_call(pid_t tid);
 
 /* unfinished.c: calls of the kernel that signals interrupt. */
 /* Whether a thread stands behind a call that may be made again. */
-int is_unfinished(const struct user_regs_struct *regs);
+bool is_unfinished(const struct user_regs_struct *regs);
 /* Whether a signal leads a thread on as if it had not come, after a stop perhaps. */
-int is_idle(pid_t tid, int number);
+bool is_idle(pid_t tid, int number);
 /* Where a signal that does nothing has ended a call with EINTR, the thread is as behind one that is made again unless a handler comes. */
 void wait_again(pid_t tid, int number, struct user_regs_struct *regs);
 /* Delivers a signal to a thread that was put behind its call from inside a trampoline; the signal to go on with, as of before_delivery. */
@@ -162,9 +164,9 @@ int deliver(const struct space *space, pid_t tid, int number, const struct tramp
 
 /* crash.c: a ring for threads is kept as it stands when a signal begins to end its process. */
 /* Whether a ring is to be kept: a signal ends the thread's process with a core file. */
-int is_crash(pid_t tid, int number);
+bool is_crash(pid_t tid, int number);
 /* Whether such a signal comes from the thread itself: it is a fault, or its process sent it to this thread, as `abort` does. */
-int is_of_thread(pid_t tid, const siginfo_t *info);
+bool is_of_thread(pid_t tid, const siginfo_t *info);
 /* Keeps the ring of a thread's space for the end by a signal. Where the signal comes from the thread, up to the last event of the block in which that
    stands, by the instruction at which it stopped and by its registers outside of trampolines. */
 void keep_ring(const struct task *it, int number, uint64_t stood, const struct user_regs_struct *outside);
@@ -188,7 +190,7 @@ void add_counts(const struct space *it);
 /* Keeps the events of a space that ends, as many as are shown. */
 void keep_events(struct space *it);
 /* Writes the record with what the living spaces have by now. */
-void write_record(struct run *run, int is_ended);
+void write_record(struct run *run, bool is_ended);
 
 /* letgo.c: a process that the runner lets go of while it runs on. */
 #define LET_GO_SIGNAL (SIGRTMIN + 3) /* asks the runner; its value is the process */
@@ -200,7 +202,7 @@ void let_go(pid_t group);
 /* main.c: a program and its runner. */
 enum { ANSWER = 5000 };
 /* The program's part: whether it is traced from now on; if not, the line says why, if that was said. The runner says its number, if that is 0. */
-int is_traced(int socket, pid_t runner, char line[ANSWER]);
+bool is_traced(int socket, pid_t runner, char line[ANSWER]);
 /* The runner's part, which ends where it can't trace the program. */
 void trace(struct run *run, int socket);
 

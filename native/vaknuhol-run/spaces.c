@@ -27,13 +27,13 @@ static struct space *new_space(void) {
 
 /* Whether a process may be made to make calls: one with a filter that the runner hasn't may be ended by a call that it never makes, unless the runner may put
    the filter off (CAP_SYS_ADMIN). That lasts until its options are set again. */
-static int may_call(pid_t tid) {
+static bool may_call(pid_t tid) {
     int filters = atoi(status_of(tid, "\nSeccomp_filters:"));
     return filters == atoi(status_of(getpid(), "\nSeccomp_filters:")) || !ptrace(PTRACE_SETOPTIONS, tid, 0, FOLLOWED | PTRACE_O_SUSPEND_SECCOMP);
 }
 
 /* Whether a call maps the range: a limit of the process's own on its memory is not for the record, and is raised meanwhile as far as it may be. */
-static int maps(pid_t tid, long number, uint64_t a, uint64_t b, uint64_t c, uint64_t d) {
+static bool maps(pid_t tid, long number, uint64_t a, uint64_t b, uint64_t c, uint64_t d) {
     struct rlimit limit, none = {RLIM_INFINITY, RLIM_INFINITY};
     int64_t at = (int64_t)patch->private_at, answer = make_call(tid, number, a, b, c, d);
     if (answer == at || prlimit(tid, RLIMIT_AS, NULL, &limit) || limit.rlim_cur == RLIM_INFINITY)
@@ -46,20 +46,20 @@ static int maps(pid_t tid, long number, uint64_t a, uint64_t b, uint64_t c, uint
 }
 
 /* Where the process has segments of its own by such numbers (a namespace), another one is found there: ours says which process attached it last. */
-static int share(struct space *it, pid_t tid) {
+static bool share(struct space *it, pid_t tid) {
     struct shmid_ds state;
     it->is_shared =
         it->id >= 0 && maps(tid, SYS_shmat, (uint64_t)it->id, patch->private_at, SHM_REMAP, 0) && !shmctl(it->id, IPC_STAT, &state) && state.shm_lpid == tid;
     return it->is_shared;
 }
 
-static int map_own(pid_t tid) {
+static bool map_own(pid_t tid) {
     return maps(tid, SYS_mmap, patch->private_at, patch->private_length, PROT_READ | PROT_WRITE, MAP_PRIVATE | MAP_FIXED | MAP_ANONYMOUS);
 }
 
-static int fill(const struct space *it, pid_t tid) { return write_memory(tid, patch->private_at, it->range, SCRATCH + patch->data_length); }
+static bool fill(const struct space *it, pid_t tid) { return write_memory(tid, patch->private_at, it->range, SCRATCH + patch->data_length); }
 
-int make_own(struct space *it, pid_t tid) {
+bool make_own(struct space *it, pid_t tid) {
     uint64_t word;
     return read_word(tid, patch->private_at, &word) && map_own(tid) && fill(it, tid);
 }
@@ -67,7 +67,7 @@ int make_own(struct space *it, pid_t tid) {
 /* The memory with which a program begins is its own, and empty. A foreign segment is covered by memory of its own. */
 struct space *space_of(pid_t tid) {
     struct space *it = new_space();
-    int may = may_call(tid), is_shared = may && share(it, tid);
+    bool may = may_call(tid), is_shared = may && share(it, tid);
     if (may && !is_shared)
         map_own(tid);
     ptrace(PTRACE_SETOPTIONS, tid, 0, is_shared ? FOLLOWED : FOLLOWED | PTRACE_O_TRACEEXIT);
@@ -75,14 +75,14 @@ struct space *space_of(pid_t tid) {
 }
 
 /* Whether the original's code stands in a process's memory again, in which nothing is recorded from then on. */
-static int restore(pid_t tid) {
+static bool restore(pid_t tid) {
     uint32_t n = 0;
     while (n < patch->covered_count && write_code(tid, covered[n].at, covered[n].bytes, covered[n].length))
         n++;
     if (n < patch->covered_count)
-        return 0;
+        return false;
     put_behind_call(tid);
-    return 1;
+    return true;
 }
 
 /* A child for which no memory can be mapped goes on in its parent's where nothing is saved there, else as the original. */
@@ -110,10 +110,10 @@ static void forget_space(struct space *it) {
    written that is a ring without what came before. */
 struct space *space_of_child(pid_t tid, struct space *parent) {
     struct space *it = new_space();
-    int may = may_call(tid), has_copy = parent && !parent->is_shared;
+    bool may = may_call(tid), has_copy = parent && !parent->is_shared;
     if (patch->kind == RING && !read_memory(tid, patch->private_at, it->range, SCRATCH + patch->data_length) && parent && parent->is_shared)
         memcpy(it->range, parent->range, SCRATCH + patch->data_length);
-    int is_shared = may && share(it, tid), is_own = !is_shared && ((may && map_own(tid)) || has_copy);
+    bool is_shared = may && share(it, tid), is_own = !is_shared && ((may && map_own(tid)) || has_copy);
     ptrace(PTRACE_SETOPTIONS, tid, 0, is_own ? FOLLOWED | PTRACE_O_TRACEEXIT : FOLLOWED);
     if (is_own)
         fill(it, tid);
@@ -123,7 +123,7 @@ struct space *space_of_child(pid_t tid, struct space *parent) {
     return without_own(tid, parent);
 }
 
-int read_range(struct space *it, pid_t tid) { return it->is_shared || read_memory(tid, patch->private_at, it->range, SCRATCH + patch->data_length); }
+bool read_range(struct space *it, pid_t tid) { return it->is_shared || read_memory(tid, patch->private_at, it->range, SCRATCH + patch->data_length); }
 
 void drop_space(struct space *it) {
     if (patch->kind != RING) {

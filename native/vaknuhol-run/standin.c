@@ -36,7 +36,7 @@ static void stand_apart(int socket) {
 
 /* The runner is started as the child of a child that ends at once, and that sends no signal as it does; whether it traces this process. If not, why,
    in a line. */
-static int has_runner(char line[ANSWER]) {
+static bool has_runner(char line[ANSWER]) {
     int ends[2];
     char record[PATH_MAX + 64];
     struct timespec now;
@@ -45,10 +45,10 @@ static int has_runner(char line[ANSWER]) {
                       .record = record,
                       .folder = names.records,
                       .keep = names.keep,
-                      .is_stand_in = 1,
+                      .is_stand_in = true,
                       .first = getpid()};
     if (socketpair(AF_UNIX, SOCK_SEQPACKET | SOCK_CLOEXEC, 0, ends))
-        return 0;
+        return false;
     pid_t child = (pid_t)syscall(SYS_clone, 0, 0, 0, 0, 0);
     if (child == 0) {
         setsid();
@@ -85,7 +85,7 @@ void stand_in(char **words) {
     if (!names.patched[0])
         return;
     char line[ANSWER] = "its runner ended, or none could be started";
-    int is_alone = !has_runner(line);
+    bool is_alone = !has_runner(line);
     if (is_alone)
         say_once(strncmp(line, "vaknuhol: ", 10) ? line : line + 10);
     execv(names.patched, words);

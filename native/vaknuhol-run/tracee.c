@@ -4,37 +4,37 @@
 
 enum { CALL_STOP = SIGTRAP | 0x80, CALL_BYTES = 0x050f, LOW_TWO = 0xffff };
 
-int is_at_call(const struct user_regs_struct *regs) { return (long long)regs->orig_rax >= 0; }
+bool is_at_call(const struct user_regs_struct *regs) { return (long long)regs->orig_rax >= 0; }
 
 /* A thread's next stop, which is left to be waited for; whether it comes to one. The end of a process's first thread is not told before the other threads have
    been waited for, so it is looked for. */
-static int await_stop(pid_t tid, siginfo_t *info) {
+static bool await_stop(pid_t tid, siginfo_t *info) {
     static const struct timespec PAUSE = {0, 10000000};
     sigset_t children;
     sigemptyset(&children), sigaddset(&children, SIGCHLD);
     while (!(info->si_pid = 0) && !waitid(P_PID, (id_t)tid, info, WEXITED | WSTOPPED | WNOWAIT | WNOHANG | __WALL) && !info->si_pid)
         if (sigtimedwait(&children, NULL, &PAUSE) < 0 && strchr("ZX", status_of(tid, "\nState:\t")[0]))
-            return 0;
+            return false;
     return info->si_pid && info->si_code == CLD_TRAPPED;
 }
 
 /* To the next stop of a kind; whether the thread comes to it. Where it ends, or a fault stops it, that is left to be waited for. SIGSTOP can't be blocked:
    it is put off, as is a stop of job control. */
-static int to_stop(pid_t tid, enum __ptrace_request how, int wanted, int *is_put_off) {
+static bool to_stop(pid_t tid, enum __ptrace_request how, int wanted, bool *is_put_off) {
     siginfo_t info;
     while (!ptrace(how, tid, 0, 0) && await_stop(tid, &info)) {
         int event = info.si_status >> 8, number = info.si_status & 0xff;
         if (info.si_status == wanted)
-            return 1;
+            return true;
         if (event != PTRACE_EVENT_STOP && info.si_status != SIGSTOP)
             break;
         *is_put_off |= number != SIGTRAP;
     }
-    return 0;
+    return false;
 }
 
-int to_call_stop(pid_t tid) {
-    int is_put_off = 0;
+bool to_call_stop(pid_t tid) {
+    bool is_put_off = false;
     return to_stop(tid, PTRACE_SYSCALL, CALL_STOP, &is_put_off);
 }
 
@@ -44,10 +44,10 @@ int64_t make_call(pid_t tid, long number, uint64_t a, uint64_t b, uint64_t c, ui
     struct user_regs_struct kept, regs;
     uint64_t mask, all = ~0ull;
     int64_t answer = -EFAULT;
-    int is_put_off = 0;
+    bool is_put_off = false;
     if (ptrace(PTRACE_GETREGS, tid, 0, &kept) || ptrace(PTRACE_GETSIGMASK, tid, 8, &mask) || ptrace(PTRACE_SETSIGMASK, tid, 8, &all))
         return -ESRCH;
-    int is_behind = is_at_call(&kept) && kept.orig_rax != SYS_execve && kept.orig_rax != SYS_execveat;
+    bool is_behind = is_at_call(&kept) && kept.orig_rax != SYS_execve && kept.orig_rax != SYS_execveat;
     regs = kept;
     regs.rip = is_behind ? kept.rip - 2 : kept.rip & ~7ull, regs.rax = (uint64_t)number, regs.orig_rax = ~0ull;
     regs.rdi = a, regs.rsi = b, regs.rdx = c, regs.r10 = d, regs.r8 = ~0ull, regs.r9 = 0;
@@ -68,12 +68,12 @@ int64_t make_call(pid_t tid, long number, uint64_t a, uint64_t b, uint64_t c, ui
 }
 
 /* The signal for which the thread has stopped stays the one that is delivered as it goes on. */
-int make_steps(pid_t tid, struct user_regs_struct *regs, int (*is_wanted)(const struct user_regs_struct *regs)) {
+bool make_steps(pid_t tid, struct user_regs_struct *regs, bool (*is_wanted)(const struct user_regs_struct *regs)) {
     uint64_t mask, all_but_faults = ~(1ull << (SIGSEGV - 1) | 1ull << (SIGBUS - 1) | 1ull << (SIGFPE - 1) | 1ull << (SIGILL - 1) | 1ull << (SIGTRAP - 1));
     siginfo_t info;
-    int is_put_off = 0, is_made = 1;
+    bool is_put_off = false, is_made = true;
     if (ptrace(PTRACE_GETSIGINFO, tid, 0, &info) || ptrace(PTRACE_GETSIGMASK, tid, 8, &mask) || ptrace(PTRACE_SETSIGMASK, tid, 8, &all_but_faults))
-        return 0;
+        return false;
     while (is_made && is_wanted(regs))
         is_made = to_stop(tid, PTRACE_SINGLESTEP, SIGTRAP, &is_put_off) && !ptrace(PTRACE_GETREGS, tid, 0, regs);
     ptrace(PTRACE_SETSIGMASK, tid, 8, &mask);
@@ -83,7 +83,7 @@ int make_steps(pid_t tid, struct user_regs_struct *regs, int (*is_wanted)(const 
     return is_made;
 }
 
-int begin_handler(pid_t tid, int number, struct user_regs_struct *regs) {
+bool begin_handler(pid_t tid, int number, struct user_regs_struct *regs) {
     siginfo_t info;
     return !ptrace(PTRACE_SINGLESTEP, tid, 0, number) && await_stop(tid, &info) && info.si_status == SIGTRAP && !ptrace(PTRACE_GETREGS, tid, 0, regs);
 }

@@ -10,7 +10,7 @@ enum { FIRST_ANSWER = 512, UNLESS_HANDLED = 514, LAST_ANSWER = 516 }; /* ERESTAR
 enum { RCX = 1, R11 = 11 };                                           /* calls change them */
 enum { FRAME_RIP = 176 }; /* where a handler's frame has the address to which it returns, from its stack pointer on */
 
-int is_unfinished(const struct user_regs_struct *regs) {
+bool is_unfinished(const struct user_regs_struct *regs) {
     int64_t answer = -(int64_t)regs->rax;
     return is_at_call(regs) && FIRST_ANSWER <= answer && answer <= LAST_ANSWER;
 }
@@ -18,17 +18,17 @@ int is_unfinished(const struct user_regs_struct *regs) {
 static uint64_t bit(int number) { return 1ull << (number - 1); }
 
 /* Whether a signal is ignored, or does one of these things by default. */
-static int is_one_of(pid_t tid, int number, uint64_t by_default) {
+static bool is_one_of(pid_t tid, int number, uint64_t by_default) {
     unsigned long long ignored = strtoull(status_of(tid, "\nSigIgn:"), NULL, 16), caught = strtoull(status_of(tid, "\nSigCgt:"), NULL, 16);
     return ((ignored | (by_default & ~caught)) & bit(number)) != 0;
 }
 
-int is_idle(pid_t tid, int number) {
+bool is_idle(pid_t tid, int number) {
     return is_one_of(tid, number, bit(SIGCHLD) | bit(SIGURG) | bit(SIGWINCH) | bit(SIGCONT) | bit(SIGTSTP) | bit(SIGTTIN) | bit(SIGTTOU));
 }
 
 /* Whether a call waits until something comes, and with the signals that were blocked before. */
-static int is_endless(const struct user_regs_struct *regs) {
+static bool is_endless(const struct user_regs_struct *regs) {
     switch (regs->orig_rax) {
     case SYS_epoll_wait: return (int)regs->r10 < 0;
     case SYS_epoll_pwait: return (int)regs->r10 < 0 && !regs->r8;
@@ -48,7 +48,7 @@ void wait_again(pid_t tid, int number, struct user_regs_struct *regs) {
     ptrace(PTRACE_SETREGS, tid, 0, regs);
 }
 
-static int is_condition_known(void) {
+static bool is_condition_known(void) {
     unsigned n = 0;
     while (n < patch->comparison_count && patch->comparisons[n].reg != RCX && patch->comparisons[n].reg != R11)
         n++;

@@ -37,7 +37,7 @@ static pid_t start(char **words) {
 }
 
 /* The next stop of a process; whether it has ended. */
-static int has_ended(pid_t process, int *told) {
+static bool has_ended(pid_t process, int *told) {
     while (waitpid(process, told, __WALL) < 0)
         if (errno != EINTR)
             refuse("the process is lost: %m");

@@ -1,6 +1,7 @@
 /* What a run under single steps is asked for, and what it has told so far. */
 #ifndef STEP_H
 #define STEP_H
+#include <stdbool.h>
 #include <stdint.h>
 #include <stdio.h>
 #include <sys/types.h>
@@ -21,7 +22,7 @@ struct text {
 void read_text(struct text *text, const char *path);
 
 /* Marks the listed bytes that the next instruction of a stopped process reads as data; whether that instruction calls the kernel. */
-int mark_reads(struct text *text, pid_t process, struct user_regs_struct *registers);
+bool mark_reads(struct text *text, pid_t process, struct user_regs_struct *registers);
 
 /* What a stopped process is about to ask of the kernel. */
 void watch_call(pid_t process, const struct user_regs_struct *registers);

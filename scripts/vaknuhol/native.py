@@ -25,7 +25,7 @@ class Needs(NamedTuple):
 TRACING = ("asking", "classes", "file", "front", "process", "refusing", "tracee")
 NEEDS = {
     "vaknuhol-list": Needs(("-lZydis",), "libzydis-dev", ("classes", "file", "front", "refusing", "spelling")),
-    "vaknuhol-step": Needs(("-lZydis",), "libzydis-dev", ("file", "process", "refusing")),
+    "vaknuhol-step": Needs(("-lZydis",), "libzydis-dev", ("asking", "classes", "file", "front", "process", "refusing")),
     "vaknuhol-record": Needs(("-lZydis",), "libzydis-dev", TRACING),
     "vaknuhol-judge": Needs(("-lZydis",), "libzydis-dev", (*TRACING, "spelling")),
     "vaknuhol-lines": Needs(("-ldw", "-lelf"), "libdw-dev", ("refusing",)),

@@ -9,12 +9,7 @@
 #include "instances.c"
 #include "tables.c"
 
-/* Names that several have. */
-#define entry name_entry
-#define entry_of name_entry_of
 #include "names.c"
-#undef entry
-#undef entry_of
 #define count row_count
 #define room row_room
 #define by_address row_by_address
@@ -49,7 +44,7 @@ void forget_input(void) {
     elf_end(elf), elf = NULL;
     close(file);
     tdestroy(seen, nothing), seen = NULL;
-    entries = NULL, room = used = 0;
+    tdestroy(texts, nothing), texts = NULL;
     rows = NULL, row_count = row_room = 0;
     memset(tables, 0, sizeof tables);
 }

@@ -14,7 +14,7 @@ enum { OF_WORD = 48, OF_NUMBER = 256, LOWEST_NUMBER = 0x10000 };
 /* A jump has five bytes; with pads before it, and that of a victim after the site, so many bytes from the site on. */
 enum { JUMP_SIZE = 5, REACH = 15 };
 /* Compilers let functions begin at multiples of it. */
-enum { ALIGNED = 16 };
+enum { ALIGNED = 16, WORD_BYTES = 8 };
 
 void begin_evidence(struct evidence *it, const struct program *program) {
     size_t bytes = program->hi - program->lo + 16;
@@ -70,19 +70,24 @@ static void begin_data(struct evidence *it, uint32_t addr) {
         it->is_data[at] = DATA_BEGINS;
 }
 
-static void add_holder(struct evidence *it, uint64_t addr, uint32_t from) {
+static void add_holder(struct evidence *it, uint64_t addr, uint32_t from, uint32_t stride) {
     if (!in_text(it->program, addr))
         return;
     it->holders = room_for_one(it->holders, it->holder_count, &it->holder_capacity, sizeof *it->holders);
-    it->holders[it->holder_count++] = (struct holder){(uint32_t)addr, from};
+    it->holders[it->holder_count++] = (struct holder){(uint32_t)addr, from, stride};
+}
+
+/* Where what a holder reads begins: entries that are counted from one on have code in the place of the one before them. */
+static uint32_t first_read(const struct evidence *it, const struct holder *holder) {
+    return it->state[holder->addr - it->program->lo] ? holder->addr + holder->stride : holder->addr;
 }
 
 void judge_holders(struct evidence *it) {
     for (; it->holders_judged < it->holder_count; it->holders_judged++) {
         struct holder holder = it->holders[it->holders_judged];
-        if (it->state[holder.addr - it->program->lo] || is_data(it, holder.addr))
-            continue;
-        if (!holder.from || reads_through(it, at_start(it, holder.from)))
+        if (!holder.from)
+            begin_data(it, first_read(it, &holder));
+        else if (!it->state[holder.addr - it->program->lo] && !is_data(it, holder.addr) && reads_through(it, at_start(it, holder.from)))
             begin_data(it, holder.addr);
     }
 }
@@ -139,12 +144,26 @@ bool reads_on(const struct evidence *it, uint32_t addr, uint32_t bytes) {
     return true;
 }
 
+/* Whether two words of eight bytes stand there whose upper halves are zeros, and one of which is an address of the program. */
+static bool are_addresses(const struct evidence *it, uint32_t addr) {
+    const uint8_t *bytes = in_text(it->program, addr) ? bytes_at(it->program, addr, 2 * WORD_BYTES) : NULL;
+    uint64_t words[2];
+    if (!bytes)
+        return false;
+    memcpy(words, bytes, sizeof words);
+    return words[0] <= UINT32_MAX && words[1] <= UINT32_MAX && (segment_of(it->program, words[0]) || segment_of(it->program, words[1]));
+}
+
+bool is_among_addresses(const struct evidence *it, uint32_t addr) { return are_addresses(it, addr) || are_addresses(it, addr - WORD_BYTES); }
+
 /* Whether a run may begin there; `is_shared` tells that its bytes are those of a listed instruction, too. */
 static bool may_begin(const struct evidence *it, uint32_t first, int level, bool *is_shared) {
     *is_shared = is_inside(it, first);
     if (*is_shared && level > DIRECT && enters_inside(it, first))
         return false;
     if (is_data(it, first) && level > DIRECT)
+        return false;
+    if (level >= WORD && is_among_addresses(it, first))
         return false;
     if (level == WORD)
         return reads_on(it, first, OF_WORD);
@@ -236,19 +255,19 @@ static void follow(struct evidence *it, const struct instruction *one, int level
     if (one->held) {
         if (one->is_lea && in_text(program, one->held)) {
             propose(it, one->held, weaker(level, NUMBER));
-            add_holder(it, one->held, one->addr);
+            add_holder(it, one->held, one->addr, 0);
         }
-        add_holder(it, loaded_word(it, one), one->addr);
+        add_holder(it, loaded_word(it, one), one->addr, 0);
         name_word(one->held);
         if (one->is_lea || one->kind == JUMP_INDIRECT)
             add_table(it, one->held, one->addr, one->is_lea ? 4 : 8);
         if (!one->is_lea && one->is_absolute && one->marks & (READS | WRITES) && level <= AFTER_CALL)
             add_data(it, one->held, one->width);
     }
-    add_holder(it, one->table, 0);
+    add_holder(it, one->table, 0, one->stride);
     if (one->number) {
         propose(it, one->number, weaker(level, NUMBER));
-        add_holder(it, one->number, one->addr);
+        add_holder(it, one->number, one->addr, 0);
     }
     if (one->number >= LOWEST_NUMBER)
         add_table(it, one->number, one->addr, 4);

@@ -32,9 +32,10 @@ enum { NAMED = 1, FRAMED = 2 }; /* of a byte: a symbol or a section begins there
 /* Of a function that is called: whether it was looked at, and doesn't return to where it was called. */
 enum { JUDGED = 1, TAKES_RETURN = 2 };
 
-/* An address of text that an instruction holds, or has by a word of the data: of `from` it is seen what it does with it; with 0 it reads there. */
+/* An address of text that an instruction holds, or has by a word of the data: of `from` it is seen what it does with it; with 0 it reads there, entries that
+   are so far apart. */
 struct holder {
-    uint32_t addr, from;
+    uint32_t addr, from, stride;
 };
 
 /* A restartable sequence, from where on what begins it stands, and the signature before the place where it is aborted. */
@@ -109,6 +110,9 @@ bool is_filled(const struct evidence *it, uint32_t addr);
 
 /* Whether so many bytes from an address on read as code, or fewer up to a start or to what fills room. */
 bool reads_on(const struct evidence *it, uint32_t addr, uint32_t bytes);
+
+/* Whether an address stands in an array of addresses, or of what has some: no code reads so. */
+bool is_among_addresses(const struct evidence *it, uint32_t addr);
 
 /* Lists a run; whether it is listed. */
 bool list_run(struct evidence *it, uint32_t first, int level);

@@ -129,7 +129,7 @@ static uint32_t skip_fill(struct evidence *it, struct gaps *gaps, uint32_t addr,
             gaps->zeros += *byte == 0;
             gaps->traps += *byte == FILL;
             addr++;
-        } else if (decode(it->program, addr, &one, &is_odd) && one.marks & NOTHING && addr + one.length <= end) {
+        } else if (decode(it->program, addr, &one, &is_odd) && one.marks & NOTHING && addr + one.length <= end && !is_among_addresses(it, addr)) {
             list_alone(it, &one, it->extent_of[addr - it->program->lo] ? EXTENT : SWEEP);
             addr += one.length;
         } else {

@@ -145,6 +145,7 @@ static void take_memory(const struct program *program, struct instruction *it, c
         it->marks |= WRITES;
     it->is_absolute = is_whole;
     it->width = (uint8_t)(operand->size / 8 < 255 ? operand->size / 8 : 255);
+    it->stride = operand->mem.scale > it->width ? operand->mem.scale : it->width;
     if (operand->mem.base != ZYDIS_REGISTER_RSP || operand->mem.index != ZYDIS_REGISTER_NONE || is_aligned_vector(insn, operand))
         it->marks |= FAULTS;
     /* gcc keeps reads of the first page and of the last one behind what can't be reached */

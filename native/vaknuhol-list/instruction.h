@@ -34,7 +34,7 @@ struct instruction {
     uint16_t flags_read, flags_written; /* of rflags' low 16 bits */
     uint16_t cases, marks;              /* cases: of a comparison with a small number: that and one */
     uint8_t length, kind, level;
-    uint8_t width;            /* bytes of its operand in memory */
+    uint8_t width, stride;    /* bytes of its operand in memory; from one entry of the table to the next, as far as the operand tells */
     bool is_lea, is_absolute; /* whether its operand names an address and isn't read; whether `held` is read or written */
 };
 

@@ -151,3 +151,47 @@ pointer: .quad other
 def test_of_many_strings_and_tables_none_is_listed():
     told = run(sys.executable, f"{TOP}/bench/data_in_text.py", "--strings", "100")
     assert "strings: 100 in the text, 0 silent" in told and "tables: 160 in the text, 0 silent" in told, told
+
+
+def table_after_code(reading: str, table: str, place: int) -> tuple[Listing, int]:
+    """The listing of a stripped program with a table that follows code at once, which is at such a place, and the
+    table's address."""
+    text = f"""{START}call uses
+hlt
+.org {place}
+other: push %rbx
+pop %rbx
+ret
+uses: {reading}
+ret
+table: {table}
+behind: inc %ecx
+mov %ecx, %eax
+ret
+.data
+places: .quad table
+"""
+    compile_text("program", "program.s", text, "-nostdlib", "-Wl,-Ttext=0x404000")
+    at = int(match(r"([0-9a-f]+) t table\n", run("nm", "program")).group(1), 16)
+    run("strip", "program")
+    return Listing("program"), at
+
+
+@pytest.mark.parametrize("place", [0x490, 0x4C7])
+def test_an_array_of_addresses_is_not_listed(place):
+    """Though only a word of the data has its address, and it begins with a nop, or each of its words reads as a move to
+    memory, up to a function."""
+    held = "call behind\nmov $places, %edx\nmov (%rdx,%rcx,8), %rdx\ncall *8(%rdx)"
+    listing, table = table_after_code(held, ".quad other, other, other, other", place)
+    assert listing.is_start(table + 32)
+    assert not any(table <= addr < table + 32 for addr in listing.addr)
+    assert any(span.low <= table < span.high for span in listing.ranges(DOUBTFUL))
+
+
+@pytest.mark.parametrize("reading", ["movzbl table-1(%rcx)", "mov table-8(,%rcx,8)"])
+def test_a_table_whose_entries_are_counted_from_one_on_is_not_listed(reading):
+    """Though there is code in the place of the entry before them, and they read as pushes."""
+    listing, table = table_after_code(f"call behind\n{reading}, %eax", '.ascii "PQRSTUVWPQRSTUVW"', 0x490)
+    assert listing.is_start(table - 1) and listing.is_start(table + 16)
+    assert not any(table <= addr < table + 16 for addr in listing.addr)
+    assert any(span.low <= table < span.high for span in listing.ranges(DOUBTFUL))

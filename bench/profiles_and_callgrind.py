@@ -21,7 +21,8 @@ from collections.abc import Iterator
 from typing import NamedTuple
 
 TOP = os.path.dirname(os.path.dirname(os.path.realpath(__file__)))
-TUNED = {"GLIBC_TUNABLES": "glibc.cpu.hwcaps=-AVX512F,-AVX512VL,-AVX512BW,-AVX512CD,-AVX512DQ"}
+TUNED = {"GLIBC_TUNABLES": "glibc.cpu.hwcaps=-AVX512F,-AVX512VL,-AVX512BW,-AVX512CD,-AVX512DQ",
+         "GODEBUG": "asyncpreemptoff=1"}
 NAMED = re.compile(r"c?fn=\((\d+)\)(?: (.+))?")
 AGAIN = re.compile(r"'\d+$")  # what callgrind adds to the name of a function that was called again meanwhile
 CLOSE, LEAST = 0.05, 0.001
@@ -35,7 +36,7 @@ def demangled(names: list[str]) -> list[str]:
 def same_functions(program: str) -> dict[str, str]:
     """For each name of a function that has several, the first of them; not for a name that several functions have."""
     told = subprocess.run(["nm", program], capture_output=True, text=True, check=False).stdout
-    rows = [row.split() for row in told.splitlines() if re.match(r"[0-9a-f]+ [TtWwi] ", row)]
+    rows = [row.split(maxsplit=2) for row in told.splitlines() if re.match(r"[0-9a-f]+ [TtWwi] ", row)]
     names = demangled([row[2] for row in rows])
     by_place: dict[str, set[str]] = collections.defaultdict(set)
     places: dict[str, set[str]] = collections.defaultdict(set)

@@ -3,6 +3,7 @@ from hypothesis import given
 from hypothesis import strategies as some
 
 from tests.doubles import double
+from vaknuhol.program.call_slots import AGAINST, OPEN, TOLD
 from vaknuhol.views import folded
 from vaknuhol.views.call_graph import CallGraph, Edge, groups_of
 from vaknuhol.views.calls import BY_CALL, BY_JUMP, BY_WORD, Site
@@ -95,10 +96,11 @@ def test_groups_are_the_functions_that_reach_one_another(calls):
             assert other not in reach[first] or place[other] <= place[first]
 
 
-def shares_of(sites, wanted, edges=(), holders=None, together=()) -> dict[tuple[int, int], int]:
-    """Of sites by their functions and numbers; what is no call has a third word."""
+def shares_of(sites, wanted, edges=(), holders=None, together=(), told=None) -> dict[tuple[int, int], int]:
+    """Of sites by their functions and numbers; what is no call has a third word. What operands tell is by the numbers of
+    sites and by functions, and of all others nothing."""
     made = [Site(0x1000 + number, caller, count, *(kind or [BY_CALL])) for number, (caller, count, *kind) in enumerate(sites)]
-    return Sharing(made, wanted, edges, holders or {}, together).shared()
+    return Sharing(made, wanted, edges, holders or {}, together, lambda *pair: (told or {}).get(pair, OPEN)).shared()
 
 
 def test_indirect_calls_of_one_number_go_to_the_function_that_was_entered_as_often():
@@ -144,6 +146,21 @@ def test_a_function_goes_to_what_is_called_by_the_holder_of_its_address():
     assert shares_of(sites, {C: 1, D: 1}, edges, {D: {START}}) == {(1, D): 1, (0, C): 1}
     stub = [(A, 1), (B, 1, BY_WORD)]
     assert shares_of(stub, {C: 1, D: 1}, [(START, A), (START, B)], {D: {START}}) == {(0, D): 1, (1, C): 1}
+
+
+def test_what_is_called_by_a_function_that_was_given_is_near_too():
+    """As in Rust: main's address is held by what calls, indirectly, what calls main indirectly."""
+    sites, edges = [(A, 1), (D, 1), (B, 500)], [(START, B)]
+    found = shares_of(sites, {D: 500, C: 1}, edges, {C: {START}}, told={(2, D): TOLD})
+    assert found == {(2, D): 500, (1, C): 1}
+
+
+def test_what_an_operand_tells_comes_before_all_numbers_and_what_speaks_against_it_last():
+    told = {(0, C): AGAINST, (1, D): AGAINST}
+    assert shares_of([(A, 700), (B, 30)], {C: 700, D: 30}, told=told) == {(0, D): 30, (1, C): 30, (0, C): 670}
+    told = {(0, D): TOLD, (1, C): TOLD}
+    assert shares_of([(A, 700), (B, 30)], {C: 690, D: 30}, told=told) == {(0, D): 30, (1, C): 30, (0, C): 660}
+    assert shares_of([(C, 10), (A, 10)], {B: 10}, [(B, C)], told={(0, B): TOLD}) == {(0, B): 10}, "though B calls C"
 
 
 def test_functions_that_one_call_leads_to_go_to_the_one_that_was_made_as_often():

@@ -21,7 +21,7 @@ _start: mov $7, %ecx
         xor %edi, %edi
         syscall
 """
-FOLDER, KEPT = "program.vak", "program.vak/solved.json"
+FOLDER, KEPT, WAYS = "program.vak", "program.vak/solved.json", "program.vak/ways.json"
 
 
 @pytest.fixture
@@ -106,6 +106,50 @@ def test_a_kept_text_that_fits_no_record_is_as_if_it_were_not_there(program, tex
     with open(KEPT, "w", encoding="utf-8") as file:
         file.write(json.dumps(whole) if text else "")
     assert counts_of(record_of([1, 7, None, 1])) == SOLVED
+
+
+def ways_of(record: Record) -> tuple[list[int | None], list[list[int]]]:
+    """The counts of the ways between the blocks, and the marks of each block."""
+    flow = Coverage("program", record).ways
+    graph = flow.graph
+    return flow.edges, [list(it) for it in (graph.source, graph.target, graph.kind, graph.calls, graph.partial, flow.open_in, flow.open_out)]
+
+
+@pytest.mark.parametrize("counts", [[1, 7, None, 1], [1, 7, 6, 1], [1, 7, None, 3]])
+def test_the_ways_between_blocks_are_worked_out_once(program, monkeypatch, counts):
+    made = ways_of(record_of(counts))
+    assert 6 in made[0] or counts[3] == 3
+    monkeypatch.setattr(coverage, "graph_of", lambda *_: pytest.fail("they are worked out again"))
+    assert ways_of(record_of(counts)) == made
+
+
+def test_of_a_program_with_lines_all_is_worked_out_once(place, monkeypatch):
+    compile_text("program", "program.s", TEXT, "-g", "-nostdlib", "-Wl,--build-id=none")
+    os.mkdir(FOLDER)
+    made = Coverage("program", record_of([1, 7, None, 1]))
+    lines = {number: line.count for lines in made.files.values() for number, line in lines.items()}
+    assert lines[3] == 7 and lines[5] == 6
+    monkeypatch.setattr(coverage, "graph_of", lambda *_: pytest.fail("it is worked out again"))
+    again = Coverage("program", record_of([1, 7, None, 1]))
+    assert {number: line.count for lines in again.files.values() for number, line in lines.items()} == lines
+    assert counts_of(record_of([1, 7, None, 1])) == SOLVED
+
+
+DAMAGED_WAYS = ["", "[]", "3", '{"of": 1}', '{"edges": [1]}', '{"edges": null}', '{"source": [0]}', '{"kind": "jump"}', '{"calls": [0, 0, 0, 2]}',
+                '{"partial": [0]}', '{"open_in": null}']  # fmt: skip
+EACH = {"edges": (-1, "6", 1.5, True), "source": (-1, 4, None), "target": (-2, 4, "0"), "kind": (-1, 5), "open_out": (2, None)}
+
+
+def test_kept_ways_that_fit_no_record_are_as_if_they_were_not_there(program):
+    made = ways_of(record_of([1, 7, None, 1]))
+    with open(WAYS, encoding="utf-8") as file:
+        kept = json.load(file)
+    texts = [{**kept, **given} if isinstance(given := json.loads(text or "null"), dict) else given for text in DAMAGED_WAYS]
+    texts += [{**kept, name: [value, *kept[name][1:]]} for name, values in EACH.items() for value in values]
+    for text in texts:
+        with open(WAYS, "w", encoding="utf-8") as file:
+            file.write("" if text is None else json.dumps(text))
+        assert ways_of(record_of([1, 7, None, 1])) == made, text
 
 
 def test_nothing_is_kept_where_there_is_no_folder(program):

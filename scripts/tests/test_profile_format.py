@@ -7,7 +7,7 @@ from tests.doubles import double
 from tests.made_coverage import BASE, coverage_of, listing_of
 from tests.needs import need
 from vaknuhol.program.listing_file import CALL, FALLS
-from vaknuhol.views import callgrind
+from vaknuhol.views import callgrind, profile as profiles
 
 CODE = [
     (BASE, 3, ("a.c", 3), None),
@@ -22,7 +22,7 @@ def counted_code() -> str:
     instructions = [(addr, size, CALL if target else FALLS, target or 0) for addr, size, _, target in CODE]
     listing = listing_of(instructions, [(BASE, "less"), (BASE + 0x10, "other"), (BASE + 8, ".text")])
     info = double(place_of={addr: where for addr, _, where, _ in CODE}.get)
-    return callgrind.text(coverage_of(listing=listing, info=info))
+    return callgrind.text(profiles.Profile(coverage_of(listing=listing, info=info)))
 
 
 class Profile:

@@ -17,8 +17,8 @@ from vaknuhol.recording.settling import read_kind
 from vaknuhol.views import callgrind, cobertura, drcov, folded, json_report, lcov
 from vaknuhol.views.call_text import print_calls
 from vaknuhol.views.code_pages import write_code_pages
-from vaknuhol.views.costs import Costs
 from vaknuhol.views.coverage import Coverage
+from vaknuhol.views.profile import Profile
 from vaknuhol.views.record_table import print_histories, print_runs, print_table
 from vaknuhol.views.source_pages import write_html
 from vaknuhol.views.summary import summary
@@ -95,11 +95,13 @@ def refuse_what_it_lacks(coverage: Coverage, words: argparse.Namespace) -> None:
                       "(--all)?")
 
 
-def note_what_profiles_lack(coverage: Coverage, words: argparse.Namespace) -> None:
-    """A profile of the first blocks of functions has counts of calls, and hardly any costs."""
-    if (words.callgrind or words.folded or words.calls) and not Costs(coverage).are_of_functions():
+def profile_of(coverage: Coverage) -> Profile:
+    """The record as a profile; one of the first blocks of functions has counts of calls, and hardly any costs."""
+    profile = Profile(coverage)
+    if not profile.costs.are_of_functions():
         note("few blocks of these functions were recorded, so their costs are not in it: vaknuhol count --blocks "
              "records all")
+    return profile
 
 
 def refuse_beside_runs(words: argparse.Namespace) -> None:
@@ -121,20 +123,21 @@ def do(words: argparse.Namespace) -> int:
         return 0
     coverage = Coverage(words.program, record_of(words), words.source, words.all)
     refuse_what_it_lacks(coverage, words)
-    note_what_profiles_lack(coverage, words)
+    profile = profile_of(coverage) if words.callgrind or words.folded or words.calls else None
     texts: list[tuple[str, Callable[[Coverage], str | bytes]]]
     texts = [(words.lcov, lcov.text), (words.cobertura, cobertura.text), (words.json, json_report.text),
-             (words.drcov, drcov.log),
-             (words.callgrind, callgrind.text), (words.folded, folded.text)]
-    write_outputs([(name, text(coverage)) for name, text in texts if name])
+             (words.drcov, drcov.log)]
+    of_profiles = [(words.callgrind, callgrind.text), (words.folded, folded.text)]
+    write_outputs([(name, text(coverage)) for name, text in texts if name]
+                  + [(name, text(profile)) for name, text in of_profiles if name and profile])
     if words.html:
         (write_html if coverage.files else write_code_pages)(words.html, coverage)
     if words.table and coverage.record.action.is_ring:
         print_histories(coverage, True)
     elif words.table:
         print_table(coverage)
-    elif words.calls:
-        print_calls(coverage)
+    elif profile and words.calls:
+        print_calls(profile)
     elif not has_output(words):
         for line in summary(coverage):
             print(line)

@@ -1,8 +1,9 @@
 """Records of one program added up: a block's count is the sum over the records that know it.
 
 Most records that are added up have the same blocks, as runs of one patched file have: the rows of the first of these
-are read, and of the others the counts alone."""
+are read, and of the others the counts that changed."""
 import hashlib
+import itertools
 import operator
 from collections.abc import Iterable
 
@@ -15,31 +16,52 @@ COUNT_AT = len("00401136 00401150 0040113a ")
 
 
 class SameBlocks:
-    """Records with the blocks of one that was read: their counts, added up. The lines of these blocks are put together
-    anew with the counts of a record, and if that is its text, it has no other line."""
+    """Records with the blocks of one that was read: their counts, added up. The lines of such a record are compared
+    with those of the last one, and only those that are others are read: a count is added as often as it was there."""
 
     def __init__(self, record: Record, body: str) -> None:
-        lines = body.splitlines()
+        self.lines = body.split("\n")
+        self.blocks = [line[:COUNT_AT] for line in self.lines]
         self.firsts = [row.first for row in record.rows]
-        self.blocks = [line[:COUNT_AT] for line in lines]
-        self.left = [(number, lines[number][COUNT_AT:]) for number, row in enumerate(record.rows) if row.count is None]
-        self.join = operator.add if record.action.adds else operator.or_
-        self.counts = [0] * len(lines)
+        self.values = [row.count for row in record.rows]
+        self.adds, self.records = record.action.adds, 0
+        self.since = [0] * len(self.firsts)  # how many records were taken before a line was as it is
+        self.sums = [0] * len(self.firsts)
 
     def take(self, body: str) -> bool:
         """Adds the counts of a record's rows; false where it has other blocks, or other ones were left."""
-        values = body.split()[3::4]
-        if len(values) != len(self.blocks) or "\n".join(map(operator.add, self.blocks, values)) + "\n" != body:
+        lines = body.split("\n")
+        if len(lines) != len(self.lines) or lines[-1]:
             return False
-        for number, outcome in self.left:
-            if values[number] != outcome:
-                return False
-            values[number] = "0"
-        digits = "".join(values)
-        if not (digits.isascii() and digits.isdigit()):
+        others = list(itertools.compress(range(len(lines)), map(operator.ne, lines, self.lines)))
+        if not all(self.may_be(number, lines[number]) for number in others):
             return False
-        self.counts = list(map(self.join, self.counts, map(int, values)))
+        for number in others:
+            self.add(number)
+            self.values[number], self.since[number] = int(lines[number][COUNT_AT:]), self.records
+        self.lines, self.records = lines, self.records + 1
         return True
+
+    def may_be(self, number: int, line: str) -> bool:
+        """Whether a line can have another count of a block that was counted."""
+        digits = line[COUNT_AT:]
+        return (line[:COUNT_AT] == self.blocks[number] and digits.isascii() and digits.isdigit()
+                and self.values[number] is not None)
+
+    def add(self, number: int) -> None:
+        """Adds the count of a block, as often as it was there."""
+        value, times = self.values[number] or 0, self.records - self.since[number]
+        if self.adds:
+            self.sums[number] += value * times
+        elif times:
+            self.sums[number] |= value
+
+    def counts(self) -> list[int]:
+        """The sums, once all records are taken."""
+        for number in range(len(self.sums)):
+            self.add(number)
+            self.since[number] = self.records
+        return self.sums
 
 
 class Sum:
@@ -87,10 +109,10 @@ class Sum:
     def add_same(self) -> None:
         """Adds what was added up by itself."""
         for same in self.same:
-            for first, count in zip(same.firsts, same.counts):
+            for first, count in zip(same.firsts, same.counts()):
                 known = self.rows[first]
                 if count and known.count is not None:
-                    known.count = same.join(known.count, count) % WORD
+                    known.count = (known.count + count) % WORD if self.action.adds else known.count | count
 
     @staticmethod
     def compare(first: RecordHead, record: RecordHead) -> None:

@@ -3,7 +3,6 @@ from collections.abc import Iterator
 
 from vaknuhol.messages import counted
 from vaknuhol.views.call_graph import Edge
-from vaknuhol.views.coverage import Coverage
 from vaknuhol.views.profile import Profile
 
 ABOUT = "~"
@@ -84,6 +83,6 @@ class CallText:
             yield from self.function(first)
 
 
-def print_calls(coverage: Coverage) -> None:
-    for line in CallText(Profile(coverage)).lines():
+def print_calls(profile: Profile) -> None:
+    for line in CallText(profile).lines():
         print(line)

@@ -9,7 +9,6 @@ import os
 from collections.abc import Iterator
 
 from vaknuhol import VERSION
-from vaknuhol.views.coverage import Coverage
 from vaknuhol.views.profile import Led, Profile
 
 HEAD = """# callgrind format
@@ -47,8 +46,8 @@ class Names:
 class Writer:
     """The lines of the format, function by function."""
 
-    def __init__(self, coverage: Coverage) -> None:
-        self.coverage, self.profile = coverage, Profile(coverage)
+    def __init__(self, profile: Profile) -> None:
+        self.coverage, self.profile = profile.costs.coverage, profile
         self.files, self.functions = Names(), Names()
 
     def place(self, address: int) -> tuple[str, int]:
@@ -92,8 +91,7 @@ class Writer:
         yield f"calls={led.times} {led.target:#x} {called}\n{at:#x} {line} {cost:.0f}\n"
 
 
-def text(coverage: Coverage) -> str:
-    writer = Writer(coverage)
-    lines = "".join(writer.lines())
-    return HEAD.format(version=VERSION, program=os.path.basename(coverage.path),
-                       total=writer.profile.costs.total) + lines.lstrip("\n")
+def text(profile: Profile) -> str:
+    lines = "".join(Writer(profile).lines())
+    return HEAD.format(version=VERSION, program=os.path.basename(profile.costs.coverage.path),
+                       total=profile.costs.total) + lines.lstrip("\n")

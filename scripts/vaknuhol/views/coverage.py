@@ -14,9 +14,9 @@ from vaknuhol.program.source_lines import chosen_files
 from vaknuhol.recording.kept_patches import folder_of
 from vaknuhol.recording.record_file import Record, Row
 from vaknuhol.recording.settling import recorded
-from vaknuhol.views.flow_solving import Flow, InternalError
+from vaknuhol.views.flow_solving import Flow, InternalError, Solved
 from vaknuhol.views.instances import Function, Instances
-from vaknuhol.views.kept_counts import KeptCounts, Solved
+from vaknuhol.views.kept_counts import KeptCounts
 from vaknuhol.views.line_counts import Line, LineCounts
 
 
@@ -89,16 +89,12 @@ class Coverage:
         counts = [row.count for row in rows]
         if self.record.action.is_ring or self.record.action.condition or not self.wanted and None not in counts:
             return Flow(Graph(len(rows), True), counts)
-        kept = None if self.wanted or self.info.parent else KeptCounts(self.listing, rows, self.record.action.adds)
-        solved = kept and kept.found()
+        solved = None if self.wanted or self.info.parent else self.kept.counts()
         if solved:
             return self.flow_of_kept(rows, solved)
-        flow = self.solved(rows)
+        flow = self.solved()
         for number, how in flow.how.items():
             rows[number].count, rows[number].how = flow.counts[number], how
-        if kept and len(flow.graph.kind):
-            kept.keep(Solved({number: (flow.counts[number] or 0, how) for number, how in flow.how.items()},
-                             flow.contradicted))
         return flow
 
     @staticmethod
@@ -111,19 +107,29 @@ class Coverage:
         flow.contradicted = solved.contradicted
         return flow
 
-    def solved(self, rows: list[Row]) -> Flow:
+    @functools.cached_property
+    def kept(self) -> KeptCounts:
+        """What is kept of the counts as they were recorded: it is made before any is put in its row."""
+        return KeptCounts(self.listing, self.record.rows, self.record.action.adds)
+
+    def solved(self) -> Flow:
         """The counts, with those of all ways between blocks."""
-        counts = [row.count for row in rows]
+        kept = self.kept.flow()
+        if kept:
+            return kept
+        counts = list(self.kept.given)
         try:
-            return Flow(graph_of(rows, self.program, self.listing), counts, not self.record.action.adds)
+            flow = Flow(graph_of(self.record.rows, self.program, self.listing), counts, not self.record.action.adds)
         except InternalError as error:
             warn(f"internal error: {error}, so no count is solved: please report it, with the program and the record")
-            return Flow(Graph(len(rows), True), counts)
+            return Flow(Graph(len(counts), True), counts)
+        self.kept.keep(flow)
+        return flow
 
     @functools.cached_property
     def ways(self) -> Flow:
         """The counts of all ways between blocks, also where no line asks for them."""
-        return self.flow if len(self.flow.graph.kind) else self.solved(self.record.rows)
+        return self.flow if len(self.flow.graph.kind) else self.solved()
 
     def places(self, of_executed: bool = False) -> Iterator[tuple[Row, Place]]:
         """The place of each row, or of each block that was executed; of a ring, of each event."""

@@ -9,6 +9,7 @@ A signal, or the end of the process in another thread, may end a block in its mi
 Where they do, the block's two sides count as open.
 """
 from collections.abc import Iterable, Sequence
+from typing import NamedTuple
 
 from vaknuhol.program.flow_graph import OUTSIDE, Graph
 from vaknuhol.program.flow_junctions import Junctions
@@ -21,22 +22,50 @@ class InternalError(Exception):
     """A fault of these scripts, which is told as such."""
 
 
+class Solved(NamedTuple):
+    """Of blocks that weren't counted, by their numbers, the counts that follow and by what; the blocks whose counts
+    contradict each other; the counts of edges."""
+    counts: dict[int, tuple[int, str]]
+    contradicted: set[int]
+    edges: list[int | None]
+
+
 class Flow:
     """The counts of the blocks of a graph, and of its edges; `how` tells of a block that wasn't counted by what its
-    count is known."""
+    count is known. Where all that was solved before, it is taken over."""
+    counts: list[int | None]
+    edges: list[int | None]
+    how: dict[int, str]
 
-    def __init__(self, graph: Graph, counts: list[int | None], is_coverage: bool = False) -> None:
+    def __init__(self, graph: Graph, counts: list[int | None], is_coverage: bool = False,
+                 solved: Solved | None = None) -> None:
         self.graph, self.given, self.is_coverage = graph, counts, is_coverage
         self.open_in, self.open_out = bytearray(graph.open_in), bytearray(graph.open_out)
         self.contradicted: set[int] = set()
+        if solved:
+            self.take_over(solved)
+            return
         for _ in range(ROUNDS):
             wrong = self.solve_all()
             if not wrong:
                 break
-            self.contradicted |= wrong
-            for block in wrong:
-                self.open_in[block] = self.open_out[block] = True
+            self.contradict(wrong)
         self.check()
+
+    def contradict(self, wrong: set[int]) -> None:
+        self.contradicted |= wrong
+        for block in wrong:
+            self.open_in[block] = self.open_out[block] = True
+
+    def take_over(self, solved: Solved) -> None:
+        self.contradict(solved.contradicted)
+        self.counts, self.edges, self.how = list(self.given), solved.edges, {}
+        for block, (count, how) in solved.counts.items():
+            self.set_count(block, count, how)
+
+    def solved(self) -> Solved:
+        return Solved({block: (self.counts[block] or 0, how) for block, how in self.how.items()}, self.contradicted,
+                      self.edges)
 
     def solve_all(self) -> set[int]:
         """The blocks whose counts contradict each other, as what follows from all is solved. Only where no counts do,
@@ -49,8 +78,8 @@ class Flow:
     def solve_both(self, is_whole: bool) -> bytearray:
         """What follows, and then what follows if calls return; which blocks are open at their ends at last."""
         graph, self.counts = self.graph, list(self.given)
-        self.edges: list[int | None] = [None] * len(graph.kind)
-        self.how: dict[int, str] = {}
+        self.edges = [None] * len(graph.kind)
+        self.how = {}
         returns, everywhere = bytearray(self.open_out), range(len(graph))
         self.solve_by(returns, SOLVED, everywhere, is_whole)
         returning = [block for block in everywhere if graph.calls[block] and graph.out[block]

@@ -4,7 +4,6 @@ do the same in each of its calls. What is less than a hundred thousandth of all 
 that lead back into a cycle."""
 from collections.abc import Iterator
 
-from vaknuhol.views.coverage import Coverage
 from vaknuhol.views.profile import Profile
 
 LEAST = 1e-5
@@ -28,8 +27,7 @@ def stacks(profile: Profile) -> Iterator[tuple[list[int], float]]:
         yield path, own
 
 
-def text(coverage: Coverage) -> str:
-    profile = Profile(coverage)
+def text(profile: Profile) -> str:
     found: dict[str, float] = {}
     for path, cost in stacks(profile):
         name = ";".join(profile.name(first).replace(";", ",") for first in path)

@@ -1,11 +1,14 @@
 """A record as a profile: executed instructions of each function, calls, and inclusive costs."""
+import functools
+from collections.abc import Mapping
 from typing import NamedTuple
 
+from vaknuhol.program.call_slots import AGAINST, ELEMENT, TABLE, TOLD, CallSlots
 from vaknuhol.views.call_graph import CallGraph, Edge
 from vaknuhol.views.calls import BY_JUMP, Calls
 from vaknuhol.views.costs import Costs
 from vaknuhol.views.coverage import Coverage
-from vaknuhol.views.indirect_calls import Sharing
+from vaknuhol.views.indirect_calls import Sharing, Told
 
 
 class Led(NamedTuple):
@@ -41,8 +44,9 @@ class Profile:
 
     def share(self, calls: Calls) -> None:
         """Gives indirect calls to functions."""
-        shares = Sharing(calls.indirect, calls.from_elsewhere, list(self.edges), calls.holders(),
-                         sorted(set(calls.choosing.values()))).shared()
+        holders = calls.holders()
+        shares = Sharing(calls.indirect, calls.from_elsewhere, list(self.edges), holders,
+                         sorted(set(calls.choosing.values())), told_by(calls, holders)).shared()
         left = [0 if site.kind == BY_JUMP else site.times for site in calls.indirect]
         for (number, first), count in sorted(shares.items()):
             site = calls.indirect[number]
@@ -61,6 +65,23 @@ class Profile:
         inclusive, own = self.graph.inclusive, self.costs.of
         return sorted((first for first in inclusive if own.get(first) or self.graph.callers[first]),
                       key=lambda first: (-inclusive[first], -own.get(first, 0), first))
+
+
+def told_by(calls: Calls, holders: Mapping[int, set[int]]) -> Told:
+    """What the operands of indirect calls tell. A word that is chosen as the program starts has what the choosing
+    function holds."""
+    slots = CallSlots(calls.program, calls.listing, calls.from_elsewhere)
+    of_sites = [slots.slot_of(site.site) for site in calls.indirect]
+    of_sites = [None if slot and slot.kind == ELEMENT and site.kind == BY_JUMP else slot  # which may be a switch
+                for slot, site in zip(of_sites, calls.indirect)]
+    chosen_by = [calls.choosing.get(slot.displacement) if slot and slot.kind == TABLE else None for slot in of_sites]
+
+    @functools.cache
+    def told(number: int, first: int) -> int:
+        if chosen_by[number] is not None:
+            return TOLD if chosen_by[number] in holders[first] else AGAINST
+        return slots.told(of_sites[number], first)
+    return told
 
 
 def is_one_way(calls: Calls) -> bool:

@@ -172,10 +172,12 @@ def test_functions_that_one_call_leads_to_go_to_the_one_that_was_made_as_often()
     some.lists(some.tuples(some.integers(0, 7), COUNTS, some.sampled_from([BY_CALL, BY_WORD, BY_JUMP])), max_size=8),
     some.dictionaries(some.integers(0, 7), COUNTS, max_size=8),
     some.lists(some.tuples(some.integers(0, 7), some.integers(0, 7)), max_size=12),
+    some.dictionaries(some.integers(0, 7), some.sets(some.integers(0, 7), max_size=2), max_size=8),
+    some.dictionaries(some.tuples(some.integers(0, 7), some.integers(0, 7)), some.sampled_from([TOLD, AGAINST])),
 )
-def test_no_call_is_given_more_often_than_it_was_made_nor_a_function_than_it_was_entered(sites, wanted, edges):
+def test_no_call_is_given_more_often_than_it_was_made_nor_a_function_than_it_was_entered(sites, wanted, edges, holders, told):
     """And all that can be given is given."""
-    found = shares_of(sites, wanted, edges)
+    found = shares_of(sites, wanted, edges, holders, told=told)
     for number, (_, count, _) in enumerate(sites):
         assert sum(share for (site, _), share in found.items() if site == number) <= count
     for first, count in wanted.items():

@@ -104,7 +104,8 @@ class Sharing:
 
         def ways_to(firsts: Iterable[int]) -> list[Way]:
             return [self.way(number, first) for first in firsts if self.wanted[first] for number in numbers
-                    if self.told(number, first) == told and (may_return or self.may_lead(number, first))]
+                    if self.left[number] and self.told(number, first) == told
+                    and (may_return or self.may_lead(number, first))]
 
         ways = ways_to(self.wanted)
         heapq.heapify(ways)

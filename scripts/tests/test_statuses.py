@@ -166,7 +166,7 @@ def test_fit_ends_with_1_where_the_file_or_its_run_has_an_obstacle(monkeypatch, 
     listing = double(**vars(LISTING), file=file, addr=[0])
     findings = [double(is_against=False, text="a note"), *[double(is_against=True, text="a finding")] * is_found]
     monkeypatch.setattr(fit, "settled", lambda path, folder, base: path)
-    monkeypatch.setattr(fit, "Program", lambda path: None)
+    monkeypatch.setattr(fit, "Program", lambda path: double(base=0))
     monkeypatch.setattr(fit, "Listing", lambda *_: listing)
     monkeypatch.setattr(fit, "threads_of", lambda *_: "")
     monkeypatch.setattr(fit, "findings", lambda _: findings)

@@ -3,6 +3,7 @@ pub mod ThreadsRuns
 pub mod ReversedPlans
 pub mod PatchReversal
 pub mod LoadReversal
+pub mod SettledRuns
 pub mod ReversedThreads
 pub mod InspectingRuns
 pub mod GenRuns

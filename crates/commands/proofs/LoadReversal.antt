@@ -27,7 +27,7 @@ use Rattle.commands.specs.Reversal.{LoadIsReversed, LoadedThreadsAreReversed}
 use Rattle.commands.proofs.PatchReversal.{form_is_reversed}
 
 -- what is laid for the job of what was planned is laid after the turns
-laid_after : (q : Request) (p : PlannedState) (groups : GroupsState) (l : LoaderState) → IsLaidFor q.reserves (job_for q p groups) l
+pub laid_after : (q : Request) (p : PlannedState) (groups : GroupsState) (l : LoaderState) → IsLaidFor q.reserves (job_for q p groups) l
     → IsLoader (taken_after q.file q.reserves p) (run_count groups) l
 laid_after q p groups l laid = subst (λ (es : List Extent). IsLoader es (run_count groups) l) (sym (taken_told q p groups)) laid
 

@@ -22,6 +22,7 @@ use Rattle.settle_commands.specs.UnsettleAnswers.{unsettle_writing}
 use Rattle.commands.specs.Reversal.{Unpatches}
 use Rattle.command_words.proofs.CommandForms.{known_of}
 use Rattle.commands.proofs.PatchRuns.{form_ended, lost, patch_ended}
+use Rattle.commands.proofs.SettledRuns.{patch_follows, load_follows}
 use Rattle.commands.proofs.ThreadsRuns.{threads_ended}
 use Rattle.commands.proofs.PatchReversal.{unpatch_ended}
 use Rattle.commands.proofs.SettleRuns.{settle_ended, unsettle_ended}
@@ -39,7 +40,8 @@ inspecting_lost xs A R T O a s k =
 pub words_lost : (words : List (List ℕ)) (c : Command) (s : DeskState) (k : SinkState) → c ≡ command_of words → Does c s s k k 6
 words_lost words Usage s k e = record { untouched = refl; told = inr (refl, refl) }
 words_lost words (Patch n action reserves) s k e =
-    let p = patching n action reserves in lost (patch_writing p) (Patches p) (patch_ended p (known_of words (Patch n action reserves) e).0) s k
+    let p = patching n action reserves in let apart = (known_of words (Patch n action reserves) e).0 in
+    let w = lost (patch_writing p) (Patches p) (patch_ended p apart) s k in (w, patch_follows p apart s s k k 6 w.writes)
 words_lost words (Check n) s k e = record {
   inspects = inspecting_lost (check_inputs n) CheckAccepts CheckRefuses CheckTells IsCheckStatus check_agrees s k;
   followed = λ files h z. absurd (omega arith);
@@ -48,7 +50,8 @@ words_lost words (Step n count) s k e =
     inspecting_lost (step_inputs n) StepAccepts StepRefuses (StepTells count) IsStepStatus (step_agrees count) s k
 words_lost words (Gen seed blocks) s k e = record { untouched = refl; told = inr (refl, refl) }
 words_lost words (Load n action reserves) s k e =
-    let p = patching n action reserves in lost (form_writing with_stub p) (Loads p) (form_ended with_stub p (known_of words (Load n action reserves) e).0) s k
+    let p = patching n action reserves in let apart = (known_of words (Load n action reserves) e).0 in
+    let w = lost (form_writing with_stub p) (Loads p) (form_ended with_stub p apart) s k in (w, load_follows p apart s s k k 6 w.writes)
 words_lost words (Threads n reserves) s k e =
     let p = thread_patching n reserves in lost (threads_writing p) (PatchesThreads p) (threads_ended p) s k
 words_lost words (ThreadsReported n action reserves) s k e =

@@ -91,7 +91,7 @@ unpatch_ended n s t k l r status rest e d =
 -- ---- what `patch` wrote
 
 -- a text that was read is within the limit
-first_few : (o : Option (List ℕ)) (x : _) (b : List ℕ) (bs : List (List ℕ)) (g : Gathered) → first_of o x g ≡ All (b ∷ bs) → length b ≤ most
+pub first_few : (o : Option (List ℕ)) (x : _) (b : List ℕ) (bs : List (List ℕ)) (g : Gathered) → first_of o x g ≡ All (b ∷ bs) → length b ≤ most
 first_few o x b bs g e = few (nat_lt most (length b)) refl (ap (λ (z : Option (List ℕ)). first_of z x g) (sym (first_read o x b bs g e).0) ∙ e)
   where
     few : (c : Bool) → nat_lt most (length b) ≡ c → (if nat_lt most (length b) then TooLong x.0 else with_first b g) ≡ All (b ∷ bs) → length b ≤ most

@@ -1,5 +1,5 @@
 -- What `settle` and `unsettle` do is what a command does that writes one output.
-use Rattle.std.proofs.Common.{◌≡◌, ℕ, length, Option, Result, refl, arith}
+use Rattle.std.proofs.Common.{ℕ, length, Option, Result, refl, arith}
 use Rattle.pun_base.specs.Shown.{DeskState, SinkState, Told}
 use Rattle.command_words.specs.Words.{SettleNames, UnsettleNames}
 use Rattle.command_io.specs.Endings.{Delivers}

@@ -4,9 +4,9 @@ use Rattle.std.specs.Prelude.{◌≡◌, ℕ, ◌≤◌, ◌⊎◌}
 use Rattle.pun_base.specs.Shown.{DeskState, SinkState, Rose}
 use Rattle.command_words.specs.Words.{Command, Usage, Patch, Check, Step, Gen, Load, Threads, ThreadsReported, ThreadsLoaded, Unpatch, Settle, Unsettle}
 use Rattle.patch_commands.specs.Answers.{IsUsage, Patches}
-use Rattle.patch_commands.specs.LoadAnswers.{Loads}
+use Rattle.patch_commands.specs.LoadAnswers.{with_stub, Loads}
 use Rattle.patch_commands.specs.ThreadsAnswers.{thread_patching, PatchesThreads, PatchesReported, LoadsThreads}
-use Rattle.command_io.specs.Verdict.{patching}
+use Rattle.command_io.specs.Verdict.{patching, plain}
 use Rattle.inspect_commands.specs.CheckAnswers.{Checks}
 use Rattle.inspect_commands.specs.StepAnswers.{Steps}
 use Rattle.inspect_commands.specs.GenAnswers.{Generates}
@@ -14,6 +14,7 @@ use Rattle.command_io.specs.Writing.{Writes}
 use Rattle.settle_commands.specs.SettleAnswers.{settle_writing}
 use Rattle.settle_commands.specs.UnsettleAnswers.{unsettle_writing}
 use Rattle.commands.specs.Reversal.{Unpatches}
+use Rattle.commands.specs.SettledFiles.{FollowsSettled, of_patch, of_load}
 
 -- Which command it is.
 abbrev pub IsPatch : Command → Type 0
@@ -54,15 +55,17 @@ pub record HasCause (command : Command) (s t : DeskState) (k l : SinkState) (sta
   pub unsound : status ≡ 7 → IsCheck command
   pub fewer : status ≡ 8 → IsStep command
 
--- What each command does.
+-- What each command does; of `patch` and `load` also what OUT does where FILE was a settled one.
 abbrev pub Does : Command → DeskState → DeskState → SinkState → SinkState → ℕ → Type 0
 Does Usage s t k l status = IsUsage s t k l status
-Does (Patch names action reserves) s t k l status = Patches (patching names action reserves) s t k l status
+Does (Patch names action reserves) s t k l status =
+    Patches (patching names action reserves) s t k l status × FollowsSettled plain of_patch (patching names action reserves) s t status
 Does (Check names) s t k l status = Checks names s t k l status
 Does (Step names count) s t k l status = Steps names count s t k l status
 Does (Gen seed blocks) s t k l status = Generates seed blocks s t k l status
 Does (Unpatch names) s t k l status = Unpatches names s t k l status
-Does (Load names action reserves) s t k l status = Loads (patching names action reserves) s t k l status
+Does (Load names action reserves) s t k l status =
+    Loads (patching names action reserves) s t k l status × FollowsSettled with_stub of_load (patching names action reserves) s t status
 Does (Threads names reserves) s t k l status = PatchesThreads (thread_patching names reserves) s t k l status
 Does (ThreadsReported names action reserves) s t k l status = PatchesReported action (patching names action reserves) s t k l status
 Does (ThreadsLoaded names action reserves) s t k l status = LoadsThreads action (patching names action reserves) s t k l status

@@ -1,3 +1,4 @@
 pub mod Planned
 pub mod Reversal
+pub mod SettledFiles
 pub mod Commands

@@ -68,7 +68,7 @@ pub segments-settled : (b : ℕ) (file : List ℕ) → b < 2 ^ 64 → length (se
 segments-settled b file base few fits = segments_with b (segments file) (own_table b file) (b + entry_of file) file base few fits
 
 -- a moved entry is loaded exactly where the entry is
-kind_kept : (k : ℕ) → (cond ((k == 2) || (k == 6)) 0 k == 1) ≡ (k == 1)
+pub kind_kept : (k : ℕ) → (cond ((k == 2) || (k == 6)) 0 k == 1) ≡ (k == 1)
 kind_kept k = step ((k == 2) || (k == 6)) refl
   where
     step : (t : Bool) → ((k == 2) || (k == 6)) ≡ t → (cond t 0 k == 1) ≡ (k == 1)

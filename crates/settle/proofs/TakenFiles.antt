@@ -1,7 +1,7 @@
 -- A file that isn't refused can be settled, and what is written is accepted.
-use Rattle.std.proofs.Common.{◌≡◌, ℕ, zero, suc, ◌+◌, ◌-◌, ◌*◌, ◌/◌, ◌%◌, ◌^◌, ◌<◌, ◌≤◌, ◌==◌, Bool, true, false, not, cond, ◌&&◌, ◌||◌, nat_le, nat_lt, List, [], ◌∷◌, ◌++◌, length, map, is_none, Option, Some, None, option_map, refl, sym, ap, ◌∙◌, subst, arith, eqb-true, true≢false, if◌then◌else◌}
+use Rattle.std.proofs.Common.{◌≡◌, ℕ, zero, suc, ◌+◌, ◌-◌, ◌*◌, ◌/◌, ◌%◌, ◌^◌, ◌<◌, ◌≤◌, ◌==◌, Bool, true, false, cond, ◌&&◌, ◌||◌, nat_le, nat_lt, List, [], ◌∷◌, ◌++◌, length, map, is_none, Option, Some, None, option_map, refl, sym, ap, ◌∙◌, subst, arith, eqb-true, true≢false, if◌then◌else◌}
 use Rattle.std.specs.List.{AllByRecursion, find, list_any, position}
-use Rattle.std.proofs.lemmas.Bool.{and_parts, cond-true, cond-false, leb-true, ltb-true, ltb-false, lt-ltb, le-ltb}
+use Rattle.std.proofs.lemmas.Bool.{and_parts, cond-true, cond-false, leb-true, ltb-false, lt-ltb, le-ltb}
 use Rattle.std.proofs.lemmas.List.{length-append}
 use Rattle.elf_read.specs.declared.segment.Segment.{Segment}
 use Rattle.elf_read.specs.declared.refusal.ElfError.{ElfError}
@@ -26,7 +26,7 @@ use Rattle.settle.proofs.FrontParts.{length-header_of, length-settled_table, len
 use Rattle.settle.proofs.MovedImages.{front_small, used_some, segments_with, segments-settled, loads-moved}
 
 -- of two refusals neither holds
-none_later : (o later : Option SettleError) → or_later o later ≡ None → (o ≡ None) × (later ≡ None)
+pub none_later : (o later : Option SettleError) → or_later o later ≡ None → (o ≡ None) × (later ≡ None)
 none_later None later h = (refl, h)
 none_later (Some e) later h = absurd cc
 
@@ -44,7 +44,7 @@ few_entries : (file : List ℕ) → header_refusal file ≡ None → table_count
 unfolding table_refusal
 few_entries file h = ltb-false 1023 (table_count file) (each_none (table_rules file) (none_later (kind_refusal file) (table_refusal file) h).1).1.0
 
-map_none : {A B : Type 0} (f : A → B) (o : Option A) → option_map f o ≡ None → o ≡ None
+pub map_none : {A B : Type 0} (f : A → B) (o : Option A) → option_map f o ≡ None → o ≡ None
 map_none f None h = refl
 map_none f (Some x) h = absurd cc
 
@@ -74,7 +74,7 @@ front_high b n h =
     let t = nat_lt 0x7fff0000 (b - front_len n + used_len n) in
     ltb-false 0x7fff0000 (b - front_len n + used_len n) (sym (ap (λ z. z && t) (lt-ltb 0 (used_len n) (used_some n))) ∙ h)
 
-each_kept : (rules : List (Option ℕ × (ℕ → ElfError))) → first_told rules ≡ None → AllByRecursion (λ r. r.0 ≡ None) rules
+pub each_kept : (rules : List (Option ℕ × (ℕ → ElfError))) → first_told rules ≡ None → AllByRecursion (λ r. r.0 ≡ None) rules
 each_kept [] h = tt
 each_kept (r ∷ rs) h = let k = no_entry r.0 r.1 (first_told rs) h in (k.0, each_kept rs k.1)
 
@@ -147,7 +147,7 @@ table_here p b place size s g e =
 
 -- what holds of the entries that are loaded, one by one
 
-one_by_one : (p b : ℕ) (ss : List Segment) → AllByRecursion (IsGood p b) (loads ss) → AllByRecursion (λ s. is_load s ≡ true → IsGood p b s) ss
+pub one_by_one : (p b : ℕ) (ss : List Segment) → AllByRecursion (IsGood p b) (loads ss) → AllByRecursion (λ s. is_load s ≡ true → IsGood p b s) ss
 one_by_one p b [] h = tt
 one_by_one p b (s ∷ ss) h = step (is_load s) refl h (λ g. one_by_one p b ss g)
   where

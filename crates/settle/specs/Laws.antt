@@ -1,5 +1,5 @@
 -- What settling keeps, and what the refusals leave. Theorems cite it.
-use Rattle.std.specs.Prelude.{◌≡◌, ℕ, ◌+◌, ◌*◌, ◌%◌, ◌^◌, ◌<◌, ◌≤◌, List, length, slice_index, Some, None}
+use Rattle.std.specs.Prelude.{◌≡◌, ℕ, ◌+◌, ◌%◌, ◌^◌, ◌<◌, ◌≤◌, List, length, slice_index, Some, None}
 use Rattle.std.specs.List.{AllByRecursion}
 use Rattle.elf_read.specs.declared.segment.Segment.{Segment}
 use Rattle.elf_read.specs.Entries.{Fits, entry_of, segments, loads}
@@ -58,3 +58,9 @@ SettledLoads = (b : ℕ) (file : List ℕ) → IsSettleable b file → (a : ℕ)
 -- No base that isn't refused is above the highest.
 abbrev pub NoneIsHigher : Type 0
 NoneIsHigher = (b : ℕ) (file : List ℕ) → IsReadable file → settle_refusal b file ≡ None → b ≤ highest_base file
+
+-- Where some base isn't refused, the highest isn't either, if the largest alignment is a multiple of 4096: each power of two from there on is.
+abbrev pub HighestIsTaken : Type 0
+HighestIsTaken =
+    (b : ℕ) (file : List ℕ) → IsReadable file → largest_align (loads (segments file)) % 4096 ≡ 0 → settle_refusal b file ≡ None
+    → settle_refusal (highest_base file) file ≡ None

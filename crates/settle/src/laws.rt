@@ -1,6 +1,6 @@
 //! What the definitions promise of a settled file, and of the file that comes back.
 ghost use Rattle.settle.specs.Worked.{SmallIsTaken};
-ghost use Rattle.settle.specs.Laws.{SettledIsUndone, UndoneWasSettled, SettledLoads, UnrefusedIsTaken, NoneIsHigher};
+ghost use Rattle.settle.specs.Laws.{SettledIsUndone, UndoneWasSettled, SettledLoads, UnrefusedIsTaken, NoneIsHigher, HighestIsTaken};
 
 /// What was settled comes back byte for byte, and only what was settled does.
 pub fn settled_is_undone()
@@ -21,6 +21,12 @@ pub fn unrefused_is_taken()
 /// No base that isn't refused is above the one that is taken where none is told.
 pub fn none_is_higher()
     ensures { NoneIsHigher }
+{}
+
+/// Where some base isn't refused, the one that is taken where none is told isn't either, if the largest alignment is a multiple of
+/// 4,096.
+pub fn highest_is_taken()
+    ensures { HighestIsTaken }
 {}
 
 /// A small static PIE isn't refused.

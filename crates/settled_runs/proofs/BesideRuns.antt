@@ -25,14 +25,14 @@ use Rattle.settled_runs.proofs.StartedFiles.{settled_starts, told_apart}
 
 module _ (w : Bytes) where
   -- the addresses of the further memory
-  abbrev of_w : ℕ → Bool
+  abbrev pub of_w : ℕ → Bool
   of_w x = is_some (w x)
 
-  abbrev IsApart : Bytes → Type 0
+  abbrev pub IsApart : Bytes → Type 0
   IsApart m = (x : ℕ) → (w x ≡ None) ⊎ (m x ≡ None)
 
   -- the set's bytes aren't held
-  not_held : (m : Bytes) (x : ℕ) → IsApart m → of_w x ≡ true → m x ≡ None
+  pub not_held : (m : Bytes) (x : ℕ) → IsApart m → of_w x ≡ true → m x ≡ None
   not_held m x h t = step (h x)
     where
       step : (w x ≡ None) ⊎ (m x ≡ None) → m x ≡ None
@@ -53,7 +53,7 @@ module _ (w : Bytes) where
       let e = seen_at m 1 a h s.0 in
       (ap (allows 1) e ∙ s.0, ap byte_of e ∙ s.1, stands bs m (advanced a 1) h s.2)
 
-  hidden_at : (c d : Option Cell) → cond (is_some c) None d ≡ cond (is_some c) None (or_else c d)
+  pub hidden_at : (c d : Option Cell) → cond (is_some c) None d ≡ cond (is_some c) None (or_else c d)
   hidden_at None d = refl
   hidden_at (Some c) d = refl
 
@@ -61,7 +61,7 @@ module _ (w : Bytes) where
   same_view s = λ i. record { core = s.core; rip = 0; mem = fun_ext (λ x. hidden_at (w x) (s.mem x)) i; world = s.world }
 
   -- memory after it, byte by byte
-  byte_after : (c d e f : Option Cell) → cond (is_some c) None d ≡ cond (is_some c) None e → (is_some c ≡ true → e ≡ or_else c f) → e ≡ or_else c d
+  pub byte_after : (c d e f : Option Cell) → cond (is_some c) None d ≡ cond (is_some c) None e → (is_some c ≡ true → e ≡ or_else c f) → e ≡ or_else c d
   byte_after None d e f q r = sym q
   byte_after (Some c) d e f q r = r refl
 
@@ -83,7 +83,7 @@ module _ (w : Bytes) where
       let v : u ≡ beside w t = λ i. record { core = sym (ap (λ (z : Machine). z.core) r.2) i; rip = sym (ap (λ (z : Machine). z.rip) r.2) i; mem = m i; world = sym (ap (λ (z : Machine). z.world) r.2) i } in
       r.1 ∙ ap Ok v
 
-  none_of : (c d : Option Cell) → option_map (λ (z : Cell). z.perms) c ≡ option_map (λ (z : Cell). z.perms) d → d ≡ None → c ≡ None
+  pub none_of : (c d : Option Cell) → option_map (λ (z : Cell). z.perms) c ≡ option_map (λ (z : Cell). z.perms) d → d ≡ None → c ≡ None
   none_of None d e n = refl
   none_of (Some c) d e n = absurd (let q : Some c.perms ≡ None = e ∙ ap (option_map (λ (z : Cell). z.perms)) n in cc)
 

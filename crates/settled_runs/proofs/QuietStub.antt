@@ -16,19 +16,21 @@ use Rattle.insn_form.specs.Runs.{nowhere, IsPath, last_of}
 use Rattle.insn_form.proofs.TouchedMemory.{leaves_nowhere, read_and_write, reads_held, writes_are_held}
 use Rattle.insn_form.proofs.FrameRule.{frame, keep}
 use Rattle.image_runs.specs.Listed.{is_known_start, is_listed_byte}
-use Rattle.image_runs.specs.Quiet.{IsQuiet}
-use Rattle.elf_read.specs.Entries.{segments}
+use Rattle.image_runs.specs.Quiet.{IsQuiet, IsStartPair}
+use Rattle.sound_images.specs.Rewriting.{Rewriting}
+use Rattle.elf_read.specs.Entries.{entry_of, segments}
 use Rattle.elf_read.specs.Image.{image_of}
 use Rattle.settle.specs.Stub.{stub_code}
 use Rattle.settle.specs.Settled.{stub_at, settled, moved_image, front_image, image_at}
 use Rattle.settled_runs.specs.Vector.{told, variables_at, pairs_at, IsVector}
 use Rattle.settled_runs.specs.Laws.{stub_places, StubStep, IsTold, own_of, beside, file_start, IsSettledStart}
-use Rattle.settled_runs.specs.Quiet.{SettledIsQuiet, SettledIsPatched}
+use Rattle.settled_runs.specs.Quiet.{item_beside, settled_items, SettledIsQuiet, SettledIsPatched, SettledGoesOn}
 use Rattle.settle.proofs.FrontParts.{length-stub}
 use Rattle.settle.proofs.MovedImages.{settled_loads}
 use Rattle.settled_runs.proofs.StartedFiles.{fixed_by, stub_byte, first_held, starts_at, seen_word, seen_variables, seen_pairs, told_beside, told_apart}
 use Rattle.settled_runs.proofs.StubRuns.{stub_tells}
 use Rattle.settled_runs.proofs.BesideRuns.{after, apart_after, step_beside, front_apart, joined_assoc}
+use Rattle.settled_runs.proofs.DeliveredRuns.{delivered_quiet, delivered_on}
 
 module _ (set : ℕ → Bool) where
   -- a byte that can at most be executed
@@ -261,26 +263,39 @@ settled_is_quiet b file further s n vs ks listed g h st q =
       own = k.path;
       there = there;
       runs = λ us y. quiet_on listed s.rip s (beside w fs) k.states (map (beside w) us) (λ j e. ap (λ z. is_known_start listed (z + j)) rip ∙ q.starts j e) k.path k.quiet there (quiet_beside w listed us fs (front_apart b file m g.below ap2) y);
+      delivered = λ is y. delivered_on listed s.rip s (beside w fs) k.states (map (item_beside w) is) (λ j e. ap (λ z. is_known_start listed (z + j)) rip ∙ q.starts j e) k.path k.quiet there (delivered_quiet w listed is fs (front_apart b file m g.below ap2) y);
     }
 
--- so a patched file of it follows FILE's run
-pub settled_is_patched : SettledIsPatched
-settled_is_patched b file r s t n vs ks g h o e line p c d v l us y =
-    let im = image_of (settled b file) in
-    let start : IsSettledStart b file p.further s n vs ks = record {
-      processor = p.sized;
-      there = p.original_at ∙ e;
-      memory = p.original ∙ ap (λ (z : Bytes). joined z p.further) o;
-      apart = λ x. first_none (im x) (r.patched x) (p.further x) (subst (λ (z : Bytes). (joined z r.patched x ≡ None) ⊎ (p.further x ≡ None)) o (p.apart x));
-      rcx = c;
-      rdi = d;
-      vector = v;
-    } in
-    let q = settled_is_quiet b file p.further s n vs ks r.listed g h start l in
-    let a = line s t p (q.stub ++ map (beside (front_image b file)) us) (q.runs us y) in
-    record { stub = q.stub; own = q.own; states = a.0; follows = a.1; before = a.2 }
+-- the original's side of a start pair is a start of the settled file
+pair_start : (b : ℕ) (file : List ℕ) (r : Rewriting) (s t : Machine) (n : ℕ) (vs ks : List ℕ) → r.original ≡ image_of (settled b file) → r.entry ≡ entry_of (settled b file)
+    → (p : IsStartPair r.original r.patched r.entry s t) → reg s.core 1 ≡ 0 → reg s.core 7 ≡ 0 → IsVector p.further (reg s.core 4) n vs ks
+    → IsSettledStart b file p.further s n vs ks
+pair_start b file r s t n vs ks o e p c d v = record {
+  processor = p.sized;
+  there = p.original_at ∙ e;
+  memory = p.original ∙ ap (λ (z : Bytes). joined z p.further) o;
+  apart = λ x. first_none (image_of (settled b file) x) (r.patched x) (p.further x) (subst (λ (z : Bytes). (joined z r.patched x ≡ None) ⊎ (p.further x ≡ None)) o (p.apart x));
+  rcx = c;
+  rdi = d;
+  vector = v;
+}
   where
     first_none : (c d e : Option Cell) → (or_else c d ≡ None) ⊎ (e ≡ None) → (c ≡ None) ⊎ (e ≡ None)
     first_none None d e h = inl refl
     first_none (Some c) d e (inl h) = absurd cc
     first_none (Some c) d e (inr h) = inr h
+
+-- so a patched file of it follows FILE's run
+pub settled_is_patched : SettledIsPatched
+settled_is_patched b file r s t n vs ks g h o e line p c d v l us y =
+    let q = settled_is_quiet b file p.further s n vs ks r.listed g h (pair_start b file r s t n vs ks o e p c d v) l in
+    let a = line s t p (q.stub ++ map (beside (front_image b file)) us) (q.runs us y) in
+    record { stub = q.stub; own = q.own; states = a.0; follows = a.1; before = a.2 }
+
+-- with deliveries, too
+pub settled_goes_on : SettledGoesOn
+settled_goes_on b file r s t n vs ks g h o e on k is y =
+    let p = on.pair in
+    let q = settled_is_quiet b file p.further s n vs ks r.listed g h (pair_start b file r s t n vs ks o e p k.rcx k.rdi k.vector) k.lists in
+    let a = on.follows (settled_items b file q.stub is) (q.delivered is y) in
+    record { stub = q.stub; own = q.own; items = a.0; follows = a.1; before = a.2 }

@@ -1,6 +1,6 @@
 -- What a settled file does when it is started: the stub's run, and then the file's own. Theorems cite it.
-use Rattle.std.specs.Prelude.{◌≡◌, ℕ, ◌+◌, ◌*◌, ◌^◌, ◌<◌, ◌≤◌, ◌⊎◌, false, List, length, Some, None, ◌++◌, map, ◌==◌, true, ◌∷◌, []}
-use Rattle.std.specs.List.{AllByRecursion, list_any}
+use Rattle.std.specs.Prelude.{◌≡◌, ℕ, ◌+◌, ◌*◌, ◌^◌, ◌<◌, ◌≤◌, ◌⊎◌, false, List, length, None, ◌++◌, map, ◌==◌, true, ◌∷◌, []}
+use Rattle.std.specs.List.{list_any}
 use Rattle.pun_base.specs.Memory.{Bytes, joined}
 use Rattle.length_decode.specs.Spelling.{Fields}
 use Rattle.cpu_state.specs.Fixed.{IsFixed}

@@ -15,7 +15,7 @@ use Rattle.settle.specs.Refusals.{settle_refusal}
 use Rattle.settle.specs.Laws.{IsReadable}
 use Rattle.settled_runs.specs.Vector.{IsVector}
 use Rattle.settled_runs.specs.Laws.{file_start}
-use Rattle.settled_runs.specs.Quiet.{ListsStub, IsPatchedFor}
+use Rattle.settled_runs.specs.Quiet.{ListsStub, IsPatchedFor, IsKernelStart, FollowsOn}
 
 -- The rewriting that a patch made, of the files that it read and wrote.
 abbrev pub rewriting_made : (n : Names) (old new : Files) → FilesFollowed n old new → Rewriting
@@ -31,3 +31,12 @@ SettledIsFollowed =
     → reg s.core 1 ≡ 0 → reg s.core 7 ≡ 0 → IsVector p.further (reg s.core 4) n vs ks → ListsStub b file p.further (rewriting_made m old new f).listed
     → (us : List Machine) → IsQuiet Step (rewriting_made m old new f).listed (file_start b file p.further s n vs ks) us
     → IsPatchedFor b file (rewriting_made m old new f) s t us
+
+-- The same with deliveries.
+abbrev pub SettledIsFollowedWith : Type 0
+SettledIsFollowedWith =
+    (b : ℕ) (file : List ℕ) → IsReadable file → settle_refusal b file ≡ None → (m : Names) (old new : Files) (f : FilesFollowed m old new) → f.file ≡ settled b file
+    → (s t : Machine) (n : ℕ) (vs ks : List ℕ)
+    → (p : IsStartPair (rewriting_made m old new f).original (rewriting_made m old new f).patched (rewriting_made m old new f).entry s t)
+    → IsKernelStart b file p.further (rewriting_made m old new f).listed s n vs ks
+    → FollowsOn b file (rewriting_made m old new f) p.further n vs ks s t

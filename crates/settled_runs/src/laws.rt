@@ -1,7 +1,9 @@
 //! What a settled file does when it is started.
 ghost use Rattle.settled_runs.specs.Laws.{StubTells, SettledStarts, BesideRuns, SettledFollows};
-ghost use Rattle.settled_runs.specs.Quiet.{SettledIsQuiet, SettledIsPatched};
-ghost use Rattle.settled_runs.specs.Patched.{SettledIsFollowed};
+ghost use Rattle.settled_runs.specs.Quiet.{SettledIsQuiet, SettledIsPatched, SettledGoesOn};
+ghost use Rattle.settled_runs.specs.Patched.{SettledIsFollowed, SettledIsFollowedWith};
+ghost use Rattle.settled_runs.specs.Started.{SettledIsStarted};
+ghost use Rattle.settled_runs.specs.Loaded.{LoadersKeepVectors, SettledIsLoaded};
 
 /// The stub tells the program its own table, and goes to its entry.
 pub fn stub_tells()
@@ -24,9 +26,22 @@ pub fn settled_follows()
 pub fn settled_is_quiet()
     ensures quiet { SettledIsQuiet }
     ensures patched { SettledIsPatched }
+    ensures delivered { SettledGoesOn }
 {}
 
 /// What `patch` writes of a settled file follows the original at its base.
 pub fn settled_is_followed()
-    ensures { SettledIsFollowed }
+    ensures plain { SettledIsFollowed }
+    ensures delivered { SettledIsFollowedWith }
+{}
+
+/// From where a kernel starts it, a rewriting of a settled file follows the original at its base.
+pub fn settled_is_started()
+    ensures { SettledIsStarted }
+{}
+
+/// What is written of a settled file in the loader form follows the original at its base, behind the steps of both stubs.
+pub fn settled_is_loaded()
+    ensures vectors { LoadersKeepVectors }
+    ensures loaded { SettledIsLoaded }
 {}

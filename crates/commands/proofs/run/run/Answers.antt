@@ -12,6 +12,7 @@ use Rattle.patch_commands.specs.LoadAnswers.{with_stub}
 use Rattle.patch_commands.specs.ThreadsAnswers.{for_threads, for_threads_with_stub, thread_patching}
 use Rattle.commands.specs.Commands.{Does}
 use Rattle.commands.proofs.PatchRuns.{form_ended, patch_ended}
+use Rattle.commands.proofs.SettledRuns.{patch_follows, load_follows}
 use Rattle.commands.proofs.ThreadsRuns.{threads_ended}
 use Rattle.commands.proofs.GenRuns.{gen_ran}
 use Rattle.commands.proofs.InspectingRuns.{check_ran, step_ran}
@@ -56,9 +57,9 @@ returns-in-Ok-Patch-clause-does g c =
     let pairs = map ends c.deref.result.now in
     let q : Patch n c.in-Ok-Patch.action (map ends c.in-Ok-Patch.reserves.items) ≡ command_of words = rw c.in-Ok-Patch.field-0-is at c.in-Ok-Patch.ensures in
     let r : Patch n c.in-Ok-Patch.action pairs ≡ command_of words = ap (λ rs. Patch n c.in-Ok-Patch.action (map ends rs)) c.deref.ensures.value ∙ q in
-    of_words words (Patch n c.in-Ok-Patch.action pairs) _ _ _ _ _ r
-    (patch_ended (patching n c.in-Ok-Patch.action pairs) (known_of words (Patch n c.in-Ok-Patch.action pairs) r).0 _ _ _ _ (seen_as told_of c.patch.result) _
-    c.patch.ensures.rest c.patch.ensures.ends c.tell.ensures.printed)
+    let p = patching n c.in-Ok-Patch.action pairs in let apart = (known_of words (Patch n c.in-Ok-Patch.action pairs) r).0 in
+    let w = patch_ended p apart _ _ _ _ (seen_as told_of c.patch.result) _ c.patch.ensures.rest c.patch.ensures.ends c.tell.ensures.printed in
+    of_words words (Patch n c.in-Ok-Patch.action pairs) _ _ _ _ _ r (w, patch_follows p apart _ _ _ _ _ w.writes)
 
 pub returns-in-Ok-Step-clause-does : goal.returns-in-Ok-Step-clause-does
 returns-in-Ok-Step-clause-does g c =
@@ -88,9 +89,11 @@ returns-in-Ok-Load-clause-does g c =
     let pairs = map ends c.deref-in-Ok-Load.result.now in
     let q : Load n c.in-Ok-Load.action (map ends c.in-Ok-Load.reserves.items) ≡ command_of words = rw c.in-Ok-Load.field-0-is at c.in-Ok-Load.ensures in
     let r : Load n c.in-Ok-Load.action pairs ≡ command_of words = ap (λ rs. Load n c.in-Ok-Load.action (map ends rs)) c.deref-in-Ok-Load.ensures.value ∙ q in
-    of_words words (Load n c.in-Ok-Load.action pairs) _ _ _ _ _ r
-    (form_ended with_stub (patching n c.in-Ok-Load.action pairs) (known_of words (Load n c.in-Ok-Load.action pairs) r).0 _ _ _ _ (seen_as told_of c.patch-in-Ok-Load.result) _
-    c.patch-in-Ok-Load.ensures.rest c.patch-in-Ok-Load.ensures.ends c.tell-in-Ok-Load.ensures.printed)
+    let p = patching n c.in-Ok-Load.action pairs in let apart = (known_of words (Load n c.in-Ok-Load.action pairs) r).0 in
+    let w =
+    form_ended with_stub p apart _ _ _ _ (seen_as told_of c.patch-in-Ok-Load.result) _ c.patch-in-Ok-Load.ensures.rest c.patch-in-Ok-Load.ensures.ends
+    c.tell-in-Ok-Load.ensures.printed in
+    of_words words (Load n c.in-Ok-Load.action pairs) _ _ _ _ _ r (w, load_follows p apart _ _ _ _ _ w.writes)
 
 pub returns-in-Ok-Threads-clause-does : goal.returns-in-Ok-Threads-clause-does
 returns-in-Ok-Threads-clause-does g c =

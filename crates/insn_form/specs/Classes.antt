@@ -274,13 +274,17 @@ is_landing p = is_repeated_nop p && (p.opcode == 0x1e && modrm_of p == 0xfa)
 abbrev pub asked_one : Parts → Template
 asked_one p = Asked false (not (within 0xd8 0xdf p.opcode || p.opcode == 0x9b))
 
--- SYSCALL after F2 or F3, which a processor executes as SYSCALL: rcx becomes the next address, which of a copy is another one
+-- SYSCALL, which a processor executes after F2 and F3 too, and refuses after F0 (#UD)
+abbrev pub is_system_call : Parts → Bool
+is_system_call p = p.opcode == 0x05 && not p.prefixes.lock
+
+-- after F2 or F3 no copy is taken of it
 abbrev pub is_repeated_syscall : Parts → Bool
 is_repeated_syscall p = p.opcode == 0x05 && (p.prefixes.repne || p.prefixes.rep)
 
--- the same of the opcodes after 0F, of which 05 is SYSCALL; after F2 or F3 no copy is taken of it
+-- the same of the opcodes after 0F, of which 05 is SYSCALL
 abbrev pub asked_two : Parts → Template
-asked_two p = Asked (p.opcode == 0x05 && not (repeats p)) (not (among (0x00 ∷ 0x01 ∷ 0xae ∷ 0xc7 ∷ []) p.opcode || is_repeated_syscall p))
+asked_two p = Asked (is_system_call p) (not (among (0x00 ∷ 0x01 ∷ 0xae ∷ 0xc7 ∷ []) p.opcode || is_repeated_syscall p))
 
 -- with F0, F2 or F3 an instruction is asked, or one of the two that do nothing; without, it is exact or else asked
 abbrev pub exact_or_asked : Bool → Bool → Option Template → Template → Template

@@ -77,6 +77,12 @@ fn asked_one(parts: &Parts) -> Template
     }
 }
 
+fn is_system_call(parts: &Parts) -> bool
+    ensures { result ≡ classes.is_system_call parts.now }
+{
+    parts.opcode == 0x05 && !parts.prefixes.lock
+}
+
 fn is_repeated_syscall(parts: &Parts) -> bool
     ensures { result ≡ classes.is_repeated_syscall parts.now }
 {
@@ -87,7 +93,7 @@ fn asked_two(parts: &Parts) -> Template
     ensures { result ≡ classes.asked_two parts.now }
 {
     Template::Asked {
-        syscall: parts.opcode == 0x05 && !repeats(parts),
+        syscall: is_system_call(parts),
         copied: !(matches!(parts.opcode, 0x00 | 0x01 | 0xae | 0xc7) || is_repeated_syscall(parts)),
     }
 }

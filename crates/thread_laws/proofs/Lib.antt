@@ -1,6 +1,7 @@
 pub mod WatchedDeliveredRuns
 pub mod WaitingThreads
 pub mod OvertakenThreads
+pub mod RunsGoOn
 pub mod WorkedImages
 pub mod WorkedBirth
 pub mod WorkedSteps

@@ -1,36 +1,35 @@
 -- Threads that others overtook inside a trampoline get out, too.
-use Rattle.std.proofs.Common.{◌≡◌, ◌⊎◌, inl, inr, ℕ, suc, ◌+◌, ◌*◌, ◌≤◌, Bool, true, false, ◌&&◌, cond, eqb, List, [], ◌∷◌, ◌++◌, length, Some, None, refl, sym, ap, ◌∙◌, subst, arith}
+use Rattle.std.proofs.Common.{◌≡◌, inl, inr, ℕ, ◌+◌, ◌*◌, ◌≤◌, true, ◌&&◌, cond, eqb, List, [], ◌∷◌, ◌++◌, length, Some, sym, ap, ◌∙◌, subst, arith}
 use Rattle.std.specs.Prelude.{Contains, slice_get}
 use Rattle.std.proofs.lemmas.Bool.{and_from, eq-eqb}
 use Rattle.pun_base.specs.declared.action.Comparison.{Comparison}
 use Rattle.length_decode.specs.Spelling.{Fields, spelling}
 use Rattle.cpu_state.specs.Bytes.{Stands}
 use Rattle.insn_form.specs.Machine.{Machine}
-use Rattle.insn_form.specs.Step.{IsAt}
 use Rattle.insn_form.proofs.UniqueSteps.{one_instruction}
 use Rattle.relocate_insn.proofs.FixedCode.{fixed_stands, fixed_on}
 use Rattle.start_entries.specs.Standing.{AreEntries}
 use Rattle.patch_report.proofs.ListPlaces.{any_at, contains_at, place_of}
 use Rattle.thread_runs.specs.ThreadCode.{is_saving}
-use Rattle.event_steps.specs.ThreadSteps.{ThreadStep}
 use Rattle.thread_runs.specs.Work.{Tail, left, InTail}
 use Rattle.thread_runs.specs.Work.Tail.{Out, Back, Jump, Ecx}
-use Rattle.thread_runs.specs.Guest.{Thread, Guest, machine_of, thread_of, last_guest}
+use Rattle.thread_runs.specs.Guest.{Guest, machine_of, thread_of, last_guest}
 use Rattle.thread_runs.specs.Threading.{ThreadSite, Threading, next_of, work_at, is_keeping, saves_at, is_saved_by, IsThreadSound}
 use Rattle.thread_runs.specs.Watching.{Watched, Watch}
-use Rattle.thread_runs.specs.Premises.{reads_nothing_of}
-use Rattle.thread_runs.specs.Relation.{AtSecond, AtEvent, AtRing, BehindEffect}
+use Rattle.thread_runs.specs.Premises.{StandAtStarts, reads_nothing_of}
+use Rattle.thread_runs.specs.Relation.{BehindEffect}
 use Rattle.thread_runs.specs.Theorem.{when_at, further_at}
 use Rattle.thread_runs.specs.GuestDeliveries.{GuestItem}
-use Rattle.thread_runs.specs.WatchedDeliveries.{WatchWith, watch_with, last_with}
+use Rattle.thread_runs.specs.WatchedDeliveries.{watch_with, last_with}
 use Rattle.thread_runs.proofs.AllStepLaws.{step_laws}
 use Rattle.thread_runs.proofs.ThreadPlaces.{when_here, further_here}
 use Rattle.thread_runs.proofs.StandingCode.{fields_of, site_stands}
 use Rattle.thread_runs.proofs.WatchedSteps.{started}
 use Rattle.thread_runs.proofs.WatchedRelation.{Ground, Related, base_of}
-use Rattle.thread_runs.proofs.WayOut.{GoesOut, tail_out, event_goes, ring_goes, second_goes, runs_same}
+use Rattle.thread_runs.proofs.WayOut.{GoesOut, tail_out, event_goes, ring_goes, second_goes, all_stand, runs_same}
 use Rattle.thread_runs.proofs.ThreadsTheorem.{begun, along}
-use Rattle.thread_laws.specs.Overtaken.{IsBefore, CanGoOn, GetsOutFrom, LeavesBehind, OvertakenThreadsGetOut}
+use Rattle.thread_laws.specs.Overtaken.{IsBefore, CanGoOn, GetsOutFrom, LeavesBehind, LeavesTrampoline, OvertakenGetOut, OvertakenThreadsGetOut}
+use Rattle.thread_laws.proofs.WaitingThreads.{shown_at_last}
 
 -- at most two steps are left after an effect step
 two : (t : Tail) → left t ≤ 2
@@ -43,6 +42,9 @@ module _ (r : Threading) (A : AreEntries r.original r.listed) (S : IsThreadSound
     (R : Related r S a made w) (e : slice_get w.threads k ≡ Some one) where
   ground : Ground r S R.end.mem w.stale w.mem one
   ground = base_of r S a made w R k one e
+
+  stand : StandAtStarts r w.threads
+  stand = all_stand r A S step_laws k a made w R
 
   module _ (C : CanGoOn r w one R.end) (site : ThreadSite) (listed : Contains r.sites site) (at : one.projected.rip ≡ site.entry.addr) where
     -- the original's state before the step
@@ -80,7 +82,7 @@ module _ (r : Threading) (A : AreEntries r.original r.listed) (S : IsThreadSound
         let further : further_at r.sites one.projected.rip ≡ cond (is_keeping site.event) 5 0 = further_here one.projected.rip site r.sites (λ j t h e'. S.once t site (contains_at r.sites j t h) listed (e' ∙ at)) i.0 i.1 (sym at) in
         let z = ap (λ (l : List Comparison). length l) when in
         let b = g.bound in
-        record { few = g.few; bound = omega (arith, b, z, further); states = g.states; run = g.run; there = g.there; outside = C.ends; memory = g.memory; effect = g.effect }
+        record { few = g.few; bound = omega (arith, b, z, further); states = g.states; run = g.run; proper = g.proper stand; there = g.there; outside = C.ends; memory = g.memory; effect = g.effect }
 
   -- a thread in front of its effect step
   before : IsBefore r w.mem one → (C : CanGoOn r w one R.end) → GetsOutFrom r k w one C.to
@@ -105,13 +107,19 @@ module _ (r : Threading) (A : AreEntries r.original r.listed) (S : IsThreadSound
       let f : x.whole.fields ≡ K.fields = one_instruction m x.whole.fields K.fields (record { spelled = x.whole.spelled; here = x.whole.stands }) (record { spelled = K.spelled; here = K.stands }) in
       let there = subst (λ (z : Fields). InTail z (next_of x.site) (work_at x.site) x.tail one.projected.core one.projected.rip (machine_of w.mem one.now)) f x.there in
       let g = tail_out r A S step_laws k x.site x.listed 2 R.end.mem w one x.tail (two x.tail) e ground there x.world in
-      record { few = g.few; bound = g.bound; states = g.states; run = g.run; there = g.there; outside = ground.kept.start; memory = g.memory; effect = g.effect }
+      record { few = g.few; bound = g.bound; states = g.states; run = g.run; proper = g.proper stand; there = g.there; outside = ground.kept.start; memory = g.memory; effect = g.effect }
 
 -- in each state that a proper run reaches
-pub overtaken_get_out : OvertakenThreadsGetOut
-overtaken_get_out r A S a b is xs G P f k one e =
+out_with : (r : Threading) → AreEntries r.original r.listed → IsThreadSound r → OvertakenGetOut r
+out_with r A S a b is xs G P f k one e =
     let x = last_with (watch_with b) xs in
     let R : Related r S a x.made x.watch = (along r A S step_laws a is (watch_with b) xs (started r A S step_laws a b G (begun r is (watch_with b) xs P)) P).1 in
     let same : last_guest a f.states ≡ R.end = ap (last_guest a) (runs_same r.listed x.made a f.states R.states f.run R.run) ∙ R.last in
-    subst (λ (g : Guest). (IsBefore r x.watch.mem one → (c : CanGoOn r x.watch one g) → GetsOutFrom r k x.watch one c.to) × (BehindEffect r x.watch.mem one.now one.projected → LeavesBehind r k x.watch one g)) (sym same)
-    (before r A S k a x.made x.watch one R e, behind r A S k a x.made x.watch one R e)
+    subst (λ (g : Guest). LeavesTrampoline r k x.watch one g) (sym same) (before r A S k a x.made x.watch one R e, behind r A S k a x.made x.watch one R e)
+
+-- in each state that a run reaches in which threads begin, too
+pub overtaken_get_out : OvertakenThreadsGetOut
+overtaken_get_out r A S = (
+  out_with r A S,
+  λ a b is xs G E P. shown_at_last r A S E a b G is xs P (λ w g. (k : ℕ) (one : Watched) → slice_get w.threads k ≡ Some one → LeavesTrampoline r k w one g) (out_with r A S),
+)

@@ -582,17 +582,18 @@ module _ (r : Threading) (A : AreEntries r.original r.listed) (S : IsThreadSound
           let back = run_back r some last.made a f.states own_some ends.0 f.run in
           (record { states = back.0; run = back.1; beside = subst (λ (g : Guest). LiesBeside r g last.watch) back.2 f.beside }, q.1, q.2, q.3)
 
-      -- a thread gets out
-      out_at_last : (f : IsGrowingFollowed r a last) (k : ℕ) (one : Watched) → slice_get last.watch.threads k ≡ Some one → (c : CanGo r last.watch one (last_guest a f.states)) → GetsOut r k last.watch one c.to
-      out_at_last f k one e c =
+      -- what each run with deliveries shows where it ends, of the watched guest and the original's, this run shows
+      pub shown_at_last : (Q : Watch → Guest → Type 0)
+          → ((a' b' : Guest) (js : List GuestItem) (ys : List WatchWith) → AreStartGuests r a' b' → IsProperRunWith r js (watch_with b') ys
+          → (f : IsGuestFollowedWith r a' (last_with (watch_with b') ys)) → Q (last_with (watch_with b') ys).watch (last_guest a' f.states))
+          → (f : IsGrowingFollowed r a last) → Q last.watch (last_guest a f.states)
+      shown_at_last Q H f =
           let on = run_on r some last.made a f.states E own_some f.run in
           let g : IsGuestFollowedWith r (padded r a (begun last.made)) plain_last = record { states = on.0; run = on.1; beside = subst (λ (g : Guest). LiesBeside r g last.watch) (sym on.2) f.beside } in
-          let H = subst (λ (z : WatchWith). (f : IsGuestFollowedWith r (padded r a ts) z) (k : ℕ) (one : Watched) → slice_get z.watch.threads k ≡ Some one
-          → (c : CanGo r z.watch one (last_guest (padded r a ts) f.states)) → GetsOut r k z.watch one c.to) last_is
-          ((threads_followed_with r A S).1 (padded r a ts) (padded r b ts) (reduced some is) (padded_run r some is xs) guests proper) in
-          let J = subst (λ (z : List Thread). (f : IsGuestFollowedWith r (padded r a z) plain_last) (k : ℕ) (one : Watched) → slice_get last.watch.threads k ≡ Some one
-          → (c : CanGo r last.watch one (last_guest (padded r a z) f.states)) → GetsOut r k last.watch one c.to) (sym ends.1) H in
-          subst (λ (g : Guest). (c : CanGo r last.watch one g) → GetsOut r k last.watch one c.to) on.2 (J g k one e) c
+          let J = subst (λ (z : WatchWith). (f : IsGuestFollowedWith r (padded r a ts) z) → Q z.watch (last_guest (padded r a ts) f.states)) last_is
+          (H (padded r a ts) (padded r b ts) (reduced some is) (padded_run r some is xs) guests proper) in
+          let I = subst (λ (z : List Thread). (f : IsGuestFollowedWith r (padded r a z) plain_last) → Q last.watch (last_guest (padded r a z) f.states)) (sym ends.1) J in
+          subst (λ (g : Guest). Q last.watch g) on.2 (I g)
 
       -- what clone makes of a thread can begin
       clone_at_last : (k : ℕ) (parent : Watched) → slice_get last.watch.threads k ≡ Some parent → is_start r.listed parent.now.rip ≡ true
@@ -630,6 +631,7 @@ module _ (r : Threading) (A : AreEntries r.original r.listed) (S : IsThreadSound
 pub threads_may_begin : ThreadsMayBegin
 threads_may_begin r A S = (
   λ a b is xs G E P. each_moment r A S E a b G [] [] (growing_watch b) is xs (stand_of r A S E is (growing_watch b) xs P) refl P,
-  λ a b is xs G E P. out_at_last r A S E a b G is xs P,
+  λ a b is xs G E P. shown_at_last r A S E a b G is xs P (λ w g. (k : ℕ) (one : Watched) → slice_get w.threads k ≡ Some one → (c : CanGo r w one g) → GetsOut r k w one c.to)
+      (threads_followed_with r A S).1,
   λ a b is xs G E P. clone_at_last r A S E a b G is xs P,
 )

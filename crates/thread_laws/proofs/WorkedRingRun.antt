@@ -1,5 +1,5 @@
 -- The worked run that keeps a ring meets the premises of the theorem.
-use Rattle.std.proofs.Common.{◌≡◌, ℕ, true, false, List, [], ◌∷◌, Some, refl, sym, ap, subst, arith}
+use Rattle.std.proofs.Common.{◌≡◌, true, false, List, [], ◌∷◌, Some, refl, sym, ap, subst, arith}
 use Rattle.std.specs.Int.Count.{ones}
 use Rattle.std.proofs.lemmas.Bool.{false≢true, true≢false}
 use Rattle.pun_base.specs.Memory.{Bytes, joined}
@@ -7,30 +7,25 @@ use Rattle.cpu_alu.specs.Sums.{total, carries, overflows}
 use Rattle.cpu_alu.specs.Widths.{signed}
 use Rattle.cpu_alu.specs.Outcome.{is_even}
 use Rattle.cpu_alu.specs.declared.flag_word.Flags.{Flags}
-use Rattle.length_decode.specs.Spelling.{Fields}
 use Rattle.cpu_state.specs.Bytes.{put_list}
 use Rattle.insn_form.specs.Classes.{template}
 use Rattle.insn_form.specs.Filling.{filled}
 use Rattle.insn_form.specs.Conditions.{is_met}
 use Rattle.insn_form.specs.Meaning.{effect}
-use Rattle.insn_form.specs.Machine.{leaves}
-use Rattle.insn_form.specs.Step.{next_after}
 use Rattle.insn_form.specs.Moved.{rel_bytes}
-use Rattle.insn_form.specs.Runs.{nowhere}
 use Rattle.relocate_insn.proofs.PieceSteps.{jump_fields, jump_is}
 use Rattle.trampoline.specs.Worked.{jump_to_itself}
 use Rattle.patch_report.proofs.ListPlaces.{some_is}
 use Rattle.sound_images.proofs.WorkedImage.{only, spread_out}
 use Rattle.thread_runs.specs.ThreadCode.{Keeps, code_if}
-use Rattle.event_steps.specs.ThreadSteps.{thread_task}
 use Rattle.thread_runs.specs.Guest.{machine_of}
 use Rattle.thread_runs.specs.Threading.{is_hidden, ring_of, ThreadSite, IsRingSound, IsThreadSound}
-use Rattle.thread_runs.specs.Watching.{Watched, EffectStep, Claim, Fill, Watch, stale_after}
+use Rattle.thread_runs.specs.Watching.{EffectStep, Claim, Fill, Watch}
 use Rattle.thread_runs.specs.Premises.{IsProperRun}
-use Rattle.thread_laws.specs.WorkedGuest.{text, patched_image, site_with, stacks, flags, core_of}
-use Rattle.thread_laws.specs.WorkedRuns.{thread_with, ring_code, keeping, RingIsReal}
+use Rattle.thread_laws.specs.WorkedGuest.{text, patched_image, site_with, stacks, flags}
+use Rattle.thread_laws.specs.WorkedRuns.{step_of, ring_code, keeping, RingIsReal}
 use Rattle.thread_laws.proofs.WorkedImages.{own_jump, are_entries, sound, in_private, guests_started}
-use Rattle.thread_laws.proofs.WorkedSteps.{add_flag, add_flag_is, claim, claim_is, fill, fill_is, lahf, lahf_is, load_flags, load_flags_is, load_rax, load_rax_is, one, one_is, reduce, reduce_is, sahf, sahf_is, save_flags, save_flags_is, save_rax, save_rax_is, seto, seto_is, Proper, beside}
+use Rattle.thread_laws.proofs.WorkedSteps.{add_flag, add_flag_is, claim, claim_is, fill, fill_is, lahf, lahf_is, load_flags, load_flags_is, load_rax, load_rax_is, one, one_is, reduce, reduce_is, sahf, sahf_is, save_flags, save_flags_is, save_rax, save_rax_is, seto, seto_is, outside, running, both_outside, behind, quiet_jump, Proper, first_steps, second_steps}
 
 -- the code is that of the trampoline
 code_is : code_if (Some (Keeps 256)) [] 0x20000 0 jump_to_itself 0x401004 0x2401007 ≡ ring_code
@@ -83,23 +78,11 @@ mem6 = put_list mem5 0x20040 (0x02 ∷ 0x00 ∷ 0x00 ∷ 0x00 ∷ [])
 abbrev mem7 : Bytes
 mem7 = put_list mem6 0x20048 (0x01 ∷ 0x00 ∷ 0x00 ∷ 0x00 ∷ [])
 
--- a thread that counts as itself
-abbrev outside : ℕ → ℕ → Watched
-outside rcx rsp = record { now = thread_with rcx rsp; projected = thread_with rcx rsp }
-
--- a thread in the trampoline
-abbrev running : ℕ → ℕ → ℕ → Flags → ℕ → Watched
-running rax rcx rsp f rip = record { now = record { core = core_of rax rcx rsp f; rip = rip; world = [] }; projected = thread_with rcx rsp }
-
--- the watched guest after a step of a thread
-abbrev behind : Watch → Watched → Fields → List Watched → Bytes → List EffectStep → List Claim → List Fill → Watch
-behind w one f ts m log cs fs = record { threads = ts; mem = m; stale = stale_after keeping w.stale one f (machine_of w.mem one.now); log = log; claims = cs; fills = fs }
-
 abbrev log0 : List EffectStep
 log0 = []
 
 abbrev log1 : List EffectStep
-log1 = record { thread = 1; at = 0x401002; core = core_of 7 0x6 0x601800 flags } ∷ []
+log1 = step_of 1 0x6 0x601800 ∷ []
 
 abbrev claims0 : List Claim
 claims0 = []
@@ -117,516 +100,217 @@ abbrev fills1 : List Fill
 fills1 = record { claim = 1; claimed = 2 } ∷ []
 
 abbrev w0 : Watch
-w0 = record { threads = (outside 5 0x601000) ∷ (outside 6 0x601800) ∷ []; mem = mem0; stale = nowhere; log = []; claims = []; fills = [] }
+w0 = both_outside mem0
 
 abbrev w1 : Watch
-w1 = behind w0 (outside 0x5 0x601000) (jump_fields (rel_bytes 0x401007 0x2401007)) ((running 0x7 0x5 0x601000 flags 0x2401007) ∷ (outside 0x6 0x601800) ∷ []) mem0 log0 claims0 fills0
+w1 = behind keeping w0 (outside 0x5 0x601000) (jump_fields (rel_bytes 0x401007 0x2401007)) ((running 0x7 0x5 0x601000 flags 0x2401007) ∷ (outside 0x6 0x601800) ∷ []) mem0 log0 claims0 fills0
 
 abbrev w2 : Watch
-w2 = behind w1 (running 0x7 0x5 0x601000 flags 0x2401007) save_rax ((running 0x7 0x5 0x601000 flags 0x240100f) ∷ (outside 0x6 0x601800) ∷ []) mem1 log0 claims0 fills0
+w2 = behind keeping w1 (running 0x7 0x5 0x601000 flags 0x2401007) save_rax ((running 0x7 0x5 0x601000 flags 0x240100f) ∷ (outside 0x6 0x601800) ∷ []) mem1 log0 claims0 fills0
 
 abbrev w3 : Watch
-w3 = behind w2 (running 0x7 0x5 0x601000 flags 0x240100f) lahf ((running 0x4307 0x5 0x601000 flags 0x2401010) ∷ (outside 0x6 0x601800) ∷ []) mem1 log0 claims0 fills0
+w3 = behind keeping w2 (running 0x7 0x5 0x601000 flags 0x240100f) lahf ((running 0x4307 0x5 0x601000 flags 0x2401010) ∷ (outside 0x6 0x601800) ∷ []) mem1 log0 claims0 fills0
 
 abbrev w4 : Watch
-w4 = behind w3 (running 0x4307 0x5 0x601000 flags 0x2401010) seto ((running 0x4301 0x5 0x601000 flags 0x2401013) ∷ (outside 0x6 0x601800) ∷ []) mem1 log0 claims0 fills0
+w4 = behind keeping w3 (running 0x4307 0x5 0x601000 flags 0x2401010) seto ((running 0x4301 0x5 0x601000 flags 0x2401013) ∷ (outside 0x6 0x601800) ∷ []) mem1 log0 claims0 fills0
 
 abbrev w5 : Watch
-w5 = behind w4 (running 0x4301 0x5 0x601000 flags 0x2401013) save_flags ((running 0x4301 0x5 0x601000 flags 0x240101b) ∷ (outside 0x6 0x601800) ∷ []) mem2 log0 claims0 fills0
+w5 = behind keeping w4 (running 0x4301 0x5 0x601000 flags 0x2401013) save_flags ((running 0x4301 0x5 0x601000 flags 0x240101b) ∷ (outside 0x6 0x601800) ∷ []) mem2 log0 claims0 fills0
 
 abbrev w6 : Watch
-w6 = behind w5 (running 0x4301 0x5 0x601000 flags 0x240101b) one ((running 0x1 0x5 0x601000 flags 0x2401020) ∷ (outside 0x6 0x601800) ∷ []) mem2 log0 claims0 fills0
+w6 = behind keeping w5 (running 0x4301 0x5 0x601000 flags 0x240101b) one ((running 0x1 0x5 0x601000 flags 0x2401020) ∷ (outside 0x6 0x601800) ∷ []) mem2 log0 claims0 fills0
 
 abbrev w7 : Watch
-w7 = behind w6 (running 0x1 0x5 0x601000 flags 0x2401020) claim ((running 0x0 0x5 0x601000 flags1 0x2401029) ∷ (outside 0x6 0x601800) ∷ []) mem3 log0 claims1 fills0
+w7 = behind keeping w6 (running 0x1 0x5 0x601000 flags 0x2401020) claim ((running 0x0 0x5 0x601000 flags1 0x2401029) ∷ (outside 0x6 0x601800) ∷ []) mem3 log0 claims1 fills0
 
 abbrev w8 : Watch
-w8 = behind w7 (outside 0x6 0x601800) (jump_fields (rel_bytes 0x401007 0x2401007)) ((running 0x0 0x5 0x601000 flags1 0x2401029) ∷ (running 0x7 0x6 0x601800 flags 0x2401007) ∷ []) mem3 log0 claims1 fills0
+w8 = behind keeping w7 (outside 0x6 0x601800) (jump_fields (rel_bytes 0x401007 0x2401007)) ((running 0x0 0x5 0x601000 flags1 0x2401029) ∷ (running 0x7 0x6 0x601800 flags 0x2401007) ∷ []) mem3 log0 claims1 fills0
 
 abbrev w9 : Watch
-w9 = behind w8 (running 0x7 0x6 0x601800 flags 0x2401007) save_rax ((running 0x0 0x5 0x601000 flags1 0x2401029) ∷ (running 0x7 0x6 0x601800 flags 0x240100f) ∷ []) mem4 log0 claims1 fills0
+w9 = behind keeping w8 (running 0x7 0x6 0x601800 flags 0x2401007) save_rax ((running 0x0 0x5 0x601000 flags1 0x2401029) ∷ (running 0x7 0x6 0x601800 flags 0x240100f) ∷ []) mem4 log0 claims1 fills0
 
 abbrev w10 : Watch
-w10 = behind w9 (running 0x7 0x6 0x601800 flags 0x240100f) lahf ((running 0x0 0x5 0x601000 flags1 0x2401029) ∷ (running 0x4307 0x6 0x601800 flags 0x2401010) ∷ []) mem4 log0 claims1 fills0
+w10 = behind keeping w9 (running 0x7 0x6 0x601800 flags 0x240100f) lahf ((running 0x0 0x5 0x601000 flags1 0x2401029) ∷ (running 0x4307 0x6 0x601800 flags 0x2401010) ∷ []) mem4 log0 claims1 fills0
 
 abbrev w11 : Watch
-w11 = behind w10 (running 0x4307 0x6 0x601800 flags 0x2401010) seto ((running 0x0 0x5 0x601000 flags1 0x2401029) ∷ (running 0x4301 0x6 0x601800 flags 0x2401013) ∷ []) mem4 log0 claims1 fills0
+w11 = behind keeping w10 (running 0x4307 0x6 0x601800 flags 0x2401010) seto ((running 0x0 0x5 0x601000 flags1 0x2401029) ∷ (running 0x4301 0x6 0x601800 flags 0x2401013) ∷ []) mem4 log0 claims1 fills0
 
 abbrev w12 : Watch
-w12 = behind w11 (running 0x4301 0x6 0x601800 flags 0x2401013) save_flags ((running 0x0 0x5 0x601000 flags1 0x2401029) ∷ (running 0x4301 0x6 0x601800 flags 0x240101b) ∷ []) mem5 log0 claims1 fills0
+w12 = behind keeping w11 (running 0x4301 0x6 0x601800 flags 0x2401013) save_flags ((running 0x0 0x5 0x601000 flags1 0x2401029) ∷ (running 0x4301 0x6 0x601800 flags 0x240101b) ∷ []) mem5 log0 claims1 fills0
 
 abbrev w13 : Watch
-w13 = behind w12 (running 0x4301 0x6 0x601800 flags 0x240101b) one ((running 0x0 0x5 0x601000 flags1 0x2401029) ∷ (running 0x1 0x6 0x601800 flags 0x2401020) ∷ []) mem5 log0 claims1 fills0
+w13 = behind keeping w12 (running 0x4301 0x6 0x601800 flags 0x240101b) one ((running 0x0 0x5 0x601000 flags1 0x2401029) ∷ (running 0x1 0x6 0x601800 flags 0x2401020) ∷ []) mem5 log0 claims1 fills0
 
 abbrev w14 : Watch
-w14 = behind w13 (running 0x1 0x6 0x601800 flags 0x2401020) claim ((running 0x0 0x5 0x601000 flags1 0x2401029) ∷ (running 0x1 0x6 0x601800 flags1 0x2401029) ∷ []) mem6 log0 claims2 fills0
+w14 = behind keeping w13 (running 0x1 0x6 0x601800 flags 0x2401020) claim ((running 0x0 0x5 0x601000 flags1 0x2401029) ∷ (running 0x1 0x6 0x601800 flags1 0x2401029) ∷ []) mem6 log0 claims2 fills0
 
 abbrev w15 : Watch
-w15 = behind w14 (running 0x1 0x6 0x601800 flags1 0x2401029) reduce ((running 0x0 0x5 0x601000 flags1 0x2401029) ∷ (running 0x1 0x6 0x601800 flags1 0x240102c) ∷ []) mem6 log0 claims2 fills0
+w15 = behind keeping w14 (running 0x1 0x6 0x601800 flags1 0x2401029) reduce ((running 0x0 0x5 0x601000 flags1 0x2401029) ∷ (running 0x1 0x6 0x601800 flags1 0x240102c) ∷ []) mem6 log0 claims2 fills0
 
 abbrev w16 : Watch
-w16 = behind w15 (running 0x1 0x6 0x601800 flags1 0x240102c) fill ((running 0x0 0x5 0x601000 flags1 0x2401029) ∷ (running 0x1 0x6 0x601800 flags1 0x2401037) ∷ []) mem7 log0 claims2 fills1
+w16 = behind keeping w15 (running 0x1 0x6 0x601800 flags1 0x240102c) fill ((running 0x0 0x5 0x601000 flags1 0x2401029) ∷ (running 0x1 0x6 0x601800 flags1 0x2401037) ∷ []) mem7 log0 claims2 fills1
 
 abbrev w17 : Watch
-w17 = behind w16 (running 0x1 0x6 0x601800 flags1 0x2401037) load_flags ((running 0x0 0x5 0x601000 flags1 0x2401029) ∷ (running 0x4301 0x6 0x601800 flags1 0x240103f) ∷ []) mem7 log0 claims2 fills1
+w17 = behind keeping w16 (running 0x1 0x6 0x601800 flags1 0x2401037) load_flags ((running 0x0 0x5 0x601000 flags1 0x2401029) ∷ (running 0x4301 0x6 0x601800 flags1 0x240103f) ∷ []) mem7 log0 claims2 fills1
 
 abbrev w18 : Watch
-w18 = behind w17 (running 0x4301 0x6 0x601800 flags1 0x240103f) add_flag ((running 0x0 0x5 0x601000 flags1 0x2401029) ∷ (running 0x4380 0x6 0x601800 flags2 0x2401041) ∷ []) mem7 log0 claims2 fills1
+w18 = behind keeping w17 (running 0x4301 0x6 0x601800 flags1 0x240103f) add_flag ((running 0x0 0x5 0x601000 flags1 0x2401029) ∷ (running 0x4380 0x6 0x601800 flags2 0x2401041) ∷ []) mem7 log0 claims2 fills1
 
 abbrev w19 : Watch
-w19 = behind w18 (running 0x4380 0x6 0x601800 flags2 0x2401041) sahf ((running 0x0 0x5 0x601000 flags1 0x2401029) ∷ (running 0x4380 0x6 0x601800 flags 0x2401042) ∷ []) mem7 log0 claims2 fills1
+w19 = behind keeping w18 (running 0x4380 0x6 0x601800 flags2 0x2401041) sahf ((running 0x0 0x5 0x601000 flags1 0x2401029) ∷ (running 0x4380 0x6 0x601800 flags 0x2401042) ∷ []) mem7 log0 claims2 fills1
 
 abbrev w20 : Watch
-w20 = behind w19 (running 0x4380 0x6 0x601800 flags 0x2401042) load_rax ((running 0x0 0x5 0x601000 flags1 0x2401029) ∷ (running 0x7 0x6 0x601800 flags 0x240104a) ∷ []) mem7 log0 claims2 fills1
+w20 = behind keeping w19 (running 0x4380 0x6 0x601800 flags 0x2401042) load_rax ((running 0x0 0x5 0x601000 flags1 0x2401029) ∷ (running 0x7 0x6 0x601800 flags 0x240104a) ∷ []) mem7 log0 claims2 fills1
 
 abbrev w21 : Watch
-w21 = behind w20 (running 0x7 0x6 0x601800 flags 0x240104a) (jump_fields (rel_bytes 0x240104f 0x401002)) ((running 0x0 0x5 0x601000 flags1 0x2401029) ∷ (outside 0x6 0x601800) ∷ []) mem7 log1 claims2 fills1
-
--- the jump to itself touches no hidden byte
-quiet_jump : (m : Bytes) (rcx rsp : ℕ) (f : Fields) → jump_to_itself ≡ f → leaves (is_hidden keeping) (thread_task f (next_after 0x401002 f)) (next_after 0x401002 f) (machine_of m (thread_with rcx rsp)) ≡ true
-unfolding template filled effect
-quiet_jump m rcx rsp f e = subst (λ g. leaves (is_hidden keeping) (thread_task g (next_after 0x401002 g)) (next_after 0x401002 g) (machine_of m (thread_with rcx rsp)) ≡ true) e refl
+w21 = behind keeping w20 (running 0x7 0x6 0x601800 flags 0x240104a) (jump_fields (rel_bytes 0x240104f 0x401002)) ((running 0x0 0x5 0x601000 flags1 0x2401029) ∷ (outside 0x6 0x601800) ∷ []) mem7 log1 claims2 fills1
 
 -- thread 0: the jump to the trampoline
 step0 : Proper keeping 0 w0 w1
 unfolding template filled effect total carries overflows signed is_even ones is_met
-step0 = (
-  record {
-    one = outside 0x5 0x601000;
-    there = refl;
-    fields = jump_fields (rel_bytes 0x401007 0x2401007);
-    to = machine_of mem0 (running 0x7 0x5 0x601000 flags 0x2401007).now;
-    steps = record { at = record { spelled = jump_is _ _ _ _; here = (refl, refl, (refl, refl, (refl, refl, (refl, refl, (refl, refl, tt))))) }; acts = refl };
-    after = refl;
-  },
-  record {
-    quiet = λ h. absurd (false≢true h);
-    stand = (refl, (refl, tt));
-    fresh = λ h. refl;
-    saved = λ h. absurd (false≢true h);
-    apart = beside keeping (outside 0x5 0x601000) (outside 0x6 0x601800) 0 (jump_fields (rel_bytes 0x401007 0x2401007)) (machine_of mem0 (outside 0x5 0x601000).now) (λ n h. absurd (n refl)) (λ n h. refl);
-  },
-)
+step0 =
+    first_steps keeping w0 w1 (jump_fields (rel_bytes 0x401007 0x2401007)) (machine_of mem0 (running 0x7 0x5 0x601000 flags 0x2401007).now) (outside 0x5 0x601000) (outside 0x6 0x601800) refl (jump_is _ _ _ _) (refl, refl, (refl, refl, (refl, refl, (refl, refl, (refl, refl, tt))))) refl refl
+    (λ h. absurd (false≢true h)) (refl, (refl, tt)) (λ h. refl) (λ h. absurd (false≢true h)) (λ h. refl)
 
 -- thread 0: MOV [rsp - 136], rax
 step1 : Proper keeping 0 w1 w2
 unfolding template filled effect total carries overflows signed is_even ones is_met
-step1 = (
-  record {
-    one = running 0x7 0x5 0x601000 flags 0x2401007;
-    there = refl;
-    fields = save_rax;
-    to = machine_of mem1 (running 0x7 0x5 0x601000 flags 0x240100f).now;
-    steps = record { at = record { spelled = save_rax_is; here = (refl, refl, (refl, refl, (refl, refl, (refl, refl, (refl, refl, (refl, refl, (refl, refl, (refl, refl, tt)))))))) }; acts = refl };
-    after = refl;
-  },
-  record {
-    quiet = λ h. absurd (false≢true h);
-    stand = (refl, (refl, tt));
-    fresh = λ h. absurd (true≢false h);
-    saved = λ h. refl;
-    apart = beside keeping (running 0x7 0x5 0x601000 flags 0x2401007) (outside 0x6 0x601800) 0 save_rax (machine_of mem0 (running 0x7 0x5 0x601000 flags 0x2401007).now) (λ n h. absurd (n refl)) (λ n h. refl);
-  },
-)
+step1 =
+    first_steps keeping w1 w2 save_rax (machine_of mem1 (running 0x7 0x5 0x601000 flags 0x240100f).now) (running 0x7 0x5 0x601000 flags 0x2401007) (outside 0x6 0x601800) refl save_rax_is (refl, refl, (refl, refl, (refl, refl, (refl, refl, (refl, refl, (refl, refl, (refl, refl, (refl, refl, tt)))))))) refl refl
+    (λ h. absurd (false≢true h)) (refl, (refl, tt)) (λ h. absurd (true≢false h)) (λ h. refl) (λ h. refl)
 
 -- thread 0: LAHF
 step2 : Proper keeping 0 w2 w3
 unfolding template filled effect total carries overflows signed is_even ones is_met
-step2 = (
-  record {
-    one = running 0x7 0x5 0x601000 flags 0x240100f;
-    there = refl;
-    fields = lahf;
-    to = machine_of mem1 (running 0x4307 0x5 0x601000 flags 0x2401010).now;
-    steps = record { at = record { spelled = lahf_is; here = (refl, refl, tt) }; acts = refl };
-    after = refl;
-  },
-  record {
-    quiet = λ h. absurd (false≢true h);
-    stand = (refl, (refl, tt));
-    fresh = λ h. absurd (true≢false h);
-    saved = λ h. refl;
-    apart = beside keeping (running 0x7 0x5 0x601000 flags 0x240100f) (outside 0x6 0x601800) 0 lahf (machine_of mem1 (running 0x7 0x5 0x601000 flags 0x240100f).now) (λ n h. absurd (n refl)) (λ n h. refl);
-  },
-)
+step2 =
+    first_steps keeping w2 w3 lahf (machine_of mem1 (running 0x4307 0x5 0x601000 flags 0x2401010).now) (running 0x7 0x5 0x601000 flags 0x240100f) (outside 0x6 0x601800) refl lahf_is (refl, refl, tt) refl refl
+    (λ h. absurd (false≢true h)) (refl, (refl, tt)) (λ h. absurd (true≢false h)) (λ h. refl) (λ h. refl)
 
 -- thread 0: SETO al
 step3 : Proper keeping 0 w3 w4
 unfolding template filled effect total carries overflows signed is_even ones is_met
-step3 = (
-  record {
-    one = running 0x4307 0x5 0x601000 flags 0x2401010;
-    there = refl;
-    fields = seto;
-    to = machine_of mem1 (running 0x4301 0x5 0x601000 flags 0x2401013).now;
-    steps = record { at = record { spelled = seto_is; here = (refl, refl, (refl, refl, (refl, refl, tt))) }; acts = refl };
-    after = refl;
-  },
-  record {
-    quiet = λ h. absurd (false≢true h);
-    stand = (refl, (refl, tt));
-    fresh = λ h. absurd (true≢false h);
-    saved = λ h. refl;
-    apart = beside keeping (running 0x4307 0x5 0x601000 flags 0x2401010) (outside 0x6 0x601800) 0 seto (machine_of mem1 (running 0x4307 0x5 0x601000 flags 0x2401010).now) (λ n h. absurd (n refl)) (λ n h. refl);
-  },
-)
+step3 =
+    first_steps keeping w3 w4 seto (machine_of mem1 (running 0x4301 0x5 0x601000 flags 0x2401013).now) (running 0x4307 0x5 0x601000 flags 0x2401010) (outside 0x6 0x601800) refl seto_is (refl, refl, (refl, refl, (refl, refl, tt))) refl refl
+    (λ h. absurd (false≢true h)) (refl, (refl, tt)) (λ h. absurd (true≢false h)) (λ h. refl) (λ h. refl)
 
 -- thread 0: MOV [rsp - 144], rax
 step4 : Proper keeping 0 w4 w5
 unfolding template filled effect total carries overflows signed is_even ones is_met
-step4 = (
-  record {
-    one = running 0x4301 0x5 0x601000 flags 0x2401013;
-    there = refl;
-    fields = save_flags;
-    to = machine_of mem2 (running 0x4301 0x5 0x601000 flags 0x240101b).now;
-    steps = record { at = record { spelled = save_flags_is; here = (refl, refl, (refl, refl, (refl, refl, (refl, refl, (refl, refl, (refl, refl, (refl, refl, (refl, refl, tt)))))))) }; acts = refl };
-    after = refl;
-  },
-  record {
-    quiet = λ h. absurd (false≢true h);
-    stand = (refl, (refl, tt));
-    fresh = λ h. absurd (true≢false h);
-    saved = λ h. refl;
-    apart = beside keeping (running 0x4301 0x5 0x601000 flags 0x2401013) (outside 0x6 0x601800) 0 save_flags (machine_of mem1 (running 0x4301 0x5 0x601000 flags 0x2401013).now) (λ n h. absurd (n refl)) (λ n h. refl);
-  },
-)
+step4 =
+    first_steps keeping w4 w5 save_flags (machine_of mem2 (running 0x4301 0x5 0x601000 flags 0x240101b).now) (running 0x4301 0x5 0x601000 flags 0x2401013) (outside 0x6 0x601800) refl save_flags_is (refl, refl, (refl, refl, (refl, refl, (refl, refl, (refl, refl, (refl, refl, (refl, refl, (refl, refl, tt)))))))) refl refl
+    (λ h. absurd (false≢true h)) (refl, (refl, tt)) (λ h. absurd (true≢false h)) (λ h. refl) (λ h. refl)
 
 -- thread 0: MOV eax, 1
 step5 : Proper keeping 0 w5 w6
 unfolding template filled effect total carries overflows signed is_even ones is_met
-step5 = (
-  record {
-    one = running 0x4301 0x5 0x601000 flags 0x240101b;
-    there = refl;
-    fields = one;
-    to = machine_of mem2 (running 0x1 0x5 0x601000 flags 0x2401020).now;
-    steps = record { at = record { spelled = one_is; here = (refl, refl, (refl, refl, (refl, refl, (refl, refl, (refl, refl, tt))))) }; acts = refl };
-    after = refl;
-  },
-  record {
-    quiet = λ h. absurd (false≢true h);
-    stand = (refl, (refl, tt));
-    fresh = λ h. absurd (true≢false h);
-    saved = λ h. absurd (false≢true h);
-    apart = beside keeping (running 0x4301 0x5 0x601000 flags 0x240101b) (outside 0x6 0x601800) 0 one (machine_of mem2 (running 0x4301 0x5 0x601000 flags 0x240101b).now) (λ n h. absurd (n refl)) (λ n h. refl);
-  },
-)
+step5 =
+    first_steps keeping w5 w6 one (machine_of mem2 (running 0x1 0x5 0x601000 flags 0x2401020).now) (running 0x4301 0x5 0x601000 flags 0x240101b) (outside 0x6 0x601800) refl one_is (refl, refl, (refl, refl, (refl, refl, (refl, refl, (refl, refl, tt))))) refl refl
+    (λ h. absurd (false≢true h)) (refl, (refl, tt)) (λ h. absurd (true≢false h)) (λ h. absurd (false≢true h)) (λ h. refl)
 
 -- thread 0: LOCK XADD of the four bytes at 0x20040 with eax
 step6 : Proper keeping 0 w6 w7
 unfolding template filled effect total carries overflows signed is_even ones is_met
-step6 = (
-  record {
-    one = running 0x1 0x5 0x601000 flags 0x2401020;
-    there = refl;
-    fields = claim;
-    to = machine_of mem3 (running 0x0 0x5 0x601000 flags1 0x2401029).now;
-    steps = record { at = record { spelled = claim_is; here = (refl, refl, (refl, refl, (refl, refl, (refl, refl, (refl, refl, (refl, refl, (refl, refl, (refl, refl, (refl, refl, tt))))))))) }; acts = refl };
-    after = refl;
-  },
-  record {
-    quiet = λ h. absurd (false≢true h);
-    stand = (refl, (refl, tt));
-    fresh = λ h. absurd (true≢false h);
-    saved = λ h. absurd (false≢true h);
-    apart = beside keeping (running 0x1 0x5 0x601000 flags 0x2401020) (outside 0x6 0x601800) 0 claim (machine_of mem2 (running 0x1 0x5 0x601000 flags 0x2401020).now) (λ n h. absurd (n refl)) (λ n h. refl);
-  },
-)
+step6 =
+    first_steps keeping w6 w7 claim (machine_of mem3 (running 0x0 0x5 0x601000 flags1 0x2401029).now) (running 0x1 0x5 0x601000 flags 0x2401020) (outside 0x6 0x601800) refl claim_is (refl, refl, (refl, refl, (refl, refl, (refl, refl, (refl, refl, (refl, refl, (refl, refl, (refl, refl, (refl, refl, tt))))))))) refl refl
+    (λ h. absurd (false≢true h)) (refl, (refl, tt)) (λ h. absurd (true≢false h)) (λ h. absurd (false≢true h)) (λ h. refl)
 
 -- thread 1: the jump to the trampoline
 step7 : Proper keeping 1 w7 w8
 unfolding template filled effect total carries overflows signed is_even ones is_met
-step7 = (
-  record {
-    one = outside 0x6 0x601800;
-    there = refl;
-    fields = jump_fields (rel_bytes 0x401007 0x2401007);
-    to = machine_of mem3 (running 0x7 0x6 0x601800 flags 0x2401007).now;
-    steps = record { at = record { spelled = jump_is _ _ _ _; here = (refl, refl, (refl, refl, (refl, refl, (refl, refl, (refl, refl, tt))))) }; acts = refl };
-    after = refl;
-  },
-  record {
-    quiet = λ h. absurd (false≢true h);
-    stand = (refl, (refl, tt));
-    fresh = λ h. refl;
-    saved = λ h. absurd (false≢true h);
-    apart = beside keeping (running 0x0 0x5 0x601000 flags1 0x2401029) (outside 0x6 0x601800) 1 (jump_fields (rel_bytes 0x401007 0x2401007)) (machine_of mem3 (outside 0x6 0x601800).now) (λ n h. refl) (λ n h. absurd (n refl));
-  },
-)
+step7 =
+    second_steps keeping w7 w8 (jump_fields (rel_bytes 0x401007 0x2401007)) (machine_of mem3 (running 0x7 0x6 0x601800 flags 0x2401007).now) (running 0x0 0x5 0x601000 flags1 0x2401029) (outside 0x6 0x601800) refl (jump_is _ _ _ _) (refl, refl, (refl, refl, (refl, refl, (refl, refl, (refl, refl, tt))))) refl refl
+    (λ h. absurd (false≢true h)) (refl, (refl, tt)) (λ h. refl) (λ h. absurd (false≢true h)) (λ h. refl)
 
 -- thread 1: MOV [rsp - 136], rax
 step8 : Proper keeping 1 w8 w9
 unfolding template filled effect total carries overflows signed is_even ones is_met
-step8 = (
-  record {
-    one = running 0x7 0x6 0x601800 flags 0x2401007;
-    there = refl;
-    fields = save_rax;
-    to = machine_of mem4 (running 0x7 0x6 0x601800 flags 0x240100f).now;
-    steps = record { at = record { spelled = save_rax_is; here = (refl, refl, (refl, refl, (refl, refl, (refl, refl, (refl, refl, (refl, refl, (refl, refl, (refl, refl, tt)))))))) }; acts = refl };
-    after = refl;
-  },
-  record {
-    quiet = λ h. absurd (false≢true h);
-    stand = (refl, (refl, tt));
-    fresh = λ h. absurd (true≢false h);
-    saved = λ h. refl;
-    apart = beside keeping (running 0x0 0x5 0x601000 flags1 0x2401029) (running 0x7 0x6 0x601800 flags 0x2401007) 1 save_rax (machine_of mem3 (running 0x7 0x6 0x601800 flags 0x2401007).now) (λ n h. refl) (λ n h. absurd (n refl));
-  },
-)
+step8 =
+    second_steps keeping w8 w9 save_rax (machine_of mem4 (running 0x7 0x6 0x601800 flags 0x240100f).now) (running 0x0 0x5 0x601000 flags1 0x2401029) (running 0x7 0x6 0x601800 flags 0x2401007) refl save_rax_is (refl, refl, (refl, refl, (refl, refl, (refl, refl, (refl, refl, (refl, refl, (refl, refl, (refl, refl, tt)))))))) refl refl
+    (λ h. absurd (false≢true h)) (refl, (refl, tt)) (λ h. absurd (true≢false h)) (λ h. refl) (λ h. refl)
 
 -- thread 1: LAHF
 step9 : Proper keeping 1 w9 w10
 unfolding template filled effect total carries overflows signed is_even ones is_met
-step9 = (
-  record {
-    one = running 0x7 0x6 0x601800 flags 0x240100f;
-    there = refl;
-    fields = lahf;
-    to = machine_of mem4 (running 0x4307 0x6 0x601800 flags 0x2401010).now;
-    steps = record { at = record { spelled = lahf_is; here = (refl, refl, tt) }; acts = refl };
-    after = refl;
-  },
-  record {
-    quiet = λ h. absurd (false≢true h);
-    stand = (refl, (refl, tt));
-    fresh = λ h. absurd (true≢false h);
-    saved = λ h. refl;
-    apart = beside keeping (running 0x0 0x5 0x601000 flags1 0x2401029) (running 0x7 0x6 0x601800 flags 0x240100f) 1 lahf (machine_of mem4 (running 0x7 0x6 0x601800 flags 0x240100f).now) (λ n h. refl) (λ n h. absurd (n refl));
-  },
-)
+step9 =
+    second_steps keeping w9 w10 lahf (machine_of mem4 (running 0x4307 0x6 0x601800 flags 0x2401010).now) (running 0x0 0x5 0x601000 flags1 0x2401029) (running 0x7 0x6 0x601800 flags 0x240100f) refl lahf_is (refl, refl, tt) refl refl
+    (λ h. absurd (false≢true h)) (refl, (refl, tt)) (λ h. absurd (true≢false h)) (λ h. refl) (λ h. refl)
 
 -- thread 1: SETO al
 step10 : Proper keeping 1 w10 w11
 unfolding template filled effect total carries overflows signed is_even ones is_met
-step10 = (
-  record {
-    one = running 0x4307 0x6 0x601800 flags 0x2401010;
-    there = refl;
-    fields = seto;
-    to = machine_of mem4 (running 0x4301 0x6 0x601800 flags 0x2401013).now;
-    steps = record { at = record { spelled = seto_is; here = (refl, refl, (refl, refl, (refl, refl, tt))) }; acts = refl };
-    after = refl;
-  },
-  record {
-    quiet = λ h. absurd (false≢true h);
-    stand = (refl, (refl, tt));
-    fresh = λ h. absurd (true≢false h);
-    saved = λ h. refl;
-    apart = beside keeping (running 0x0 0x5 0x601000 flags1 0x2401029) (running 0x4307 0x6 0x601800 flags 0x2401010) 1 seto (machine_of mem4 (running 0x4307 0x6 0x601800 flags 0x2401010).now) (λ n h. refl) (λ n h. absurd (n refl));
-  },
-)
+step10 =
+    second_steps keeping w10 w11 seto (machine_of mem4 (running 0x4301 0x6 0x601800 flags 0x2401013).now) (running 0x0 0x5 0x601000 flags1 0x2401029) (running 0x4307 0x6 0x601800 flags 0x2401010) refl seto_is (refl, refl, (refl, refl, (refl, refl, tt))) refl refl
+    (λ h. absurd (false≢true h)) (refl, (refl, tt)) (λ h. absurd (true≢false h)) (λ h. refl) (λ h. refl)
 
 -- thread 1: MOV [rsp - 144], rax
 step11 : Proper keeping 1 w11 w12
 unfolding template filled effect total carries overflows signed is_even ones is_met
-step11 = (
-  record {
-    one = running 0x4301 0x6 0x601800 flags 0x2401013;
-    there = refl;
-    fields = save_flags;
-    to = machine_of mem5 (running 0x4301 0x6 0x601800 flags 0x240101b).now;
-    steps = record { at = record { spelled = save_flags_is; here = (refl, refl, (refl, refl, (refl, refl, (refl, refl, (refl, refl, (refl, refl, (refl, refl, (refl, refl, tt)))))))) }; acts = refl };
-    after = refl;
-  },
-  record {
-    quiet = λ h. absurd (false≢true h);
-    stand = (refl, (refl, tt));
-    fresh = λ h. absurd (true≢false h);
-    saved = λ h. refl;
-    apart = beside keeping (running 0x0 0x5 0x601000 flags1 0x2401029) (running 0x4301 0x6 0x601800 flags 0x2401013) 1 save_flags (machine_of mem4 (running 0x4301 0x6 0x601800 flags 0x2401013).now) (λ n h. refl) (λ n h. absurd (n refl));
-  },
-)
+step11 =
+    second_steps keeping w11 w12 save_flags (machine_of mem5 (running 0x4301 0x6 0x601800 flags 0x240101b).now) (running 0x0 0x5 0x601000 flags1 0x2401029) (running 0x4301 0x6 0x601800 flags 0x2401013) refl save_flags_is (refl, refl, (refl, refl, (refl, refl, (refl, refl, (refl, refl, (refl, refl, (refl, refl, (refl, refl, tt)))))))) refl refl
+    (λ h. absurd (false≢true h)) (refl, (refl, tt)) (λ h. absurd (true≢false h)) (λ h. refl) (λ h. refl)
 
 -- thread 1: MOV eax, 1
 step12 : Proper keeping 1 w12 w13
 unfolding template filled effect total carries overflows signed is_even ones is_met
-step12 = (
-  record {
-    one = running 0x4301 0x6 0x601800 flags 0x240101b;
-    there = refl;
-    fields = one;
-    to = machine_of mem5 (running 0x1 0x6 0x601800 flags 0x2401020).now;
-    steps = record { at = record { spelled = one_is; here = (refl, refl, (refl, refl, (refl, refl, (refl, refl, (refl, refl, tt))))) }; acts = refl };
-    after = refl;
-  },
-  record {
-    quiet = λ h. absurd (false≢true h);
-    stand = (refl, (refl, tt));
-    fresh = λ h. absurd (true≢false h);
-    saved = λ h. absurd (false≢true h);
-    apart = beside keeping (running 0x0 0x5 0x601000 flags1 0x2401029) (running 0x4301 0x6 0x601800 flags 0x240101b) 1 one (machine_of mem5 (running 0x4301 0x6 0x601800 flags 0x240101b).now) (λ n h. refl) (λ n h. absurd (n refl));
-  },
-)
+step12 =
+    second_steps keeping w12 w13 one (machine_of mem5 (running 0x1 0x6 0x601800 flags 0x2401020).now) (running 0x0 0x5 0x601000 flags1 0x2401029) (running 0x4301 0x6 0x601800 flags 0x240101b) refl one_is (refl, refl, (refl, refl, (refl, refl, (refl, refl, (refl, refl, tt))))) refl refl
+    (λ h. absurd (false≢true h)) (refl, (refl, tt)) (λ h. absurd (true≢false h)) (λ h. absurd (false≢true h)) (λ h. refl)
 
 -- thread 1: LOCK XADD of the four bytes at 0x20040 with eax
 step13 : Proper keeping 1 w13 w14
 unfolding template filled effect total carries overflows signed is_even ones is_met
-step13 = (
-  record {
-    one = running 0x1 0x6 0x601800 flags 0x2401020;
-    there = refl;
-    fields = claim;
-    to = machine_of mem6 (running 0x1 0x6 0x601800 flags1 0x2401029).now;
-    steps = record { at = record { spelled = claim_is; here = (refl, refl, (refl, refl, (refl, refl, (refl, refl, (refl, refl, (refl, refl, (refl, refl, (refl, refl, (refl, refl, tt))))))))) }; acts = refl };
-    after = refl;
-  },
-  record {
-    quiet = λ h. absurd (false≢true h);
-    stand = (refl, (refl, tt));
-    fresh = λ h. absurd (true≢false h);
-    saved = λ h. absurd (false≢true h);
-    apart = beside keeping (running 0x0 0x5 0x601000 flags1 0x2401029) (running 0x1 0x6 0x601800 flags 0x2401020) 1 claim (machine_of mem5 (running 0x1 0x6 0x601800 flags 0x2401020).now) (λ n h. refl) (λ n h. absurd (n refl));
-  },
-)
+step13 =
+    second_steps keeping w13 w14 claim (machine_of mem6 (running 0x1 0x6 0x601800 flags1 0x2401029).now) (running 0x0 0x5 0x601000 flags1 0x2401029) (running 0x1 0x6 0x601800 flags 0x2401020) refl claim_is (refl, refl, (refl, refl, (refl, refl, (refl, refl, (refl, refl, (refl, refl, (refl, refl, (refl, refl, (refl, refl, tt))))))))) refl refl
+    (λ h. absurd (false≢true h)) (refl, (refl, tt)) (λ h. absurd (true≢false h)) (λ h. absurd (false≢true h)) (λ h. refl)
 
 -- thread 1: MOVZX eax, al
 step14 : Proper keeping 1 w14 w15
 unfolding template filled effect total carries overflows signed is_even ones is_met
-step14 = (
-  record {
-    one = running 0x1 0x6 0x601800 flags1 0x2401029;
-    there = refl;
-    fields = reduce;
-    to = machine_of mem6 (running 0x1 0x6 0x601800 flags1 0x240102c).now;
-    steps = record { at = record { spelled = reduce_is; here = (refl, refl, (refl, refl, (refl, refl, tt))) }; acts = refl };
-    after = refl;
-  },
-  record {
-    quiet = λ h. absurd (false≢true h);
-    stand = (refl, (refl, tt));
-    fresh = λ h. absurd (true≢false h);
-    saved = λ h. absurd (false≢true h);
-    apart = beside keeping (running 0x0 0x5 0x601000 flags1 0x2401029) (running 0x1 0x6 0x601800 flags1 0x2401029) 1 reduce (machine_of mem6 (running 0x1 0x6 0x601800 flags1 0x2401029).now) (λ n h. refl) (λ n h. absurd (n refl));
-  },
-)
+step14 =
+    second_steps keeping w14 w15 reduce (machine_of mem6 (running 0x1 0x6 0x601800 flags1 0x240102c).now) (running 0x0 0x5 0x601000 flags1 0x2401029) (running 0x1 0x6 0x601800 flags1 0x2401029) refl reduce_is (refl, refl, (refl, refl, (refl, refl, tt))) refl refl
+    (λ h. absurd (false≢true h)) (refl, (refl, tt)) (λ h. absurd (true≢false h)) (λ h. absurd (false≢true h)) (λ h. refl)
 
 -- thread 1: MOV [4 * rax + 0x20044], 1
 step15 : Proper keeping 1 w15 w16
 unfolding template filled effect total carries overflows signed is_even ones is_met
-step15 = (
-  record {
-    one = running 0x1 0x6 0x601800 flags1 0x240102c;
-    there = refl;
-    fields = fill;
-    to = machine_of mem7 (running 0x1 0x6 0x601800 flags1 0x2401037).now;
-    steps = record { at = record { spelled = fill_is; here = (refl, refl, (refl, refl, (refl, refl, (refl, refl, (refl, refl, (refl, refl, (refl, refl, (refl, refl, (refl, refl, (refl, refl, (refl, refl, tt))))))))))) }; acts = refl };
-    after = refl;
-  },
-  record {
-    quiet = λ h. absurd (false≢true h);
-    stand = (refl, (refl, tt));
-    fresh = λ h. absurd (true≢false h);
-    saved = λ h. absurd (false≢true h);
-    apart = beside keeping (running 0x0 0x5 0x601000 flags1 0x2401029) (running 0x1 0x6 0x601800 flags1 0x240102c) 1 fill (machine_of mem6 (running 0x1 0x6 0x601800 flags1 0x240102c).now) (λ n h. refl) (λ n h. absurd (n refl));
-  },
-)
+step15 =
+    second_steps keeping w15 w16 fill (machine_of mem7 (running 0x1 0x6 0x601800 flags1 0x2401037).now) (running 0x0 0x5 0x601000 flags1 0x2401029) (running 0x1 0x6 0x601800 flags1 0x240102c) refl fill_is (refl, refl, (refl, refl, (refl, refl, (refl, refl, (refl, refl, (refl, refl, (refl, refl, (refl, refl, (refl, refl, (refl, refl, (refl, refl, tt))))))))))) refl refl
+    (λ h. absurd (false≢true h)) (refl, (refl, tt)) (λ h. absurd (true≢false h)) (λ h. absurd (false≢true h)) (λ h. refl)
 
 -- thread 1: MOV rax, [rsp - 144]
 step16 : Proper keeping 1 w16 w17
 unfolding template filled effect total carries overflows signed is_even ones is_met
-step16 = (
-  record {
-    one = running 0x1 0x6 0x601800 flags1 0x2401037;
-    there = refl;
-    fields = load_flags;
-    to = machine_of mem7 (running 0x4301 0x6 0x601800 flags1 0x240103f).now;
-    steps = record { at = record { spelled = load_flags_is; here = (refl, refl, (refl, refl, (refl, refl, (refl, refl, (refl, refl, (refl, refl, (refl, refl, (refl, refl, tt)))))))) }; acts = refl };
-    after = refl;
-  },
-  record {
-    quiet = λ h. absurd (false≢true h);
-    stand = (refl, (refl, tt));
-    fresh = λ h. absurd (true≢false h);
-    saved = λ h. absurd (false≢true h);
-    apart = beside keeping (running 0x0 0x5 0x601000 flags1 0x2401029) (running 0x1 0x6 0x601800 flags1 0x2401037) 1 load_flags (machine_of mem7 (running 0x1 0x6 0x601800 flags1 0x2401037).now) (λ n h. refl) (λ n h. absurd (n refl));
-  },
-)
+step16 =
+    second_steps keeping w16 w17 load_flags (machine_of mem7 (running 0x4301 0x6 0x601800 flags1 0x240103f).now) (running 0x0 0x5 0x601000 flags1 0x2401029) (running 0x1 0x6 0x601800 flags1 0x2401037) refl load_flags_is (refl, refl, (refl, refl, (refl, refl, (refl, refl, (refl, refl, (refl, refl, (refl, refl, (refl, refl, tt)))))))) refl refl
+    (λ h. absurd (false≢true h)) (refl, (refl, tt)) (λ h. absurd (true≢false h)) (λ h. absurd (false≢true h)) (λ h. refl)
 
 -- thread 1: ADD al, 7F
 step17 : Proper keeping 1 w17 w18
 unfolding template filled effect total carries overflows signed is_even ones is_met
-step17 = (
-  record {
-    one = running 0x4301 0x6 0x601800 flags1 0x240103f;
-    there = refl;
-    fields = add_flag;
-    to = machine_of mem7 (running 0x4380 0x6 0x601800 flags2 0x2401041).now;
-    steps = record { at = record { spelled = add_flag_is; here = (refl, refl, (refl, refl, tt)) }; acts = refl };
-    after = refl;
-  },
-  record {
-    quiet = λ h. absurd (false≢true h);
-    stand = (refl, (refl, tt));
-    fresh = λ h. absurd (true≢false h);
-    saved = λ h. absurd (false≢true h);
-    apart = beside keeping (running 0x0 0x5 0x601000 flags1 0x2401029) (running 0x4301 0x6 0x601800 flags1 0x240103f) 1 add_flag (machine_of mem7 (running 0x4301 0x6 0x601800 flags1 0x240103f).now) (λ n h. refl) (λ n h. absurd (n refl));
-  },
-)
+step17 =
+    second_steps keeping w17 w18 add_flag (machine_of mem7 (running 0x4380 0x6 0x601800 flags2 0x2401041).now) (running 0x0 0x5 0x601000 flags1 0x2401029) (running 0x4301 0x6 0x601800 flags1 0x240103f) refl add_flag_is (refl, refl, (refl, refl, tt)) refl refl
+    (λ h. absurd (false≢true h)) (refl, (refl, tt)) (λ h. absurd (true≢false h)) (λ h. absurd (false≢true h)) (λ h. refl)
 
 -- thread 1: SAHF
 step18 : Proper keeping 1 w18 w19
 unfolding template filled effect total carries overflows signed is_even ones is_met
-step18 = (
-  record {
-    one = running 0x4380 0x6 0x601800 flags2 0x2401041;
-    there = refl;
-    fields = sahf;
-    to = machine_of mem7 (running 0x4380 0x6 0x601800 flags 0x2401042).now;
-    steps = record { at = record { spelled = sahf_is; here = (refl, refl, tt) }; acts = refl };
-    after = refl;
-  },
-  record {
-    quiet = λ h. absurd (false≢true h);
-    stand = (refl, (refl, tt));
-    fresh = λ h. absurd (true≢false h);
-    saved = λ h. absurd (false≢true h);
-    apart = beside keeping (running 0x0 0x5 0x601000 flags1 0x2401029) (running 0x4380 0x6 0x601800 flags2 0x2401041) 1 sahf (machine_of mem7 (running 0x4380 0x6 0x601800 flags2 0x2401041).now) (λ n h. refl) (λ n h. absurd (n refl));
-  },
-)
+step18 =
+    second_steps keeping w18 w19 sahf (machine_of mem7 (running 0x4380 0x6 0x601800 flags 0x2401042).now) (running 0x0 0x5 0x601000 flags1 0x2401029) (running 0x4380 0x6 0x601800 flags2 0x2401041) refl sahf_is (refl, refl, tt) refl refl
+    (λ h. absurd (false≢true h)) (refl, (refl, tt)) (λ h. absurd (true≢false h)) (λ h. absurd (false≢true h)) (λ h. refl)
 
 -- thread 1: MOV rax, [rsp - 136]
 step19 : Proper keeping 1 w19 w20
 unfolding template filled effect total carries overflows signed is_even ones is_met
-step19 = (
-  record {
-    one = running 0x4380 0x6 0x601800 flags 0x2401042;
-    there = refl;
-    fields = load_rax;
-    to = machine_of mem7 (running 0x7 0x6 0x601800 flags 0x240104a).now;
-    steps = record { at = record { spelled = load_rax_is; here = (refl, refl, (refl, refl, (refl, refl, (refl, refl, (refl, refl, (refl, refl, (refl, refl, (refl, refl, tt)))))))) }; acts = refl };
-    after = refl;
-  },
-  record {
-    quiet = λ h. absurd (false≢true h);
-    stand = (refl, (refl, tt));
-    fresh = λ h. absurd (true≢false h);
-    saved = λ h. absurd (false≢true h);
-    apart = beside keeping (running 0x0 0x5 0x601000 flags1 0x2401029) (running 0x4380 0x6 0x601800 flags 0x2401042) 1 load_rax (machine_of mem7 (running 0x4380 0x6 0x601800 flags 0x2401042).now) (λ n h. refl) (λ n h. absurd (n refl));
-  },
-)
+step19 =
+    second_steps keeping w19 w20 load_rax (machine_of mem7 (running 0x7 0x6 0x601800 flags 0x240104a).now) (running 0x0 0x5 0x601000 flags1 0x2401029) (running 0x4380 0x6 0x601800 flags 0x2401042) refl load_rax_is (refl, refl, (refl, refl, (refl, refl, (refl, refl, (refl, refl, (refl, refl, (refl, refl, (refl, refl, tt)))))))) refl refl
+    (λ h. absurd (false≢true h)) (refl, (refl, tt)) (λ h. absurd (true≢false h)) (λ h. absurd (false≢true h)) (λ h. refl)
 
 -- thread 1: the displaced jump, its effect step
 step20 : Proper keeping 1 w20 w21
 unfolding template filled effect total carries overflows signed is_even ones is_met
-step20 = (
-  record {
-    one = running 0x7 0x6 0x601800 flags 0x240104a;
-    there = refl;
-    fields = jump_fields (rel_bytes 0x240104f 0x401002);
-    to = machine_of mem7 (outside 0x6 0x601800).now;
-    steps = record { at = record { spelled = jump_is _ _ _ _; here = (refl, refl, (refl, refl, (refl, refl, (refl, refl, (refl, refl, tt))))) }; acts = refl };
-    after = refl;
-  },
-  record {
-    quiet = λ h. record { known = refl; leaves = λ f i s. quiet_jump mem7 0x6 0x601800 f (own_jump f i s) };
-    stand = (refl, (refl, tt));
-    fresh = λ h. refl;
-    saved = λ h. absurd (false≢true h);
-    apart = beside keeping (running 0x0 0x5 0x601000 flags1 0x2401029) (running 0x7 0x6 0x601800 flags 0x240104a) 1 (jump_fields (rel_bytes 0x240104f 0x401002)) (machine_of mem7 (running 0x7 0x6 0x601800 flags 0x240104a).now) (λ n h. refl) (λ n h. absurd (n refl));
-  },
-)
+step20 =
+    second_steps keeping w20 w21 (jump_fields (rel_bytes 0x240104f 0x401002)) (machine_of mem7 (outside 0x6 0x601800).now) (running 0x0 0x5 0x601000 flags1 0x2401029) (running 0x7 0x6 0x601800 flags 0x240104a) refl (jump_is _ _ _ _) (refl, refl, (refl, refl, (refl, refl, (refl, refl, (refl, refl, tt))))) refl refl
+    (λ h. record { known = refl; leaves = λ f i s. quiet_jump (is_hidden keeping) mem7 0x6 0x601800 f (own_jump f i s) }) (refl, (refl, tt)) (λ h. refl) (λ h. absurd (false≢true h)) (λ h. refl)
 
 abbrev watches : List Watch
 watches = w1 ∷ w2 ∷ w3 ∷ w4 ∷ w5 ∷ w6 ∷ w7 ∷ w8 ∷ w9 ∷ w10 ∷ w11 ∷ w12 ∷ w13 ∷ w14 ∷ w15 ∷ w16 ∷ w17 ∷ w18 ∷ w19 ∷ w20 ∷ w21 ∷ []

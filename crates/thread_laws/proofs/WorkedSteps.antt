@@ -1,13 +1,27 @@
 -- The instructions of events of the worked guest, and steps of two threads.
-use Rattle.std.proofs.Common.{◌≡◌, ◌≢◌, ℕ, zero, suc, true, [], ◌∷◌, Some, None, refl, subst, arith}
+use Rattle.std.proofs.Common.{◌≡◌, ◌≢◌, ℕ, zero, suc, Bool, true, false, List, [], ◌∷◌, Some, None, Ok, refl, sym, ap, ◌∙◌, subst, arith}
 use Rattle.std.specs.Prelude.{slice_get}
+use Rattle.pun_base.specs.Memory.{Bytes}
+use Rattle.cpu_alu.specs.declared.flag_word.Flags.{Flags}
 use Rattle.length_decode.specs.declared.escape_bytes.Escape.TheVariants.{OneByte, TwoByte}
-use Rattle.length_decode.specs.Spelling.{Fields, IsInstruction}
-use Rattle.insn_form.specs.Machine.{Machine}
+use Rattle.length_decode.specs.Spelling.{Fields, IsInstruction, spelling}
+use Rattle.cpu_state.specs.Bytes.{Stands, avoids}
+use Rattle.insn_form.specs.Classes.{template}
+use Rattle.insn_form.specs.Filling.{filled}
+use Rattle.insn_form.specs.Meaning.{effect}
+use Rattle.insn_form.specs.Machine.{Machine, leaves}
+use Rattle.insn_form.specs.Step.{next_after}
+use Rattle.insn_form.specs.Runs.{nowhere}
+use Rattle.trampoline.specs.Worked.{jump_to_itself}
 use Rattle.patch_report.proofs.ListPlaces.{some_is}
-use Rattle.thread_runs.specs.Threading.{Threading, has_saved, is_saved_by}
-use Rattle.thread_runs.specs.Watching.{Watched, Watch, Watches}
-use Rattle.thread_runs.specs.Premises.{touches_none, IsProper}
+use Rattle.event_steps.specs.ThreadSteps.{thread_task, thread_act}
+use Rattle.thread_runs.specs.Guest.{machine_of}
+use Rattle.thread_runs.specs.ThreadCode.{saved_from, saved_len}
+use Rattle.thread_runs.specs.Threading.{Threading, is_new, in_event, saves, has_saved, is_saved_by}
+use Rattle.thread_runs.specs.Watching.{Watched, EffectStep, Claim, Fill, Watch, stale_after, watched_after, is_effect, Watches}
+use Rattle.thread_runs.specs.Premises.{IsQuietAt, StandAtStarts, reads_nothing_of, touches_none, IsProper}
+use Rattle.thread_laws.specs.WorkedGuest.{core_of}
+use Rattle.thread_laws.specs.WorkedRuns.{thread_with}
 
 -- MOV [rsp - 136], rax
 abbrev pub save_rax : Fields
@@ -114,15 +128,72 @@ load_flags = record { prefixes = 0x48 ∷ []; escape = OneByte; opcode = 0x8b; m
 pub load_flags_is : IsInstruction load_flags
 load_flags_is = record { formed = record { prefixes = refl; escape = refl; opcode = refl; known = refl; modrm = refl; operand = (refl, refl); imm = refl }; short = omega arith }
 
+-- a thread that counts as itself
+abbrev pub outside : ℕ → ℕ → Watched
+outside rcx rsp = record { now = thread_with rcx rsp; projected = thread_with rcx rsp }
+
+-- a thread in the trampoline
+abbrev pub running : ℕ → ℕ → ℕ → Flags → ℕ → Watched
+running rax rcx rsp f rip = record { now = record { core = core_of rax rcx rsp f; rip = rip; world = [] }; projected = thread_with rcx rsp }
+
+-- both threads outside, where nothing was done yet
+abbrev pub both_outside : Bytes → Watch
+both_outside m = record { threads = outside 5 0x601000 ∷ outside 6 0x601800 ∷ []; mem = m; stale = nowhere; log = []; claims = []; fills = [] }
+
+-- the watched guest after a step of a thread
+abbrev pub behind : Threading → Watch → Watched → Fields → List Watched → Bytes → List EffectStep → List Claim → List Fill → Watch
+behind r w one f ts m log cs fs = record { threads = ts; mem = m; stale = stale_after r w.stale one f (machine_of w.mem one.now); log = log; claims = cs; fills = fs }
+
+-- the jump to itself touches no byte of any set
+pub quiet_jump : (set : ℕ → Bool) (m : Bytes) (rcx rsp : ℕ) (f : Fields) → jump_to_itself ≡ f → leaves set (thread_task f (next_after 0x401002 f)) (next_after 0x401002 f) (machine_of m (thread_with rcx rsp)) ≡ true
+unfolding template filled effect
+quiet_jump set m rcx rsp f e = subst (λ g. leaves set (thread_task g (next_after 0x401002 g)) (next_after 0x401002 g) (machine_of m (thread_with rcx rsp)) ≡ true) e refl
+
 -- a step of thread k that meets the premises
 abbrev pub Proper : Threading → ℕ → Watch → Watch → Type 0
 Proper r k w v = (m : Watches r k w v) × IsProper r k w v m
 
 -- a step of one of two threads touches none of the other's saved bytes
-pub beside : (r : Threading) (x y : Watched) (k : ℕ) (f : Fields) (s : Machine)
+beside : (r : Threading) (x y : Watched) (k : ℕ) (f : Fields) (s : Machine)
     → (0 ≢ k → has_saved r x.now.rip ≡ true → touches_none (is_saved_by r x.now.core) f s ≡ true)
     → (1 ≢ k → has_saved r y.now.rip ≡ true → touches_none (is_saved_by r y.now.core) f s ≡ true)
     → (j : ℕ) (o : Watched) → j ≢ k → slice_get (x ∷ y ∷ []) j ≡ Some o → has_saved r o.now.rip ≡ true → touches_none (is_saved_by r o.now.core) f s ≡ true
 beside r x y k f s a b zero o n e = subst (λ (t : Watched). has_saved r t.now.rip ≡ true → touches_none (is_saved_by r t.now.core) f s ≡ true) (some_is x o e) (a n)
 beside r x y k f s a b (suc zero) o n e = subst (λ (t : Watched). has_saved r t.now.rip ≡ true → touches_none (is_saved_by r t.now.core) f s ≡ true) (some_is y o e) (b n)
 beside r x y k f s a b (suc (suc j)) o n e = absurd cc
+
+-- a step of the first of two threads meets the premises
+pub first_steps : (r : Threading) (w v : Watch) (f : Fields) (to : Machine) (x y : Watched) → w.threads ≡ x ∷ y ∷ [] → IsInstruction f → Stands w.mem x.now.rip (spelling f)
+    → thread_act f (next_after x.now.rip f) (machine_of w.mem x.now) ≡ Ok to → v ≡ watched_after r 0 w x f to
+    → (is_effect r x.now.rip ≡ true → IsQuietAt r (machine_of w.mem x.projected)) → StandAtStarts r v.threads
+    → (in_event r x.now.rip ≡ false → reads_nothing_of w.stale f (machine_of w.mem x.now) ≡ true)
+    → (saves r x.now.rip ≡ true → avoids (is_new r) (saved_from r.ring x.now.core) (saved_len r.ring) ≡ true)
+    → (has_saved r y.now.rip ≡ true → touches_none (is_saved_by r y.now.core) f (machine_of w.mem x.now) ≡ true) → Proper r 0 w v
+first_steps r w v f to x y both spelled here acts after quiet stand fresh saved apart = (
+  record { one = x; there = ap (λ (l : List Watched). slice_get l 0) both; fields = f; to = to; steps = record { at = record { spelled = spelled; here = here }; acts = acts }; after = after },
+  record {
+    quiet = quiet;
+    stand = stand;
+    fresh = fresh;
+    saved = saved;
+    apart = λ j o n e. beside r x y 0 f (machine_of w.mem x.now) (λ m. absurd (m refl)) (λ m. apart) j o n (ap (λ (l : List Watched). slice_get l j) (sym both) ∙ e);
+  },
+)
+
+-- so does one of the second
+pub second_steps : (r : Threading) (w v : Watch) (f : Fields) (to : Machine) (x y : Watched) → w.threads ≡ x ∷ y ∷ [] → IsInstruction f → Stands w.mem y.now.rip (spelling f)
+    → thread_act f (next_after y.now.rip f) (machine_of w.mem y.now) ≡ Ok to → v ≡ watched_after r 1 w y f to
+    → (is_effect r y.now.rip ≡ true → IsQuietAt r (machine_of w.mem y.projected)) → StandAtStarts r v.threads
+    → (in_event r y.now.rip ≡ false → reads_nothing_of w.stale f (machine_of w.mem y.now) ≡ true)
+    → (saves r y.now.rip ≡ true → avoids (is_new r) (saved_from r.ring y.now.core) (saved_len r.ring) ≡ true)
+    → (has_saved r x.now.rip ≡ true → touches_none (is_saved_by r x.now.core) f (machine_of w.mem y.now) ≡ true) → Proper r 1 w v
+second_steps r w v f to x y both spelled here acts after quiet stand fresh saved apart = (
+  record { one = y; there = ap (λ (l : List Watched). slice_get l 1) both; fields = f; to = to; steps = record { at = record { spelled = spelled; here = here }; acts = acts }; after = after },
+  record {
+    quiet = quiet;
+    stand = stand;
+    fresh = fresh;
+    saved = saved;
+    apart = λ j o n e. beside r x y 1 f (machine_of w.mem y.now) (λ m. apart) (λ m. absurd (m refl)) j o n (ap (λ (l : List Watched). slice_get l j) (sym both) ∙ e);
+  },
+)

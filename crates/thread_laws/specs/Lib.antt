@@ -5,3 +5,4 @@ pub mod WorkedGuest
 pub mod WorkedBirth
 pub mod WorkedRuns
 pub mod Overtaken
+pub mod GoingOn

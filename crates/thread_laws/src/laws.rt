@@ -2,6 +2,7 @@
 ghost use Rattle.thread_laws.specs.EachRunWith.{EachRunWithIsWatched};
 ghost use Rattle.thread_laws.specs.ThreadsBegin.{ThreadsMayBegin};
 ghost use Rattle.thread_laws.specs.Overtaken.{OvertakenThreadsGetOut};
+ghost use Rattle.thread_laws.specs.GoingOn.{ProperRunsGoOn};
 ghost use Rattle.thread_laws.specs.WorkedBirth.{IsBirthReal};
 ghost use Rattle.thread_laws.specs.WorkedRuns.{ConditionIsReal, RingIsReal, VictimIsReal};
 
@@ -17,9 +18,15 @@ pub fn threads_may_begin()
     ensures { ThreadsMayBegin }
 {}
 
-/// A thread that others overtook inside a trampoline gets out, too: scheduled alone from there, it is soon where the original's step leads.
+/// A thread that others overtook inside a trampoline gets out, too, also where threads begin on the way: scheduled alone from there, it is soon
+/// where the original's step leads; and its steps meet the premises, where they leave the saved bytes of all other threads alone.
 pub fn overtaken_get_out()
     ensures { OvertakenThreadsGetOut }
+{}
+
+/// A proper run that goes on by a proper one is proper, so that the laws on proper runs can be applied one after another.
+pub fn runs_go_on()
+    ensures { ProperRunsGoOn }
 {}
 
 /// The premises of the theorem are met with threads that begin: by a thread that makes a clone, and the thread that begins, which goes through the

@@ -143,7 +143,7 @@ module _ (r : Threading) (A : AreEntries r.original r.listed) (S : IsThreadSound
           let p = calm_projection r one w.mem to calm none in
           let W' = work_stands r A S site listed to (keeps_code r.patched f u to steps R.other) in
           let stays : (x : ℕ) → stale' x ≡ w.stale x = λ x. stale_is c (omega (arith, q.0)) x
-          ∙ ap (λ b. w.stale x && not (not b)) (L.tail_touches F f site.entry.addr nx at k one.projected.core one.projected.rip u more W h steps.at (λ y. eqb x y)) ∙ and_true (w.stale x) in
+          ∙ ap (λ b. w.stale x && not (not b)) (L.tail_touches F f site.entry.addr nx at k one.projected.core one.projected.rip u more W h steps.at (λ y. eqb x y)).1 ∙ and_true (w.stale x) in
           record {
             went = inl (eff, refl, p);
             alike = subst (λ (z : Bytes). AreAlike (is_hidden r) stale' M z) (sym N.mem) (alike_on (is_hidden r) w.stale stale' M w.mem stays R.alike);

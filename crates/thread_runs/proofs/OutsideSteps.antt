@@ -20,7 +20,7 @@ use Rattle.insn_form.specs.Resolving.{resolved_insn}
 use Rattle.insn_form.specs.Meaning.{effect}
 use Rattle.insn_form.specs.Machine.{Machine, Task, first}
 use Rattle.insn_form.specs.Step.{IsAt, next_after, task_of, question_of}
-use Rattle.insn_form.specs.Touched.{writes_none, writes_avoid}
+use Rattle.insn_form.specs.Touched.{reads_avoid, writes_none, writes_avoid}
 use Rattle.insn_form.specs.Processor.{IsProcessorState}
 use Rattle.event_steps.specs.ThreadSteps.{is_locked_xadd, thread_task, thread_act, ThreadStepsBy, ThreadStep}
 use Rattle.thread_runs.specs.ThreadCode.{Kind, Marks, Keeps}
@@ -58,6 +58,11 @@ alike_on hidden p q m w e h = record { bytes = λ x a b. h.bytes x a (sym (e x) 
 pub jump_writes : (set : ℕ → Bool) (next : ℕ) (i : Insn) (rel : ℤ) (c : Core) (e : Option Entry) → i ≡ Exact (Jmp (Rel rel)) → writes_avoid set (resolved_insn next i) next c e ≡ true
 unfolding effect
 jump_writes set next i rel c e h = subst (λ (i : Insn). writes_avoid set (resolved_insn next i) next c e ≡ true) (sym h) refl
+
+-- it reads none either
+pub jump_reads : (set : ℕ → Bool) (next : ℕ) (i : Insn) (rel : ℤ) (c : Core) → i ≡ Exact (Jmp (Rel rel)) → reads_avoid set (resolved_insn next i) next c ≡ true
+unfolding effect
+jump_reads set next i rel c h = subst (λ (i : Insn). reads_avoid set (resolved_insn next i) next c ≡ true) (sym h) refl
 
 -- a number that stays shows no event more
 pub none_more : (b : Base) (n m : ℕ) → n ≡ m → (k : ℕ) → m ≡ shown_after b k → n ≡ shown_after b (k + 0)

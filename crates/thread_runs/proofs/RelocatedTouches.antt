@@ -123,8 +123,8 @@ leads_told f next s s' e =
         ap (λ (z : Task). leads_to z.insn next s.core s.mem) (xadd_task f next n k) ∙ sum_leads f.disp f.imm next s.core s.mem
         ∙ ap (λ z. leads_to (resolved_insn next (insn_of z)) next s.core s.mem) (sym (xadd_is f k))
 
--- an instruction of known operation
-known_reads : (set : ℕ → Bool) (v : Machine) (f : Fields) (next : ℕ) (op : Op) → next_after v.rip f ≡ next → (thread_task f next).insn ≡ Exact op → reads_nothing_of set f v ≡ avoids_span set (effect op next v.core).read
+-- whether an instruction of known operation reads a byte of a set is whether its effect does
+pub known_reads : (set : ℕ → Bool) (v : Machine) (f : Fields) (next : ℕ) (op : Op) → next_after v.rip f ≡ next → (thread_task f next).insn ≡ Exact op → reads_nothing_of set f v ≡ avoids_span set (effect op next v.core).read
 known_reads set' v f next op n i = ap (λ z. reads_avoid set' (thread_task f z).insn z v.core) n ∙ ap (λ z. reads_avoid set' z next v.core) i
 
 -- whether an instruction of known operation writes a byte of a set is whether its effect does

@@ -19,13 +19,13 @@ use Rattle.insn_form.specs.declared.form.Target.TheVariants.{Rel}
 use Rattle.insn_form.specs.Operands.{word_of, reg}
 use Rattle.insn_form.specs.Instruction.{insn_of}
 use Rattle.insn_form.specs.Meaning.{effect}
-use Rattle.insn_form.specs.Machine.{Machine, avoids_span, leaves, put_all}
+use Rattle.insn_form.specs.Machine.{Machine, Task, avoids_span, leaves, put_all}
 use Rattle.insn_form.specs.Step.{IsAt, next_after, question_of}
-use Rattle.insn_form.specs.Touched.{perms_at, reads_avoid}
+use Rattle.insn_form.specs.Touched.{perms_at, reads_avoid, reads_none}
 use Rattle.event_steps.specs.ThreadSteps.{thread_task, thread_act, ThreadStepsBy, ThreadStep}
 use Rattle.insn_form.specs.Alike.{IsAlike}
 use Rattle.insn_form.proofs.UniqueSteps.{one_instruction}
-use Rattle.event_steps.proofs.ThreadSteps.{made, plain_acts, one_thread_next, keeps_code, keeps_perms, lacking_on}
+use Rattle.event_steps.proofs.ThreadSteps.{made, unlocked_task, plain_acts, one_thread_next, keeps_code, keeps_perms, lacking_on}
 use Rattle.relocate_insn.proofs.FixedCode.{fixed_stands, fixed_on}
 use Rattle.relocate_insn.proofs.PieceSteps.{gone_to}
 use Rattle.start_entries.specs.declared.entry.StartEntry.{StartEntry}
@@ -47,16 +47,16 @@ use Rattle.thread_runs.specs.Threading.Part.{Save}
 use Rattle.thread_runs.specs.Threading.{ThreadSite, Threading, next_of, work_at, is_new, is_hidden, is_site, is_kept, part_to, is_keeping, in_event, saves, saves_at, is_saved_by, is_code_of, ByTwoJumps, IsThreadSound}
 use Rattle.event_steps.specs.DoneSteps.{is_one_of}
 use Rattle.thread_runs.specs.Watching.{Watched, Watch, EffectStep, projection, stale_after, watched_after, is_effect, Watches}
-use Rattle.thread_runs.specs.Premises.{IsQuietAt, reads_nothing_of}
-use Rattle.thread_runs.specs.Theorem.{last_watch, IsWatched, when_at, further_at, CanGo, GetsOut}
+use Rattle.thread_runs.specs.Premises.{IsQuietAt, StandAtStarts, LeavesSaved, IsProper, IsProperRun, reads_nothing_of}
+use Rattle.thread_runs.specs.Theorem.{last_watch, IsWatched, LeaveSaved, when_at, further_at, CanGo, GetsOut}
 use Rattle.thread_runs.specs.StepLaws.{StepLaws}
-use Rattle.patch_report.proofs.ListPlaces.{some_is, any_at, contains_at, place_of}
+use Rattle.patch_report.proofs.ListPlaces.{some_is, any_at, contains_at, place_of, all_from}
 use Rattle.sound_images.proofs.LoadedCode.{jump_acts}
-use Rattle.thread_runs.proofs.ListUpdates.{set_here}
-use Rattle.thread_runs.proofs.ThreadPlaces.{when_here, further_here, saving_code_is, store_alone, offset_first, inside_low, counted_len, plain_len, point_counted, longer, start_old, start_no_site, site_of, effect_kept, effect_never, kept_not, no_site, event_code, event_inside}
+use Rattle.thread_runs.proofs.ListUpdates.{set_here, all_set}
+use Rattle.thread_runs.proofs.ThreadPlaces.{when_here, further_here, saving_code_is, store_alone, offset_first, inside_low, counted_len, plain_len, point_counted, part_past, part_high, save_small, part_only, part_never, event_saves, longer, start_old, start_no_site, site_of, effect_kept, effect_never, kept_not, no_site, event_code, event_inside}
 use Rattle.thread_runs.proofs.KeptRelation.{keeps_room, keeps_ring, ring_inside}
 use Rattle.thread_runs.proofs.StandingCode.{fields_of, site_stands, own_at, work_stands, event_stands, ring_stands, code_length}
-use Rattle.thread_runs.proofs.OutsideSteps.{calm_projection, stale_is, made_displaced, made_second}
+use Rattle.thread_runs.proofs.OutsideSteps.{jump_reads, calm_projection, stale_is, made_displaced, made_second}
 use Rattle.thread_runs.proofs.ThreadEventSteps.{stale_stays, good_at, made_event, made_cover}
 use Rattle.thread_runs.proofs.ThreadRingSteps.{good_at as ring_good, made_ring}
 use Rattle.thread_runs.proofs.DisplacedSteps.{at_work, effect_told, made_effect, made_tail}
@@ -113,18 +113,25 @@ pub record GoesOut (r : Threading) (k : ℕ) (w : Watch) (log : List EffectStep)
   pub bound : few ≤ most
   pub states : List Watch
   pub run : IsWatched r (replicate few k) w states
+  pub proper : StandAtStarts r w.threads → LeaveSaved r (replicate few k) w states → IsProperRun r (replicate few k) w states
   pub there : slice_get (last_watch w states).threads k ≡ Some (record { now = end; projected = end })
   pub memory : (x : ℕ) → is_hidden r x ≡ false → (last_watch w states).stale x ≡ false → m x ≡ (last_watch w states).mem x
   pub effect : (last_watch w states).log ≡ log
 
+-- a step of thread k that meets the premises where it leaves the saved bytes of all other threads alone
+record GoesProperly (r : Threading) (k : ℕ) (w v : Watch) : Type 0 where
+  step : Watches r k w v
+  proper : StandAtStarts r w.threads → LeavesSaved r w k step.fields (machine_of w.mem step.one.now) → IsProper r k w v step
+
 -- a thread that goes out after one step more goes out, within one step more
-one_more : (r : Threading) (k : ℕ) (w v : Watch) (log : List EffectStep) (end : Thread) (m : Bytes) (most : ℕ) → Watches r k w v → GoesOut r k v log end m most
+one_more : (r : Threading) (k : ℕ) (w v : Watch) (log : List EffectStep) (end : Thread) (m : Bytes) (most : ℕ) → GoesProperly r k w v → GoesOut r k v log end m most
     → GoesOut r k w log end m (suc most)
 one_more r k w v log end m most s g = record {
   few = suc g.few;
   bound = omega (arith, g.bound);
   states = v ∷ g.states;
-  run = (s, g.run);
+  run = (s.step, g.run);
+  proper = λ stand apart. let p = s.proper stand (apart.0 s.step) in (stand, (s.step, p), g.proper p.stand apart.1);
   there = g.there;
   memory = g.memory;
   effect = g.effect;
@@ -139,9 +146,28 @@ module _ (r : Threading) (A : AreEntries r.original r.listed) (S : IsThreadSound
     abbrev after_thread : Watched
     after_thread = record { now = thread_of to; projected = projection r one w.mem to }
 
-  -- a step of the thread is a step of the watched guest
-  watches : (w : Watch) (one : Watched) (f : Fields) (to : Machine) → slice_get w.threads k ≡ Some one → ThreadStepsBy f (machine_of w.mem one.now) to → Watches r k w (after_watch w one f to)
-  watches w one f to e st = record { one = one; there = e; fields = f; to = to; steps = st; after = refl }
+  -- a step of the thread is a step of the watched guest, and meets the premises
+  watches : (w : Watch) (one : Watched) (f : Fields) (to : Machine) → slice_get w.threads k ≡ Some one → ThreadStepsBy f (machine_of w.mem one.now) to
+      → (is_effect r one.now.rip ≡ true → IsQuietAt r (machine_of w.mem one.projected)) → is_start r.listed (projection r one w.mem to).rip ≡ true
+      → (in_event r one.now.rip ≡ false → reads_nothing_of w.stale f (machine_of w.mem one.now) ≡ true)
+      → (saves r one.now.rip ≡ true → avoids (is_new r) (saved_from r.ring one.now.core) (saved_len r.ring) ≡ true) → GoesProperly r k w (after_watch w one f to)
+  watches w one f to e st quiet start fresh saved = record {
+    step = record { one = one; there = e; fields = f; to = to; steps = st; after = refl };
+    proper = λ stand apart. record {
+      quiet = quiet;
+      stand = all_set (λ (t : Watched). is_start r.listed t.projected.rip ≡ true) w.threads k (after_thread w one f to) stand start;
+      fresh = fresh;
+      saved = saved;
+      apart = apart;
+    };
+  }
+
+  -- so does one that is no effect step
+  calm_watches : (m : Bytes) (w : Watch) (one : Watched) (f : Fields) (to : Machine) → slice_get w.threads k ≡ Some one → ThreadStepsBy f (machine_of w.mem one.now) to → Ground r S m w.stale w.mem one
+      → (is_effect r one.now.rip ≡ false) × (projection r one w.mem to ≡ one.projected)
+      → (in_event r one.now.rip ≡ false → reads_nothing_of w.stale f (machine_of w.mem one.now) ≡ true)
+      → (saves r one.now.rip ≡ true → avoids (is_new r) (saved_from r.ring one.now.core) (saved_len r.ring) ≡ true) → GoesProperly r k w (after_watch w one f to)
+  calm_watches m w one f to e st B q = watches w one f to e st (λ i. absurd (true≢false (sym i ∙ q.0))) (ap (λ (t : Thread). is_start r.listed t.rip) q.1 ∙ B.kept.start)
 
   -- what a step that is made leaves to rest on
   base_after : (m m' : Bytes) (w : Watch) (one : Watched) (f : Fields) (to : Machine) → ThreadStepsBy f (machine_of w.mem one.now) to → Ground r S m w.stale w.mem one
@@ -165,6 +191,7 @@ module _ (r : Threading) (A : AreEntries r.original r.listed) (S : IsThreadSound
         bound = omega arith;
         states = [];
         run = tt;
+        proper = λ stand apart. stand;
         there = e ∙ ap (λ (t : Thread). Some (record { now = t; projected = one.projected })) same;
         memory = B.alike.bytes;
         effect = refl;
@@ -172,7 +199,7 @@ module _ (r : Threading) (A : AreEntries r.original r.listed) (S : IsThreadSound
 
   -- a thread that goes out within a bound goes out within a larger one
   wider : (w : Watch) (log : List EffectStep) (end : Thread) (m : Bytes) (n most : ℕ) → n ≤ most → GoesOut r k w log end m n → GoesOut r k w log end m most
-  wider w log end m n most l g = record { few = g.few; bound = omega (arith, l, g.bound); states = g.states; run = g.run; there = g.there; memory = g.memory; effect = g.effect }
+  wider w log end m n most l g = record { few = g.few; bound = omega (arith, l, g.bound); states = g.states; run = g.run; proper = g.proper; there = g.there; memory = g.memory; effect = g.effect }
 
   module _ (site : ThreadSite) (listed : Contains r.sites site) where
     -- in a trampoline, but for the effect step, the projection stays
@@ -182,6 +209,10 @@ module _ (r : Threading) (A : AreEntries r.original r.listed) (S : IsThreadSound
         let b = kept_not r A S L.long site listed one.now.rip c in
         let o = no_site r A S L.long site listed one.now.rip c n in
         (effect_never r A S L.long one.now.rip b o, calm_projection r one m to b o)
+
+    -- where a site's relocated code begins, and behind, rax isn't saved
+    unsaved : (x : ℕ) → is_code_of r site (S.sites site listed) x → work_at site ≤ x → saves r x ≡ false
+    unsaved x c l = part_only r A S L.long site listed x Save c ∙ part_past Save x site (save_small site.event site.when) l
 
     -- one step after the effect step, and then the rest
     tail_on : (n : ℕ) (m : Bytes) (w : Watch) (one : Watched) (t : Tail) → 0 < left t → left t ≤ suc n → slice_get w.threads k ≡ Some one → Ground r S m w.stale w.mem one
@@ -198,7 +229,9 @@ module _ (r : Threading) (A : AreEntries r.original r.listed) (S : IsThreadSound
         let st = N.1.1 in
         let M = made_tail r A S L site listed m w one f to st B t more h world in
         let i = L.tail_inside (fields_of r A S site listed) site.entry.addr (next_of site) (work_at site) t one.projected.core one.projected.rip u more W h in
-        let c = calm_in one w.mem to (omega (arith, i.0), omega (arith, i.1, code_length r A S site listed)) (λ e. omega (arith, e, i.0)) in
+        let code : is_code_of r site (S.sites site listed) one.now.rip = (omega (arith, i.0), omega (arith, i.1, code_length r A S site listed)) in
+        let c = calm_in one w.mem to code (λ e. omega (arith, e, i.0)) in
+        let touches = L.tail_touches (fields_of r A S site listed) f site.entry.addr (next_of site) (work_at site) t one.projected.core one.projected.rip u more W h st.at w.stale in
         let start = ap (λ (t : Thread). is_start r.listed t.rip) c.1 ∙ B.kept.start in
         let next = N.2 in
         let B' = base_after m m w one f to st B M start in
@@ -206,7 +239,8 @@ module _ (r : Threading) (A : AreEntries r.original r.listed) (S : IsThreadSound
         let there : InTail (fields_of r A S site listed) (next_of site) (work_at site) next.tail (projection r one w.mem to).core (projection r one w.mem to).rip to =
         subst (λ (p : Thread). InTail (fields_of r A S site listed) (next_of site) (work_at site) next.tail p.core p.rip to) (sym c.1) next.there in
         let w' : to.world ≡ (projection r one w.mem to).world = next.world ∙ world ∙ ap (λ (t : Thread). t.world) (sym c.1) in
-        one_more r k w (after_watch w one f to) w.log one.projected m n (watches w one f to e st)
+        one_more r k w (after_watch w one f to) w.log one.projected m n
+        (calm_watches m w one f to e st B c (λ j. touches.0) (λ j. absurd (true≢false (sym j ∙ unsaved one.now.rip code (omega (arith, i.0))))))
         (subst (λ (z : List EffectStep). GoesOut r k (after_watch w one f to) z one.projected m n) log
         (subst (λ (p : Thread). GoesOut r k (after_watch w one f to) (after_watch w one f to).log p m n) c.1
         (go (after_watch w one f to) (after_thread w one f to) next.tail (omega (arith, next.fewer, l)) (set_here w.threads k one (after_thread w one f to) e) B' there w')))
@@ -327,7 +361,10 @@ module _ (r : Threading) (A : AreEntries r.original r.listed) (S : IsThreadSound
           subst (λ (p : Thread). InTail F (next_of site) (work_at site) T.worked.tail p.core p.rip to) (sym z) T.worked.there in
           let world : to.world ≡ (projection r one w.mem to).world = sym T.worked.world ∙ ap (λ (t : Thread). t.world) (sym z) in
           let mem : q1.0 ≡ to0.mem = made_memory (stale_after r w.stale one f u) q1.0 w one to q1.1 T.effect st1 in
-          one_more r k w (after_watch w one f to) log1 (thread_of to0) to0.mem 2 (watches w one f to B.there st)
+          let touches = L.touches F f (next_of site) (work_at site) s u work.work P.here (sym work.alike.core) (sym work.alike.world) st.at w.stale in
+          let here : one.now.rip ≡ work_at site = P.here in
+          one_more r k w (after_watch w one f to) log1 (thread_of to0) to0.mem 2
+          (watches w one f to B.there st (λ i. q) stand (λ i. touches.0 ∙ reads) (λ i. absurd (true≢false (sym i ∙ unsaved one.now.rip T.code (omega (arith, here))))))
           (subst (λ (l : List EffectStep). GoesOut r k (after_watch w one f to) l (thread_of to0) to0.mem 2) log
           (subst (λ (p : Thread). GoesOut r k (after_watch w one f to) (after_watch w one f to).log p to0.mem 2) gone
           (subst (λ (z : Bytes). GoesOut r k (after_watch w one f to) (after_watch w one f to).log (projection r one w.mem to) z 2) mem
@@ -414,7 +451,8 @@ module _ (r : Threading) (A : AreEntries r.original r.listed) (S : IsThreadSound
             let made = made_event r A S L M w one f to st B.base site listed avoided b has saving p i rip B.at P.core P.decided B.world P.saved old in
             let q = calm_in one w.mem to (event_code r A S L.long site listed one.now.rip from below) (λ e. omega (arith, e, below)) in
             let s = sym q.1 in
-            one_more r k w (after_watch w one f to) log1 (thread_of to0) to0.mem n (watches w one f to B.there st)
+            one_more r k w (after_watch w one f to) log1 (thread_of to0) to0.mem n
+            (calm_watches M w one f to B.there st B.base q (λ i. absurd (true≢false (sym (event_inside r A S L.long site listed one.now.rip from below) ∙ i))) (λ e. ap (λ o. avoids (is_new r) (saved_from o one.now.core) (saved_len o)) unringed ∙ avoided e))
             (rest (after_watch w one f to) (after_thread w one f to) (subst (λ (t : Thread). At (following cs t.core p) (after_watch w one f to) (after_thread w one f to)) B.projected (record {
               before = still_before w one B f to st made q (λ x a b. stale_in w one f u x (saves r one.now.rip) refl (event_inside r A S L.long site listed one.now.rip from below) a
                   (ap (λ o. is_one_of (saved_from o one.now.core) (saved_len o) x) unringed ∙ ap (λ z. is_one_of z 8 x) (same_slot w one p P)
@@ -487,7 +525,9 @@ module _ (r : Threading) (A : AreEntries r.original r.listed) (S : IsThreadSound
           let below : one.now.rip < work_at site = omega (arith, here, len) in
           let made = made_cover r A S L M w one f to st B.base site listed covers alone here B.at P.core B.world in
           let q = calm_in one w.mem to (event_code r A S L.long site listed one.now.rip from below) (λ e. omega (arith, e, below)) in
-          one_more r k w (after_watch w one f to) log1 (thread_of to0) to0.mem 3 (watches w one f to B.there st)
+          let free = event_saves r A S L.long site listed one.now.rip from below ∙ part_high Save one.now.rip site (omega (arith, here, none)) in
+          one_more r k w (after_watch w one f to) log1 (thread_of to0) to0.mem 3
+          (calm_watches M w one f to B.there st B.base q (λ i. absurd (true≢false (sym (event_inside r A S L.long site listed one.now.rip from below) ∙ i))) (λ i. absurd (true≢false (sym i ∙ free))))
           (effect_out (after_watch w one f to) (after_thread w one f to) (record {
             before = still_before w one B f to st made q (λ x a b. stale_stays r A S L M w one f to st B.base site listed from below (omega (arith, here, none)) x ∙ a) refl;
             here = ap (λ z. site.place + z) (sym len);
@@ -568,7 +608,8 @@ module _ (r : Threading) (A : AreEntries r.original r.listed) (S : IsThreadSound
             let made = made_ring r A S L M w one f to st B.base site listed n keeps p i P.here B.at P.core B.world P.saved avoided (inr old) in
             let q = calm_in one w.mem to (event_code r A S L.long site listed one.now.rip from below) (λ e. omega (arith, e, below)) in
             let s = sym q.1 in
-            one_more r k w (after_watch w one f to) log1 (thread_of to0) to0.mem m (watches w one f to B.there st)
+            one_more r k w (after_watch w one f to) log1 (thread_of to0) to0.mem m
+            (calm_watches M w one f to B.there st B.base q (λ i. absurd (true≢false (sym (event_inside r A S L.long site listed one.now.rip from below) ∙ i))) avoided)
             (rest (after_watch w one f to) (after_thread w one f to) (record {
               before = still_before w one B f to st made q (λ x a b. stale_in w one f u x (saves r one.now.rip) refl (event_inside r A S L.long site listed one.now.rip from below) a
                   (ap (λ o. is_one_of (saved_from o one.now.core) (saved_len o) x) ringing ∙ ap (λ z. is_one_of z 16 x) (same ∙ where')
@@ -668,7 +709,9 @@ module _ (r : Threading) (A : AreEntries r.original r.listed) (S : IsThreadSound
           let none = start_no_site r A S L.long x0 old' in
           let eff = effect_never r A S L.long x0 calm none in
           let q = calm_projection r one w.mem to calm none in
-          one_more r k w (after_watch w one f to) log1 (thread_of to0) to0.mem n (watches w one f to B.there st)
+          let reads = ap (λ (t : Task). reads_none w.stale t next u) (unlocked_task f next unlocked) ∙ jump_reads w.stale next (insn_of f) j.rel u.core j.jump in
+          one_more r k w (after_watch w one f to) log1 (thread_of to0) to0.mem n
+          (calm_watches M w one f to B.there st B.base (eff, q) (λ i. reads) (λ i. absurd (true≢false (sym i ∙ part_never r A S L.long x0 Save old'))))
           (rest (after_watch w one f to) (after_thread w one f to) (record {
             before = still_before w one B f to st (makes f to st) (eff, q) (λ x a b. stale_is r A S L M w one f to st B.base old' x ∙ and_left (w.stale x) _ a) refl;
             here = refl;
@@ -781,15 +824,23 @@ module _ (r : Threading) (A : AreEntries r.original r.listed) (S : IsThreadSound
       let now : thread_of to ≡ thread_of to0 = λ i. record { core = sym X.1.alike.core i; rip = sym X.1.rip i; world = sym X.1.alike.world i } in
       let projected : projection r one w.mem to ≡ thread_of to0 = cond-true (is_kept r x0) (thread_of to) _ kept ∙ now in
       let o : Outside r one.now one.projected = record { same = same; start = (and_parts (is_start r.listed x0) (not (is_site r x0)) kept).0 } in
+      let own_quiet : IsQuietAt r (machine_of w.mem one.projected) = subst (λ (t : Thread). IsQuietAt r (machine_of w.mem t)) same (record { known = quiet.known; leaves = quiet.leaves }) in
+      let p = watches w one f to e X.1.other (λ i. own_quiet) (ap (λ (t : Thread). is_start r.listed t.rip) projected ∙ ends) (λ i. fresh)
+      (λ i. absurd (true≢false (sym i ∙ part_never r A S L.long x0 Save (start_old r A S L.long x0 o.start)))) in
       record {
         few = 1;
         bound = omega arith;
         states = v ∷ [];
-        run = (watches w one f to e X.1.other, tt);
+        run = (p.step, tt);
+        proper = λ stand apart. let z = p.proper stand (apart.0 p.step) in (stand, (p.step, z), z.stand);
         there = set_here w.threads k one (after_thread w one f to) e ∙ ap₂ (λ (t p : Thread). Some (record { now = t; projected = p })) now projected;
         memory = λ x h z. X.1.alike.mem.bytes x h (sym (stale_is r A S L M w one f to X.1.other B (start_old r A S L.long x0 o.start) x) ∙ z);
         effect = cond-true (is_effect r x0) _ _ (effect_kept r A S L.long x0 kept) ∙ ap (λ (t : Thread). w.log ++ record { thread = k; at = t.rip; core = t.core } ∷ []) (sym same);
       }
+
+  -- the original's threads stand at listed starts
+  pub all_stand : (a : Guest) (made : List GuestItem) (w : Watch) → Related r S a made w → StandAtStarts r w.threads
+  all_stand a made w R = all_from (λ (t : Watched). is_start r.listed t.projected.rip ≡ true) w.threads (λ t i. (R.each i.0 t i.1).start)
 
   -- a thread that can go from a listed start gets out, whether the start is kept or displaced
   pub gets_out : (a : Guest) (made : List GuestItem) (w : Watch) (one : Watched) (R : Related r S a made w) → slice_get w.threads k ≡ Some one → (C : CanGo r w one R.end) → GetsOut r k w one C.to
@@ -802,7 +853,7 @@ module _ (r : Threading) (A : AreEntries r.original r.listed) (S : IsThreadSound
       same = phase_outside r A S L w.mem one.now one.projected R.other (R.each k one e).phase C.stands
 
       done : GoesOut r k w (w.log ++ record { thread = k; at = one.now.rip; core = one.now.core } ∷ []) (thread_of C.to) C.to.mem (12 + 2 * length (when_at r.sites one.now.rip) + further_at r.sites one.now.rip) → GetsOut r k w one C.to
-      done g = record { few = g.few; bound = g.bound; states = g.states; run = g.run; there = g.there; outside = C.ends; memory = g.memory; effect = g.effect }
+      done g = record { few = g.few; bound = g.bound; states = g.states; run = g.run; proper = g.proper (all_stand a made w R); there = g.there; outside = C.ends; memory = g.memory; effect = g.effect }
 
       displaced : is_site r one.now.rip ≡ true → (s : ThreadSite) × Contains r.sites s × (s.entry.addr ≡ one.now.rip) → GoesOut r k w (w.log ++ record { thread = k; at = one.now.rip; core = one.now.core } ∷ []) (thread_of C.to) C.to.mem (12 + 2 * length (when_at r.sites one.now.rip) + further_at r.sites one.now.rip)
       displaced is q =

@@ -39,8 +39,9 @@ use Rattle.event_steps.proofs.KnownCodeSteps.{IsKnown, known_step, known_told}
 use Rattle.thread_runs.proofs.KnownPieces.{jump_op, known_jump, ecx_op, known_ecx, reg_fields, reg_length, known_reg, call_reg}
 use Rattle.insn_form.proofs.UniqueSteps.{one_instruction}
 use Rattle.insn_form.proofs.SpellingSlices.{imm_ends}
+use Rattle.thread_runs.specs.Premises.{reads_nothing_of}
 use Rattle.thread_runs.specs.StepLaws.{writes_of, WorkLong, TailTouches, TailInside}
-use Rattle.thread_runs.proofs.RelocatedTouches.{known_writes}
+use Rattle.thread_runs.proofs.RelocatedTouches.{known_reads, known_writes}
 use Rattle.thread_runs.proofs.EffectSteps.{next_low, direct_low, atomic, has_length, whole, relocated_stands, whole_low, whole_length, relocated_low}
 use Rattle.thread_runs.proofs.WorkSize.{told}
 
@@ -85,6 +86,7 @@ module _ (f : Fields) (addr next to : ℕ) (c : Core) (rip : ℕ) (v : Machine) 
     op : Op
     known : IsKnown v fields next' op
     held : HasOperands v next' op
+    calm : (effect op next' v.core).read ≡ None
     nothing : (effect op next' v.core).write ≡ None
     leads : TailNext f next to k c rip v (after_op v next' op)
     after : to < v.rip
@@ -110,6 +112,7 @@ module _ (f : Fields) (addr next to : ℕ) (c : Core) (rip : ℕ) (v : Machine) 
         op = jump_op b next;
         known = known_jump v b next (omega (arith, l, n, five)) t.2 here;
         held = record { read = refl; write = refl };
+        calm = refl;
         nothing = refl;
         leads = record {
           tail = Out;
@@ -137,6 +140,7 @@ module _ (f : Fields) (addr next to : ℕ) (c : Core) (rip : ℕ) (v : Machine) 
         op = jump_op b target;
         known = known_jump v b target (omega (arith, l)) t.2 (fixed_back v.mem to (push_code next) (jump_code b target) (omega (arith, l)) (relocated_stands f addr next to v w x e));
         held = record { read = refl; write = refl };
+        calm = refl;
         nothing = refl;
         leads = record {
           tail = Out;
@@ -167,6 +171,7 @@ module _ (f : Fields) (addr next to : ℕ) (c : Core) (rip : ℕ) (v : Machine) 
         known = known_reg v b r (call_reg f r e) (omega (arith, l, n, m, p, q)) t.2
             (fixed_front v.mem b (jump_reg r) pads (fixed_back v.mem to (push_code next) (jump_reg r ++ pads) (omega (arith, l, n)) (relocated_stands f addr next to v w x e)));
         held = record { read = refl; write = refl };
+        calm = refl;
         nothing = refl;
         leads = record { tail = Out; fewer = omega arith; there = (t.1, ap (λ z. cut W64 (reg z r)) t.1 ∙ sym (ap (λ y. call_target y next c) e) ∙ sym t.3); mem = refl; world = refl };
         after = omega (arith, t.2);
@@ -195,6 +200,7 @@ module _ (f : Fields) (addr next to : ℕ) (c : Core) (rip : ℕ) (v : Machine) 
         known = known_ecx v (to + len') next (omega (arith, l, m)) t.2 (subst (λ z. IsFixed v.mem (to + z) (ecx_code next)) n
             (fixed_back v.mem to (copy_of f next to) (ecx_code next) (omega (arith, l, m, n)) (subst (IsFixed v.mem to) code (relocated_stands f addr next to v w x e))));
         held = record { read = refl; write = refl };
+        calm = refl;
         nothing = refl;
         leads = record {
           tail = Back;
@@ -220,12 +226,14 @@ module _ (f : Fields) (addr next to : ℕ) (c : Core) (rip : ℕ) (v : Machine) 
   tail_code Jump p t = jump_code_of (insn_of f) refl t t.0
   tail_code Ecx p t = ecx_code_by (insn_of f) refl t.0 t
 
--- after the effect step no instruction of the trampoline writes a byte
+-- after the effect step no instruction of the trampoline reads or writes a byte
 pub tail_touches : TailTouches
 tail_touches f g addr next to k c rip v p w t at set' =
     let q = tail_code f addr next to c rip v w k p t in
-    let e : g ≡ q.fields = one_instruction v g q.fields at q.known.at in
-    ap (λ z. writes_of set' z v) e ∙ known_writes set' v q.fields q.next' q.op q.known.behind q.known.insn ∙ ap (avoids_span set') q.nothing
+    let e : g ≡ q.fields = one_instruction v g q.fields at q.known.at in (
+      ap (λ z. reads_nothing_of set' z v) e ∙ known_reads set' v q.fields q.next' q.op q.known.behind q.known.insn ∙ ap (avoids_span set') q.calm,
+      ap (λ z. writes_of set' z v) e ∙ known_writes set' v q.fields q.next' q.op q.known.behind q.known.insn ∙ ap (avoids_span set') q.nothing,
+    )
 
 -- after the effect step a thread stands inside the relocated code, past its first byte
 pub tail_inside : TailInside

@@ -78,10 +78,10 @@ abbrev pub RingSavesHeld : Type 0
 RingSavesHeld = (n p i at : ℕ) (c : Core) (v w : Machine)
     → (InRing n p i at Ring0 c v → ThreadStep v w → lacking 2 v.mem (slot c) 8 ≡ None) × (InRing n p i at Ring3 c v → ThreadStep v w → lacking 2 v.mem (flag_slot c) 8 ≡ None)
 
--- after the effect step the instructions of a trampoline write no byte
+-- after the effect step the instructions of a trampoline read and write no byte
 abbrev pub TailTouches : Type 0
 TailTouches = (f g : Fields) (addr next to : ℕ) (k : Tail) (c : Core) (rip : ℕ) (v : Machine) → 0 < left k → IsWork f addr next to v → InTail f next to k c rip v → IsAt v g
-    → (set : ℕ → Bool) → writes_of set g v ≡ true
+    → (set : ℕ → Bool) → (reads_nothing_of set g v ≡ true) × (writes_of set g v ≡ true)
 
 -- after the effect step a thread that has steps left stands inside the relocated code
 abbrev pub TailInside : Type 0

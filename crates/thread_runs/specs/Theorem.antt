@@ -17,7 +17,7 @@ use Rattle.thread_runs.specs.ThreadCode.{Marks, saved_from, saved_len}
 use Rattle.trampoline.specs.EventLists.{counter_at, mark_at}
 use Rattle.thread_runs.specs.Threading.{Threading, ThreadSite, is_new, is_hidden, is_keeping, is_met_by, is_counted, saves_at, is_saved_by, IsThreadSound}
 use Rattle.thread_runs.specs.Watching.{Watched, EffectStep, Watch, watch_of, Watches}
-use Rattle.thread_runs.specs.Premises.{IsProperRun, IsQuietAt, reads_nothing_of}
+use Rattle.thread_runs.specs.Premises.{IsProperRun, IsQuietAt, LeavesSaved, reads_nothing_of}
 use Rattle.thread_runs.specs.Relation.{IsBeside, KeepsCode, KeepsMarks, KeepsRing}
 use Rattle.thread_runs.specs.Ring.{AreKept}
 
@@ -91,6 +91,13 @@ IsWatched r [] w (v ∷ vs) = ⊥
 IsWatched r (k ∷ ks) w [] = ⊥
 IsWatched r (k ∷ ks) w (v ∷ vs) = Watches r k w v × IsWatched r ks v vs
 
+-- Each step of a watched run leaves the saved bytes of all other threads alone.
+abbrev pub LeaveSaved : Threading → List ℕ → Watch → List Watch → Type 0
+LeaveSaved r [] w [] = Unit {0}
+LeaveSaved r [] w (v ∷ vs) = ⊥
+LeaveSaved r (k ∷ ks) w [] = ⊥
+LeaveSaved r (k ∷ ks) w (v ∷ vs) = ((m : Watches r k w v) → LeavesSaved r w k m.fields (machine_of w.mem m.one.now)) × LeaveSaved r ks v vs
+
 -- A thread that can go: it stands at a listed start, the original's thread has a step that is quiet
 -- and leads to a listed start, and reads no stale byte. If it stands at a site whose event saves rax,
 -- the saved bytes can be read and written, aren't new, and aren't read by the instruction.
@@ -121,12 +128,13 @@ further_at (s ∷ ss) x = if s.entry.addr == x then (if is_keeping s.event then 
 -- comparison, and five more where its event keeps a ring, and then stands outside, where the original's step leads: it is the thread that this step leads
 -- to, with the same registers, flags, bases, instruction pointer and rest of the world, and counts
 -- as itself. Memory is the original's after that step but for listed instructions, new bytes and
--- stale bytes.
+-- stale bytes. Where its steps leave the saved bytes of all other threads alone, they meet the premises.
 pub record GetsOut (r : Threading) (k : ℕ) (w : Watch) (one : Watched) (to : Machine) : Type 0 where
   pub few : ℕ
   pub bound : few ≤ 12 + 2 * length (when_at r.sites one.now.rip) + further_at r.sites one.now.rip
   pub states : List Watch
   pub run : IsWatched r (replicate few k) w states
+  pub proper : LeaveSaved r (replicate few k) w states → IsProperRun r (replicate few k) w states
   pub there : slice_get (last_watch w states).threads k ≡ Some (record { now = thread_of to; projected = thread_of to })
   pub outside : is_start r.listed to.rip ≡ true
   pub memory : (x : ℕ) → is_hidden r x ≡ false → (last_watch w states).stale x ≡ false → to.mem x ≡ (last_watch w states).mem x

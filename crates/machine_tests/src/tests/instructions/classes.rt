@@ -5,9 +5,9 @@ use std::test::Fail;
 
 const CLASSES: &str = "\
 0f05 Asked(AskedForm { rip_disp: None, syscall: true, copied: true })
-f30f05 Asked(AskedForm { rip_disp: None, syscall: false, copied: false })
-f20f05 Asked(AskedForm { rip_disp: None, syscall: false, copied: false })
-f3480f05 Asked(AskedForm { rip_disp: None, syscall: false, copied: false })
+f30f05 Asked(AskedForm { rip_disp: None, syscall: true, copied: false })
+f20f05 Asked(AskedForm { rip_disp: None, syscall: true, copied: false })
+f3480f05 Asked(AskedForm { rip_disp: None, syscall: true, copied: false })
 f00f05 Asked(AskedForm { rip_disp: None, syscall: false, copied: true })
 0fa2 Asked(AskedForm { rip_disp: None, syscall: false, copied: true })
 0f280510000000 Asked(AskedForm { rip_disp: Some(16), syscall: false, copied: true })

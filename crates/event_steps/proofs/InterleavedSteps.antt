@@ -14,7 +14,7 @@ use Rattle.event_steps.specs.EventSteps.Mode.{Shared}
 use Rattle.event_steps.specs.EventSteps.Place.{At, Below}
 use Rattle.event_steps.specs.Interleaved.{Listed, numbers_in, IsKeptAt, AreKept, Meanwhile, Reaches, IsIn, IsWell, ComesIn, GoesOn, CanGoOn, is_own_place, IsOwn, StaysIn}
 use Rattle.event_steps.proofs.ListedCode.{step_told, step_goes, step_leads, same_code, rest_stands}
-use Rattle.event_steps.proofs.LocalSteps.{steps_done}
+use Rattle.event_steps.proofs.LocalSteps.{steps_done, step_done}
 
 -- data hold what they hold
 pub held_now : (ds : List Datum) (c : Core) (m : Bytes) → Hold ds c m (numbers_in ds c m)
@@ -137,27 +137,27 @@ dropped (suc k) (s ∷ ss) = let q = dropped k ss in omega (arith, q)
 
 -- each step that it makes is that step's
 pub goes_on : GoesOn
-goes_on e place c s rest v w well free h fits st =
+goes_on e place c s rest v w well h fits st =
     let ds = e.uses in
     let q = at_step e place c s rest v well h in
     let r : v.rip ≡ q.place = (let a = h.rip in let b = q.here in omega (arith, a, b)) in
     let low : q.place + long (s ∷ rest) < 2 ^ 31 = (let b = q.here in let l = well.below in omega (arith, b, l)) in
     let t = step_told Shared ds s rest q.place v w q.steps low r q.stands st in
-    let d = steps_done Shared ds c s rest q.place h.now v q.steps.0 q.steps.1 well.low well.apart free fits h.beside in
+    let d = step_done Shared ds c s rest q.place h.now v q.steps.0 q.steps.1 well.low well.apart fits h.beside t.0 in
     let same = h.beside.core in
-    let more = reaches_more ds 0 e.steps s rest (started c h.began) h.now h.came (all_kept ds c (after ds s rest q.place v).mem (done s h.now).held d.1.beside.hold) in
+    let more = reaches_more ds 0 e.steps s rest (started c h.began) h.now h.came (all_kept ds c (after ds s rest q.place v).mem (done s h.now).held d.beside.hold) in
     let leads = step_leads ds s rest q.place v low q.steps.2 in
     let far = dropped (skipped s v.core) rest in (
       record {
         began = h.began;
         now = done s h.now;
         came = subst (λ (z : Core). Reaches ds 0 e.steps (drop (skipped s z) rest) (started c h.began) (done s h.now)) (sym same) more;
-        beside = subst (StandsBy ds c (done s h.now)) (sym t.1) d.1.beside;
+        beside = subst (StandsBy ds c (done s h.now)) (sym t.1) d.beside;
         rip = (let a = ap (λ (z : Machine). z.rip) t.1 ∙ leads in let b = q.here in omega (arith, a, b, far));
         stands = fixed_on v.mem w.mem place (code ds e.steps) (same_code Shared v w st) h.stands;
       },
-      ap (λ (z : Machine). z.mem) t.1 ∙ d.1.mem,
-      ap (λ (z : Machine). z.world) t.1 ∙ d.1.world,
+      ap (λ (z : Machine). z.mem) t.1 ∙ d.mem,
+      ap (λ (z : Machine). z.world) t.1 ∙ d.world,
     )
 
 -- it can make it

@@ -79,12 +79,13 @@ hold_on (d ∷ ds) c m w (x ∷ xs) e h = (
 )
 
 -- a number that is put at a datum is held there, and the others hold what they held
-pub hold_put : (ds : List Datum) (c : Core) (m : Bytes) (xs : List ℕ) (k v : ℕ) → AreApart ds c → AreFree ds c m → AreLow ds → Hold ds c m xs → k < length ds → (datum ds k).size ≤ 8
+pub hold_put : (ds : List Datum) (c : Core) (m : Bytes) (xs : List ℕ) (k v : ℕ) → AreApart ds c → lacking 2 m (address (datum ds k).place c) (datum ds k).size ≡ None → AreLow ds → Hold ds c m xs → k < length ds
+    → (datum ds k).size ≤ 8
     → Hold ds c (put_list m (address (datum ds k).place c) (bytes_of (datum ds k).size v)) (slice_set xs k (v % 2 ^ (8 * (datum ds k).size)))
 hold_put [] c m xs k v a f l h n z = absurd (omega (arith, n))
 hold_put (d ∷ ds) c m [] k v a f l h n z = absurd h
 hold_put (d ∷ ds) c m (x ∷ xs) zero v a f l h n z = (
-  λ t. read_back m 2 (address d.place c) d.size v (low_address d.place d.size c l.0) z f.1,
+  λ t. read_back m 2 (address d.place c) d.size v (low_address d.place d.size c l.0) z f,
   hold_on ds c m (put_list m (address d.place c) (bytes_of d.size v)) xs
       (λ y k. put_elsewhere m (address d.place c) d.size (bytes_of d.size v) y (bytes_of_length d.size v) (false_from_ne_true _ (λ e. true≢false (sym k ∙ a.0 y e)))) h.1,
 )
@@ -93,7 +94,7 @@ hold_put (d ∷ ds) c m (x ∷ xs) (suc k) v a f l h n z = (
       (λ y i. put_elsewhere m (address (datum ds k).place c) (datum ds k).size (bytes_of (datum ds k).size v) y (bytes_of_length (datum ds k).size v)
       (datum_out ds k c y (omega (arith, n)) (a.0 y i)))
       ∙ h.0 t,
-  hold_put ds c m xs k v a.1 f.2 l.1 h.1 (omega (arith, n)) z,
+  hold_put ds c m xs k v a.1 f l.1 h.1 (omega (arith, n)) z,
 )
 
 -- with equal stack pointers a datum is at one address
@@ -253,6 +254,17 @@ can_is (Reduce false) ds d next c v o h l f e = record { read = refl; write = re
 can_is (Put k i) ds d next c v o h l f e = absurd (true≢false o)
 can_is s ds d next c v o h l f e = record { read = refl; write = refl }
 
+-- where it has its operands, what it writes can be written
+can_write : (s : EventStep) (ds : List Datum) (d next : ℕ) (c : Core) (v : Machine) → AreLow ds → reg v.core rsp ≡ reg c rsp → HasOperands v next (op_of s (place_in ds s) d next) → is_writing s ≡ true
+    → lacking 2 v.mem (address (place_in ds s) c) (taken s) ≡ None
+unfolding effect
+can_write (Cover k) ds d next c v l e o w = ap (λ a. lacking 2 v.mem a 1) (sym (at_place ds k v.core c l e)) ∙ o.write
+can_write (CountUp b k) ds d next c v l e o w = ap (λ a. lacking 2 v.mem a 8) (sym (at_place ds k v.core c l e)) ∙ o.write
+can_write (Store k) ds d next c v l e o w = ap (λ a. lacking 2 v.mem a 8) (sym (at_place ds k v.core c l e)) ∙ o.write
+can_write (StoreLow k) ds d next c v l e o w = ap (λ a. lacking 2 v.mem a 4) (sym (at_place ds k v.core c l e)) ∙ o.write
+can_write (Claim k) ds d next c v l e o w = ap (λ a. lacking 2 v.mem a 4) (sym (at_place ds k v.core c l e)) ∙ o.write
+can_write s ds d next c v l e o w = absurd (false≢true w)
+
 -- rsp stays
 pub stack_stays : (mode : Mode) (s : EventStep) (p : Place) (x : ℕ) (c : Core) → IsStep mode p s → reg (core_done s x c) rsp ≡ reg c rsp
 unfolding effect is_met
@@ -301,21 +313,22 @@ number_fits (Claim k) x c = twice_low (x + reg c rax)
 number_fits s x c = refl
 
 -- its datum holds it, and the others hold what they held
-hold_number : (ds : List Datum) (c : Core) (m : Bytes) (xs : List ℕ) (k n y : ℕ) → IsNumber ds k n → n ≤ 8 → AreApart ds c → AreFree ds c m → AreLow ds → Hold ds c m xs
+hold_number : (ds : List Datum) (c : Core) (m : Bytes) (xs : List ℕ) (k n y : ℕ) → IsNumber ds k n → n ≤ 8 → AreApart ds c → lacking 2 m (address (datum ds k).place c) n ≡ None → AreLow ds → Hold ds c m xs
     → y % 2 ^ (8 * n) ≡ y → Hold ds c (put_list m (address (datum ds k).place c) (bytes_of n y)) (slice_set xs k y)
 hold_number ds c m xs k n y h few a f l b e =
     let q = h.1 in
+    let g = subst (λ z. lacking 2 m (address (datum ds k).place c) z ≡ None) (sym q) f in
     subst (λ z. Hold ds c (put_list m (address (datum ds k).place c) (bytes_of n y)) (slice_set xs k z)) e
-    (subst (λ z. Hold ds c (put_list m (address (datum ds k).place c) (bytes_of z y)) (slice_set xs k (y % 2 ^ (8 * z)))) q (hold_put ds c m xs k y a f l b h.0 (omega (arith, q, few))))
+    (subst (λ z. Hold ds c (put_list m (address (datum ds k).place c) (bytes_of z y)) (slice_set xs k (y % 2 ^ (8 * z)))) q (hold_put ds c m xs k y a g l b h.0 (omega (arith, q, few))))
 
-hold_done : (ds : List Datum) (c : Core) (m : Bytes) (xs : List ℕ) (s : EventStep) (y : ℕ) → HasDatum ds s → AreApart ds c → AreFree ds c m → AreLow ds → Hold ds c m xs
-    → y % 2 ^ (8 * taken s) ≡ y
+hold_done : (ds : List Datum) (c : Core) (m : Bytes) (xs : List ℕ) (s : EventStep) (y : ℕ) → HasDatum ds s → AreApart ds c
+    → (is_writing s ≡ true → lacking 2 m (address (place_in ds s) c) (taken s) ≡ None) → AreLow ds → Hold ds c m xs → y % 2 ^ (8 * taken s) ≡ y
     → Hold ds c (if is_writing s then put_list m (address (place_in ds s) c) (bytes_of (taken s) y) else m) (if is_writing s then slice_set xs (datum_of s) y else xs)
-hold_done ds c m xs (Cover k) y h a f l b e = hold_number ds c m xs k 1 y h (omega arith) a f l b e
-hold_done ds c m xs (CountUp t k) y h a f l b e = hold_number ds c m xs k 8 y h (omega arith) a f l b e
-hold_done ds c m xs (Store k) y h a f l b e = hold_number ds c m xs k 8 y h (omega arith) a f l b e
-hold_done ds c m xs (StoreLow k) y h a f l b e = hold_number ds c m xs k 4 y h (omega arith) a f l b e
-hold_done ds c m xs (Claim k) y h a f l b e = hold_number ds c m xs k 4 y h (omega arith) a f l b e
+hold_done ds c m xs (Cover k) y h a f l b e = hold_number ds c m xs k 1 y h (omega arith) a (f refl) l b e
+hold_done ds c m xs (CountUp t k) y h a f l b e = hold_number ds c m xs k 8 y h (omega arith) a (f refl) l b e
+hold_done ds c m xs (Store k) y h a f l b e = hold_number ds c m xs k 8 y h (omega arith) a (f refl) l b e
+hold_done ds c m xs (StoreLow k) y h a f l b e = hold_number ds c m xs k 4 y h (omega arith) a (f refl) l b e
+hold_done ds c m xs (Claim k) y h a f l b e = hold_number ds c m xs k 4 y h (omega arith) a (f refl) l b e
 hold_done ds c m xs s y h a f l b e = b
 
 -- each other byte stays
@@ -381,34 +394,53 @@ element_place : (a n : ℕ) (c : Core) → a + n ≤ 0x7FFF0000 → 4 * reg c ra
 element_place a n c h l = ap (λ w. ((0 + reg c rax * 4 + w) % 2 ^ 64 + 0) % 2 ^ 64) (four_word a (omega (arith, h, l)))
     ∙ (let e : ((0 + reg c rax * 4 + a) % 2 ^ 64 + 0) % 2 ^ 64 ≡ a + 4 * reg c rax = omega (arith, h, l) in e)
 
-put_done : (ds : List Datum) (c : Core) (k i d next : ℕ) (l : Local) (v : Machine) → IsFixedPlace (datum ds k).place → i < 2 ^ 31 → (k < length ds) × ((datum ds k).number ≡ false) → AreLow ds → AreApart ds c
-    → AreFree ds c v.mem → 4 * reg l.core rax + 4 ≤ (datum ds k).size → StandsBy ds c l v
-    → HasOperands v next (op_of (Put k i) (datum ds k).place d next) × IsDone ds c (Put k i) l v (after_step (Put k i) (datum ds k).place d next v)
+-- the element that it is put into
+element_at : (ds : List Datum) (k a : ℕ) (c : Core) (l : Local) (v : Machine) → (datum ds k).place ≡ At a → AreLow ds → 4 * reg l.core rax + 4 ≤ (datum ds k).size → v.core ≡ l.core
+    → (a + (datum ds k).size ≤ 0x7FFF0000) × (place v.core (element_of (At a)) ≡ a + 4 * reg l.core rax)
+element_at ds k a c l v e low fits b =
+    let n = (datum ds k).size in
+    let lw : a + n ≤ 0x7FFF0000 = subst (λ (p : Place). IsLow p n) e (any_low ds k low) in
+    let same : reg v.core rax ≡ reg l.core rax = ap (λ (z : Core). reg z rax) b in
+    (lw, element_place a n v.core lw (omega (arith, same, fits)) ∙ ap (λ z. a + 4 * z) same)
+
+-- it can be written where the array can be
+put_can : (ds : List Datum) (c : Core) (k i d next : ℕ) (l : Local) (v : Machine) → IsFixedPlace (datum ds k).place → k < length ds → AreLow ds → AreFree ds c v.mem → 4 * reg l.core rax + 4 ≤ (datum ds k).size
+    → v.core ≡ l.core → HasOperands v next (op_of (Put k i) (datum ds k).place d next)
 unfolding effect
-put_done ds c k i d next l v at small has low apart free fits b = by_place (datum ds k).place refl at
+put_can ds c k i d next l v at has low free fits b = by_place (datum ds k).place refl at
   where
-    by_place : (p : Place) → (datum ds k).place ≡ p → IsFixedPlace p → HasOperands v next (op_of (Put k i) (datum ds k).place d next) × IsDone ds c (Put k i) l v (after_step (Put k i) (datum ds k).place d next v)
+    by_place : (p : Place) → (datum ds k).place ≡ p → IsFixedPlace p → HasOperands v next (op_of (Put k i) (datum ds k).place d next)
     by_place (Below q) e t = absurd t
     by_place (At a) e t =
         let n = (datum ds k).size in
-        let lw : a + n ≤ 0x7FFF0000 = subst (λ (p : Place). IsLow p n) e (any_low ds k low) in
-        let same : reg v.core rax ≡ reg l.core rax = ap (λ (z : Core). reg z rax) b.core in
-        let x : place v.core (element_of (At a)) ≡ a + 4 * reg l.core rax = element_place a n v.core lw (omega (arith, same, fits)) ∙ ap (λ z. a + 4 * z) same in
-        let f = subst (λ (p : Place). lacking 2 v.mem (address p c) n ≡ None) e (datum_free ds k c v.mem free has.0).1 in
+        let x = element_at ds k a c l v e low fits b in
+        let lw = x.0 in
+        let f = subst (λ (p : Place). lacking 2 v.mem (address p c) n ≡ None) e (datum_free ds k c v.mem free has).1 in
+        subst (λ (p : Place). HasOperands v next (op_of (Put k i) p d next)) (sym e)
+        (record { read = refl; write = ap (λ z. lacking 2 v.mem z 4) x.1 ∙ inner_free 2 v.mem a n (4 * reg l.core rax) 4 fits (omega (arith, lw)) f })
+
+put_done : (ds : List Datum) (c : Core) (k i d next : ℕ) (l : Local) (v : Machine) → IsFixedPlace (datum ds k).place → i < 2 ^ 31 → (k < length ds) × ((datum ds k).number ≡ false) → AreLow ds → AreApart ds c
+    → 4 * reg l.core rax + 4 ≤ (datum ds k).size → StandsBy ds c l v → IsDone ds c (Put k i) l v (after_step (Put k i) (datum ds k).place d next v)
+unfolding effect
+put_done ds c k i d next l v at small has low apart fits b = by_place (datum ds k).place refl at
+  where
+    by_place : (p : Place) → (datum ds k).place ≡ p → IsFixedPlace p → IsDone ds c (Put k i) l v (after_step (Put k i) (datum ds k).place d next v)
+    by_place (Below q) e t = absurd t
+    by_place (At a) e t =
+        let n = (datum ds k).size in
+        let x = element_at ds k a c l v e low fits b.core in
+        let lw = x.0 in
         let w : Bytes = put_list v.mem (a + 4 * reg l.core rax) (bytes_of 4 i) in
-        let mem : (after_step (Put k i) (At a) d next v).mem ≡ w = (λ j. put_list v.mem (x j) (bytes_of 4 (low_immediate i small j))) in
+        let mem : (after_step (Put k i) (At a) d next v).mem ≡ w = (λ j. put_list v.mem (x.1 j) (bytes_of 4 (low_immediate i small j))) in
         let stays : (y : ℕ) → is_one_of (address (datum ds k).place c) n y ≡ false → w y ≡ v.mem y =
         (λ y o. put_elsewhere v.mem (a + 4 * reg l.core rax) 4 (bytes_of 4 i) y (bytes_of_length 4 i)
         (part_out a n (4 * reg l.core rax) 4 y fits (omega (arith, lw)) (subst (λ (p : Place). is_one_of (address p c) n y ≡ false) e o))) in
-        subst (λ (p : Place). HasOperands v next (op_of (Put k i) p d next) × IsDone ds c (Put k i) l v (after_step (Put k i) p d next v)) (sym e) (
-          record { read = refl; write = ap (λ z. lacking 2 v.mem z 4) x ∙ inner_free 2 v.mem a n (4 * reg l.core rax) 4 fits (omega (arith, lw)) f },
-          record {
-            beside = record { core = b.core; stack = b.stack; hold = subst (λ (m : Bytes). Hold ds c m l.held) (sym mem) (hold_filled ds c v.mem w l.held k apart has.0 has.1 stays b.hold) };
-            mem = mem ∙ (λ j. put_list v.mem (address (sym e j) c + 4 * reg l.core rax) (bytes_of 4 i));
-            world = refl;
-            kept = λ y o. ap (λ (m : Bytes). m y) mem ∙ stays y (datum_out ds k c y has.0 o);
-          },
-        )
+        subst (λ (p : Place). IsDone ds c (Put k i) l v (after_step (Put k i) p d next v)) (sym e) (record {
+          beside = record { core = b.core; stack = b.stack; hold = subst (λ (m : Bytes). Hold ds c m l.held) (sym mem) (hold_filled ds c v.mem w l.held k apart has.0 has.1 stays b.hold) };
+          mem = mem ∙ (λ j. put_list v.mem (address (sym e j) c + 4 * reg l.core rax) (bytes_of 4 i));
+          world = refl;
+          kept = λ y o. ap (λ (m : Bytes). m y) mem ∙ stays y (datum_out ds k c y has.0 o);
+        })
 
 -- memory after a step that puts nothing into an array
 plain_mem : (ds : List Datum) (c : Core) (s : EventStep) (l : Local) (m : Bytes) → is_putting s ≡ false
@@ -418,8 +450,8 @@ plain_mem ds c s l m o = refl
 
 -- a step is done as it says
 plain_done : (mode : Mode) (ds : List Datum) (c : Core) (s : EventStep) (d next : ℕ) (l : Local) (v : Machine) → is_putting s ≡ false → IsStep mode (place_in ds s) s → HasDatum ds s → AreLow ds → AreApart ds c
-    → AreFree ds c v.mem → StandsBy ds c l v → HasOperands v next (op_of s (place_in ds s) d next) × IsDone ds c s l v (after_step s (place_in ds s) d next v)
-plain_done mode ds c s d next l v puts h has low apart free b =
+    → HasOperands v next (op_of s (place_in ds s) d next) → StandsBy ds c l v → IsDone ds c s l v (after_step s (place_in ds s) d next v)
+plain_done mode ds c s d next l v puts h has low apart can b =
     let p = place_in ds s in
     let n = (datum ds (datum_of s)).size in
     let lw = any_low ds (datum_of s) low in
@@ -432,31 +464,50 @@ plain_done mode ds c s d next l v puts h has low apart free b =
     let number : number_done s (number_at v.mem (address p v.core) (taken s)) v.core ≡ y = ap (λ z. number_done s (number_at v.mem z (taken s)) v.core) a ∙ same_number ds s c v.core v.mem l has b.hold
     ∙ ap (number_done s (datum_held s l)) b.core in
     let mem : w.mem ≡ (if is_writing s then put_list v.mem (address p c) (bytes_of (taken s) y) else v.mem) =
-    mem_is mode s p n d next v puts h lw ∙ (λ i. if is_writing s then put_list v.mem (a i) (bytes_of (taken s) (number i)) else v.mem) in (
-      can_is s ds d next c v puts has low free stack,
-      record {
-        beside = record {
-          core = core;
-          stack = stack_stays mode s p (datum_held s l) l.core h ∙ b.stack;
-          hold = subst (λ (m : Bytes). Hold ds c m (done s l).held) (sym mem) (hold_done ds c v.mem l.held s y has apart free low b.hold (number_fits s (datum_held s l) l.core));
-        };
-        mem = mem ∙ sym (plain_mem ds c s l v.mem puts);
-        world = world_stays s p d next v;
-        kept = λ x o. ap (λ (m : Bytes). m x) mem ∙ kept_done ds c v.mem s y x has o;
-      },
-    )
+    mem_is mode s p n d next v puts h lw ∙ (λ i. if is_writing s then put_list v.mem (a i) (bytes_of (taken s) (number i)) else v.mem) in
+    record {
+      beside = record {
+        core = core;
+        stack = stack_stays mode s p (datum_held s l) l.core h ∙ b.stack;
+        hold = subst (λ (m : Bytes). Hold ds c m (done s l).held) (sym mem)
+            (hold_done ds c v.mem l.held s y has apart (can_write s ds d next c v low stack can) low b.hold (number_fits s (datum_held s l) l.core));
+      };
+      mem = mem ∙ sym (plain_mem ds c s l v.mem puts);
+      world = world_stays s p d next v;
+      kept = λ x o. ap (λ (m : Bytes). m x) mem ∙ kept_done ds c v.mem s y x has o;
+    }
   where
     world_stays : (s : EventStep) (p : Place) (d next : ℕ) (v : Machine) → (after_step s p d next v).world ≡ v.world
     world_stays (Claim k) p d next v = refl
     world_stays s p d next v = refl
 
-pub steps_done : StepsAreDone
-steps_done mode ds c s ss at l v h has low apart free fits b = by_kind (is_putting s) refl
+-- a step has its operands where the data are free
+step_can : (mode : Mode) (ds : List Datum) (c : Core) (s : EventStep) (ss : List EventStep) (at : ℕ) (l : Local) (v : Machine) → IsStep mode (place_in ds s) s → HasDatum ds s → AreLow ds → AreFree ds c v.mem
+    → FitsIn ds s l → StandsBy ds c l v → Can ds s ss at v
+step_can mode ds c s ss at l v h has low free fits b = by_kind (is_putting s) refl
   where
-    put : (s : EventStep) → is_putting s ≡ true → IsStep mode (place_in ds s) s → HasDatum ds s → FitsIn ds s l → Can ds s ss at v × IsDone ds c s l v (after ds s ss at v)
-    put (Put k i) o h has fits = put_done ds c k i (over (Put k i) ss) (at + size (Put k i)) l v h.0 h.1 has low apart free fits b
+    put : (s : EventStep) → is_putting s ≡ true → IsStep mode (place_in ds s) s → HasDatum ds s → FitsIn ds s l → Can ds s ss at v
+    put (Put k i) o h has fits = put_can ds c k i (over (Put k i) ss) (at + size (Put k i)) l v h.0 has.0 low free fits b.core
     put s o h has fits = absurd (false≢true o)
 
-    by_kind : (t : Bool) → is_putting s ≡ t → Can ds s ss at v × IsDone ds c s l v (after ds s ss at v)
-    by_kind false o = plain_done mode ds c s (over s ss) (at + size s) l v o h has low apart free b
+    by_kind : (t : Bool) → is_putting s ≡ t → Can ds s ss at v
+    by_kind false o = can_is s ds (over s ss) (at + size s) c v o has low free (ap (λ z. reg z rsp) b.core ∙ b.stack)
     by_kind true o = put s o h has fits
+
+-- and where it has them it is done as it says
+pub step_done : (mode : Mode) (ds : List Datum) (c : Core) (s : EventStep) (ss : List EventStep) (at : ℕ) (l : Local) (v : Machine) → IsStep mode (place_in ds s) s → HasDatum ds s → AreLow ds → AreApart ds c
+    → FitsIn ds s l → StandsBy ds c l v → Can ds s ss at v → IsDone ds c s l v (after ds s ss at v)
+step_done mode ds c s ss at l v h has low apart fits b can = by_kind (is_putting s) refl
+  where
+    put : (s : EventStep) → is_putting s ≡ true → IsStep mode (place_in ds s) s → HasDatum ds s → FitsIn ds s l → IsDone ds c s l v (after ds s ss at v)
+    put (Put k i) o h has fits = put_done ds c k i (over (Put k i) ss) (at + size (Put k i)) l v h.0 h.1 has low apart fits b
+    put s o h has fits = absurd (false≢true o)
+
+    by_kind : (t : Bool) → is_putting s ≡ t → IsDone ds c s l v (after ds s ss at v)
+    by_kind false o = plain_done mode ds c s (over s ss) (at + size s) l v o h has low apart can b
+    by_kind true o = put s o h has fits
+
+pub steps_done : StepsAreDone
+steps_done mode ds c s ss at l v h has low apart free fits b =
+    let can = step_can mode ds c s ss at l v h has low free fits b in
+    (can, step_done mode ds c s ss at l v h has low apart fits b can)

@@ -73,7 +73,7 @@ ComesIn = (e : Listed) (place : ℕ) (v : Machine) → v.rip ≡ place → IsFix
 
 -- Each step that it makes is that in front of which it stands: it stands in front of the next one then, and memory is as the step says.
 abbrev pub GoesOn : Type 0
-GoesOn = (e : Listed) (place : ℕ) (c : Core) (s : EventStep) (rest : List EventStep) (v w : Machine) → IsWell e place c → AreFree e.uses c v.mem → (h : IsIn e place c (s ∷ rest) v) → FitsIn e.uses s h.now
+GoesOn = (e : Listed) (place : ℕ) (c : Core) (s : EventStep) (rest : List EventStep) (v w : Machine) → IsWell e place c → (h : IsIn e place c (s ∷ rest) v) → FitsIn e.uses s h.now
     → ThreadStep v w → IsIn e place c (drop (skipped s v.core) rest) w × (w.mem ≡ mem_done e.uses c s h.now v.mem) × (w.world ≡ v.world)
 
 -- It can make it where the data are free.

@@ -52,119 +52,135 @@ first_there d ds [] ys h = absurd h
 first_there d ds (x ∷ xs) [] h = absurd h
 first_there d ds (x ∷ xs) (y ∷ ys) h = omega arith
 
--- steps that change flags alone, and leave the first datum where it is saved in; a jump leads at most behind so many more
-abbrev IsMildStep : Bool → EventStep → ℕ → Type 0
-IsMildStep own (Cover k) n = own ≡ true → k ≢ 0
-IsMildStep own (CountUp locked k) n = own ≡ true → k ≢ 0
-IsMildStep own (Compare r i) n = Unit {0}
-IsMildStep own (CompareAt k i) n = Unit {0}
-IsMildStep own (SkipIf cc k) n = k ≤ n
-IsMildStep own s n = ⊥
+-- rax saved in a first datum, which stays while others step, and the flags in ax: a thread in front of steps
+pub record InAx (us : List Datum) (c : Core) (ss : List EventStep) (l' : Local) : Type 0 where
+  pub at : Local
+  pub core : at.core ≡ kept_in_ax c
+  pub first : slice_index at.held 0 ≡ reg c rax % 2 ^ 64
+  pub left : Reaches us 0 ss [] at l'
 
-abbrev AreMild : Bool → List EventStep → Type 0
-AreMild own [] = Unit {0}
-AreMild own (s ∷ ss) = IsMildStep own s (length ss) × AreMild own ss
+module _ (us : List Datum) (own : (xs ys : List ℕ) → AreKept us xs ys → slice_index ys 0 ≡ slice_index xs 0) (c : Core) (l : Local) where
+  -- the steps that save so
+  pub saves_in_ax : ((xs ys : List ℕ) → AreKept us xs ys → 0 < length ys) → (ss : List EventStep) (began : List ℕ) → Reaches us 0 (Store 0 ∷ IntoAh ∷ IntoAl ∷ ss) [] (started c began) l → InAx us c ss l
+  saves_in_ax there ss began r =
+      let p0 = past us (Store 0) (IntoAh ∷ IntoAl ∷ ss) (started c began) l r in
+      let p1 = past us IntoAh (IntoAl ∷ ss) (done (Store 0) p0.at) l p0.left in
+      let p2 = past us IntoAl ss (done IntoAh p1.at) l p1.left in
+      record {
+        at = done IntoAl p2.at;
+        core = ap (core_after seto_al 0) (p2.same.0 ∙ ap (core_after Lahf 0) (p1.same.0 ∙ p0.same.0));
+        first = own p1.at.held p2.at.held p2.same.2 ∙ own (done (Store 0) p0.at).held p1.at.held p1.same.2
+            ∙ get_or-set_same p0.at.held 0 (reg p0.at.core rax % 2 ^ 64) 0 (there began p0.at.held p0.same.2) ∙ ap (λ z. reg z rax % 2 ^ 64) p0.same.0;
+        left = p2.left;
+      }
 
-mild_skips : (own : Bool) (s : EventStep) (n : ℕ) (c : Core) → IsMildStep own s n → skipped s c ≤ n
-mild_skips own (SkipIf cc k) n c h = by_test (is_met cc c.flags)
+  -- and those that bring back flags and rax, whatever the flags have become but for the bits that no operation changes
+  pub gives_back : IsProcessorCore c → (m : Local) (f : Flags) → f.rest ≡ c.flags.rest → m.core ≡ with_flags (kept_in_ax c) f → slice_index m.held 0 ≡ reg c rax % 2 ^ 64
+      → Reaches us 0 (FromAl ∷ FromAh ∷ Load 0 ∷ []) [] m l → l.core ≡ c
+  gives_back h m f rest k q r =
+      let p1 = past us FromAl (FromAh ∷ Load 0 ∷ []) m l r in
+      let p2 = past us FromAh (Load 0 ∷ []) (done FromAl p1.at) l p1.left in
+      let p3 = past us (Load 0) [] (done FromAh p2.at) l p2.left in
+      let k3 : p3.at.core ≡ core_after Sahf 0 (core_after add_al 0 (with_flags (kept_in_ax c) f)) = p3.same.0 ∙ ap (core_after Sahf 0) (p2.same.0 ∙ ap (core_after add_al 0) (p1.same.0 ∙ k)) in
+      let x : slice_index p3.at.held 0 ≡ reg c rax % 2 ^ 64 = own p2.at.held p3.at.held p3.same.2 ∙ own p1.at.held p2.at.held p2.same.2 ∙ own m.held p1.at.held p1.same.2 ∙ q in
+      let w : slice_index p3.at.held 0 % 2 ^ 64 ≡ reg c rax = ap (λ z. z % 2 ^ 64) (x ∙ cut (reg c rax) (h.small 0)) ∙ cut (reg c rax) (h.small 0) in
+      p3.left.1.0 ∙ ap (λ (z : Core). with_reg z rax (slice_index p3.at.held 0 % 2 ^ 64)) k3 ∙ all_back c f (slice_index p3.at.held 0 % 2 ^ 64) h rest w
+
+-- steps that change flags alone, and leave the first datum; a jump leads at most behind so many more
+abbrev IsMildStep : EventStep → ℕ → Type 0
+IsMildStep (Cover k) n = k ≢ 0
+IsMildStep (CountUp locked k) n = k ≢ 0
+IsMildStep (Compare r i) n = Unit {0}
+IsMildStep (CompareAt k i) n = Unit {0}
+IsMildStep (SkipIf cc k) n = k ≤ n
+IsMildStep s n = ⊥
+
+abbrev AreMild : List EventStep → Type 0
+AreMild [] = Unit {0}
+AreMild (s ∷ ss) = IsMildStep s (length ss) × AreMild ss
+
+mild_skips : (s : EventStep) (n : ℕ) (c : Core) → IsMildStep s n → skipped s c ≤ n
+mild_skips (SkipIf cc k) n c h = by_test (is_met cc c.flags)
   where
     by_test : (b : Bool) → cond b k 0 ≤ n
     by_test true = h
     by_test false = omega arith
-mild_skips own s n c h = omega arith
+mild_skips s n c h = omega arith
 
 -- one of them
-record IsMildDone (own : Bool) (s : EventStep) (m : Local) : Type 0 where
+record IsMildDone (s : EventStep) (m : Local) : Type 0 where
   flags : Flags
   rest : flags.rest ≡ m.core.flags.rest
   core : (done s m).core ≡ with_flags m.core flags
-  first : own ≡ true → slice_index (done s m).held 0 ≡ slice_index m.held 0
+  first : slice_index (done s m).held 0 ≡ slice_index m.held 0
 
-mild_done : (own : Bool) (s : EventStep) (n : ℕ) (m : Local) → IsMildStep own s n → IsMildDone own s m
-mild_done own (Cover k) n m h = record { flags = m.core.flags; rest = refl; core = refl; first = λ o. get_or-set_other m.held k 0 1 0 (λ e. h o (sym e)) }
-mild_done own (CountUp t k) n m h =
-    record { flags = (arithmetic Inc W64 (slice_index m.held k % 2 ^ 64) 1 m.core.flags).flags; rest = refl; core = refl; first = λ o. get_or-set_other m.held k 0 _ 0 (λ e. h o (sym e)) }
-mild_done own (Compare r i) n m h = record { flags = (arithmetic Sub W64 (reg m.core r % 2 ^ 64) i m.core.flags).flags; rest = refl; core = refl; first = λ o. refl }
-mild_done own (CompareAt k i) n m h = record { flags = (arithmetic Sub W64 (slice_index m.held k % 2 ^ 64) i m.core.flags).flags; rest = refl; core = refl; first = λ o. refl }
-mild_done own (SkipIf cc k) n m h = record { flags = m.core.flags; rest = refl; core = refl; first = λ o. refl }
-mild_done own s n m h = absurd h
+mild_done : (s : EventStep) (n : ℕ) (m : Local) → IsMildStep s n → IsMildDone s m
+mild_done (Cover k) n m h = record { flags = m.core.flags; rest = refl; core = refl; first = get_or-set_other m.held k 0 1 0 (λ e. h (sym e)) }
+mild_done (CountUp t k) n m h =
+    record { flags = (arithmetic Inc W64 (slice_index m.held k % 2 ^ 64) 1 m.core.flags).flags; rest = refl; core = refl; first = get_or-set_other m.held k 0 _ 0 (λ e. h (sym e)) }
+mild_done (Compare r i) n m h = record { flags = (arithmetic Sub W64 (reg m.core r % 2 ^ 64) i m.core.flags).flags; rest = refl; core = refl; first = refl }
+mild_done (CompareAt k i) n m h = record { flags = (arithmetic Sub W64 (slice_index m.held k % 2 ^ 64) i m.core.flags).flags; rest = refl; core = refl; first = refl }
+mild_done (SkipIf cc k) n m h = record { flags = m.core.flags; rest = refl; core = refl; first = refl }
+mild_done s n m h = absurd h
 
 -- past all of them flags alone have changed
-record Passed (own : Bool) (ds : List Datum) (back : List EventStep) (l l' : Local) : Type 0 where
+record Passed (ds : List Datum) (back : List EventStep) (l l' : Local) : Type 0 where
   at : Local
   flags : Flags
   rest : flags.rest ≡ l.core.flags.rest
   core : at.core ≡ with_flags l.core flags
-  first : own ≡ true → ((xs ys : List ℕ) → AreKept ds xs ys → slice_index ys 0 ≡ slice_index xs 0) → slice_index at.held 0 ≡ slice_index l.held 0
+  first : slice_index at.held 0 ≡ slice_index l.held 0
   left : Reaches ds 0 back [] at l'
 
-passes : (own : Bool) (ds : List Datum) (k : ℕ) (mid back : List EventStep) (l l' : Local) → AreMild own mid → k ≤ length mid → Reaches ds k (mid ++ back) [] l l' → Passed own ds back l l'
-passes own ds zero [] back l l' mild few h = record { at = l; flags = l.core.flags; rest = refl; core = refl; first = λ o k. refl; left = h }
-passes own ds (suc k) [] back l l' mild few h = absurd (omega (arith, few))
-passes own ds (suc k) (s ∷ ss) back l l' mild few h = passes own ds k ss back l l' mild.1 (omega (arith, few)) h
-passes own ds zero (s ∷ ss) back l l' mild few h =
+passes : (ds : List Datum) → ((xs ys : List ℕ) → AreKept ds xs ys → slice_index ys 0 ≡ slice_index xs 0) → (k : ℕ) (mid back : List EventStep) (l l' : Local) → AreMild mid → k ≤ length mid
+    → Reaches ds k (mid ++ back) [] l l' → Passed ds back l l'
+passes ds own zero [] back l l' mild few h = record { at = l; flags = l.core.flags; rest = refl; core = refl; first = refl; left = h }
+passes ds own (suc k) [] back l l' mild few h = absurd (omega (arith, few))
+passes ds own (suc k) (s ∷ ss) back l l' mild few h = passes ds own k ss back l l' mild.1 (omega (arith, few)) h
+passes ds own zero (s ∷ ss) back l l' mild few h =
     let p = past ds s (ss ++ back) l l' h in
-    let d = mild_done own s (length ss) p.at mild.0 in
-    let q = passes own ds (skipped s p.at.core) ss back (done s p.at) l' mild.1 (mild_skips own s (length ss) p.at.core mild.0) p.left in
+    let d = mild_done s (length ss) p.at mild.0 in
+    let q = passes ds own (skipped s p.at.core) ss back (done s p.at) l' mild.1 (mild_skips s (length ss) p.at.core mild.0) p.left in
     record {
       at = q.at;
       flags = q.flags;
       rest = q.rest ∙ ap (λ (z : Core). z.flags.rest) d.core ∙ d.rest ∙ ap (λ (z : Core). z.flags.rest) p.same.0;
       core = q.core ∙ ap (λ (z : Core). with_flags z q.flags) (d.core ∙ ap (λ (z : Core). with_flags z d.flags) p.same.0);
-      first = λ o k. q.first o k ∙ d.first o ∙ k l.held p.at.held p.same.2;
+      first = q.first ∙ d.first ∙ own l.held p.at.held p.same.2;
       left = q.left;
     }
 
 -- rax saved below rsp, the flags in ax, such steps, and all back: nothing has changed
-pub saving_restores : (d n : ℕ) (ds : List Datum) (mid : List EventStep) → AreMild true mid → (c : Core) (began : List ℕ) (l : Local) → IsProcessorCore c
+saving_restores : (d n : ℕ) (ds : List Datum) (mid : List EventStep) → AreMild mid → (c : Core) (began : List ℕ) (l : Local) → IsProcessorCore c
     → Reaches (record { place = Below d; size = n; number = true } ∷ ds) 0 (Store 0 ∷ IntoAh ∷ IntoAl ∷ (mid ++ (FromAl ∷ FromAh ∷ Load 0 ∷ []))) [] (started c began) l → l.core ≡ c
-unfolding effect is_met
+unfolding effect
 saving_restores d n ds mid mild c began l h r =
     let us = record { place = Below d; size = n; number = true } ∷ ds in
     let back = FromAl ∷ FromAh ∷ Load 0 ∷ [] in
-    let start : Local = started c began in
     let own = first_kept d n ds in
-    let p0 = past us (Store 0) (IntoAh ∷ IntoAl ∷ (mid ++ back)) start l r in
-    let p1 = past us IntoAh (IntoAl ∷ (mid ++ back)) (done (Store 0) p0.at) l p0.left in
-    let p2 = past us IntoAl (mid ++ back) (done IntoAh p1.at) l p1.left in
-    let q = passes true us 0 mid back (done IntoAl p2.at) l mild (omega arith) p2.left in
-    let p3 = past us FromAl (FromAh ∷ Load 0 ∷ []) q.at l q.left in
-    let p4 = past us FromAh (Load 0 ∷ []) (done FromAl p3.at) l p3.left in
-    let p5 = past us (Load 0) [] (done FromAh p4.at) l p4.left in
-    -- the flags in ax
-    let k1 : p1.at.core ≡ c = p1.same.0 ∙ p0.same.0 in
-    let k2 : (done IntoAl p2.at).core ≡ kept_in_ax c = ap (core_after seto_al 0) (p2.same.0 ∙ ap (core_after Lahf 0) k1) in
-    let rest : q.flags.rest ≡ c.flags.rest = q.rest ∙ ap (λ (z : Core). z.flags.rest) k2 in
-    let k3 : p3.at.core ≡ with_flags (kept_in_ax c) q.flags = p3.same.0 ∙ q.core ∙ ap (λ (z : Core). with_flags z q.flags) k2 in
-    let k5 : p5.at.core ≡ core_after Sahf 0 (core_after add_al 0 (with_flags (kept_in_ax c) q.flags)) = p5.same.0 ∙ ap (core_after Sahf 0) (p4.same.0 ∙ ap (core_after add_al 0) k3) in
-    -- rax below rsp
-    let x : slice_index p5.at.held 0 ≡ reg c rax % 2 ^ 64 =
-    own p4.at.held p5.at.held p5.same.2 ∙ own p3.at.held p4.at.held p4.same.2 ∙ own q.at.held p3.at.held p3.same.2 ∙ q.first refl own
-    ∙ own p1.at.held p2.at.held p2.same.2 ∙ own _ p1.at.held p1.same.2
-    ∙ get_or-set_same p0.at.held 0 (reg p0.at.core rax % 2 ^ 64) 0 (first_there (record { place = Below d; size = n; number = true }) ds began p0.at.held p0.same.2)
-    ∙ ap (λ z. reg z rax % 2 ^ 64) p0.same.0 in
-    let y : slice_index p5.at.held 0 % 2 ^ 64 ≡ reg c rax = ap (λ z. z % 2 ^ 64) (x ∙ cut (reg c rax) (h.small 0)) ∙ cut (reg c rax) (h.small 0) in
-    p5.left.1.0 ∙ (λ j. with_reg (k5 j) rax (slice_index p5.at.held 0 % 2 ^ 64)) ∙ all_back c q.flags (slice_index p5.at.held 0 % 2 ^ 64) h rest y
+    let s = saves_in_ax us own c l (first_there (record { place = Below d; size = n; number = true }) ds) (mid ++ back) began r in
+    let q = passes us own 0 mid back s.at l mild (omega arith) s.left in
+    gives_back us own c l h q.at q.flags (q.rest ∙ ap (λ (z : Core). z.flags.rest) s.core) (q.core ∙ ap (λ (z : Core). with_flags z q.flags) s.core) (q.first ∙ s.first) q.left
 
 -- comparisons and what marks are such steps
-compare_mild : (own : Bool) (r i n : ℕ) → IsMildStep own (comparing_step r i) n
-compare_mild own zero i n = tt
-compare_mild own (suc r) i n = tt
+compare_mild : (r i n : ℕ) → IsMildStep (comparing_step r i) n
+compare_mild zero i n = tt
+compare_mild (suc r) i n = tt
 
-mark_mild : (own : Bool) (b : Base) (t : Bool) (k n : ℕ) → (own ≡ true → k ≢ 0) → IsMildStep own (marking_step b t k) n
-mark_mild own base.Cover t k n h = h
-mark_mild own base.Count t k n h = h
+mark_mild : (b : Base) (t : Bool) (k n : ℕ) → k ≢ 0 → IsMildStep (marking_step b t k) n
+mark_mild base.Cover t k n h = h
+mark_mild base.Count t k n h = h
 
 checks_long : (cs : List Comparison) (s : EventStep) → length (checks cs ++ (s ∷ [])) ≡ 2 * length cs + 1
 checks_long [] s = refl
 checks_long (c ∷ cs) s = let q = checks_long cs s in omega (arith, q)
 
-checks_mild : (b : Base) (cs : List Comparison) → AreMild true (checks cs ++ (marking_step b true 1 ∷ []))
-checks_mild b [] = (mark_mild true b true 1 0 (λ o e. absurd cc), tt)
-checks_mild b (c ∷ cs) = let q = checks_long cs (marking_step b true 1) in (compare_mild true c.reg c.value _, (omega (arith, q), checks_mild b cs))
+checks_mild : (b : Base) (cs : List Comparison) → AreMild (checks cs ++ (marking_step b true 1 ∷ []))
+checks_mild b [] = (mark_mild b true 1 0 (λ e. absurd cc), tt)
+checks_mild b (c ∷ cs) = let q = checks_long cs (marking_step b true 1) in (compare_mild c.reg c.value _, (omega (arith, q), checks_mild b cs))
 
 -- so all events restore
-pub saving_all : (b : Base) (cs : List Comparison) (p i : ℕ) → Restores (saving_thread_event b cs p i)
+saving_all : (b : Base) (cs : List Comparison) (p i : ℕ) → Restores (saving_thread_event b cs p i)
 saving_all b cs p i c began l h r =
     let back = FromAl ∷ FromAh ∷ Load 0 ∷ [] in
     let mid = checks cs ++ (marking_step b true 1 ∷ []) in

@@ -9,14 +9,13 @@ use Rattle.cpu_alu.specs.declared.operation.AluOp.TheVariants.{Add}
 use Rattle.cpu_alu.specs.Arithmetic.{arithmetic}
 use Rattle.cpu_state.specs.declared.state.Core.{Core}
 use Rattle.cpu_state.specs.Processor.{IsProcessorCore}
-use Rattle.insn_form.specs.declared.form.Op.TheVariants.{Lahf, Sahf}
 use Rattle.insn_form.specs.Operands.{reg, with_reg, with_flags, rax}
 use Rattle.insn_form.specs.Conditions.{is_met}
 use Rattle.insn_form.specs.Meaning.{effect}
-use Rattle.insn_form.specs.FlagsBack.{core_after, add_al, seto_al, kept_in_ax}
+use Rattle.insn_form.specs.FlagsBack.{kept_in_ax}
 use Rattle.insn_form.specs.FlagMoves.{low_flags}
 use Rattle.insn_form.proofs.KeptFlags.{bit, kept}
-use Rattle.event_steps.proofs.FlagsInAx.{twice, same_reg, cut, all_back}
+use Rattle.event_steps.proofs.FlagsInAx.{twice, same_reg, cut}
 use Rattle.event_steps.specs.EventSteps.{Datum, EventStep}
 use Rattle.event_steps.specs.MadeSteps.{skipped}
 use Rattle.event_steps.specs.DoneSteps.{Local, started, done, core_done, FitsIn}
@@ -24,7 +23,7 @@ use Rattle.event_steps.specs.EventSteps.EventStep.{Store, Load, IntoAh, IntoAl, 
 use Rattle.thread_runs.specs.ThreadLists.{eight_below, thread_ring_list, ThreadRingsRestore}
 use Rattle.trampoline.specs.EventLists.{four_at, slots_at}
 use Rattle.event_steps.specs.Interleaved.{AreKept, Meanwhile, Reaches}
-use Rattle.thread_runs.proofs.RestoredRegisters.{past}
+use Rattle.thread_runs.proofs.RestoredRegisters.{past, saves_in_ax, gives_back}
 
 same_head : (s t : EventStep) (ss ts : List EventStep) → s ∷ ss ≡ t ∷ ts → s ≡ t
 same_head s t ss ts e = cc
@@ -98,17 +97,6 @@ module _ (n p i : ℕ) where
     abbrev b : ℕ
     b = reg (kept_in_ax c) rax % 2 ^ 64
 
-    -- from the flags in ax, they come back, and then rax
-    ends : (m : Local) (f : Flags) → f.rest ≡ c.flags.rest → m.core ≡ with_flags (kept_in_ax c) f → Both a b m.held → Reaches us 0 (FromAl ∷ FromAh ∷ Load 0 ∷ []) [] m l → l.core ≡ c
-    ends m f rest k q r =
-        let p1 = past us FromAl (FromAh ∷ Load 0 ∷ []) m l r in
-        let p2 = past us FromAh (Load 0 ∷ []) (done FromAl p1.at) l p1.left in
-        let p3 = past us (Load 0) [] (done FromAh p2.at) l p2.left in
-        let k3 : p3.at.core ≡ core_after Sahf 0 (core_after add_al 0 (with_flags (kept_in_ax c) f)) = p3.same.0 ∙ ap (core_after Sahf 0) (p2.same.0 ∙ ap (core_after add_al 0) (p1.same.0 ∙ k)) in
-        let q3 = both_on a b (done FromAh p2.at) p3.at p3.same (both_on a b (done FromAl p1.at) p2.at p2.same (both_on a b m p1.at p1.same q)) in
-        let w : slice_index p3.at.held 0 % 2 ^ 64 ≡ reg c rax = ap (λ z. z % 2 ^ 64) (q3.rax ∙ cut (reg c rax) (h.small 0)) ∙ cut (reg c rax) (h.small 0) in
-        p3.left.1.0 ∙ ap (λ (z : Core). with_reg z rax (slice_index p3.at.held 0 % 2 ^ 64)) k3 ∙ all_back c f (slice_index p3.at.held 0 % 2 ^ 64) h rest w
-
     -- from any number in rax
     gives : (m : Local) (f : Flags) (v : ℕ) → f.rest ≡ c.flags.rest → m.core ≡ with_reg (with_flags (with_reg (kept_in_ax c) rax 1) f) rax v → Both a b m.held → Reaches us 0 (Put 3 (i + 1) ∷ back) [] m l → l.core ≡ c
     gives m f v rest k q r =
@@ -116,10 +104,10 @@ module _ (n p i : ℕ) where
         let p2 = past us (Load 1) (FromAl ∷ FromAh ∷ Load 0 ∷ []) (done (Put 3 (i + 1)) p1.at) l p1.left in
         let q2 = both_on a b (done (Put 3 (i + 1)) p1.at) p2.at p2.same (both_on a b m p1.at p1.same q) in
         let y : slice_index p2.at.held 1 % 2 ^ 64 ≡ reg (kept_in_ax c) rax = ap (λ z. z % 2 ^ 64) (q2.ax ∙ cut (reg (kept_in_ax c) rax) (ax_small c h)) ∙ cut (reg (kept_in_ax c) rax) (ax_small c h) in
-        ends (done (Load 1) p2.at) f rest
+        gives_back us first c l h (done (Load 1) p2.at) f rest
         (ap (λ (z : Core). with_reg z rax (slice_index p2.at.held 1 % 2 ^ 64)) (p2.same.0 ∙ p1.same.0 ∙ k)
         ∙ twice (with_flags (with_reg (kept_in_ax c) rax 1) f) v (slice_index p2.at.held 1 % 2 ^ 64) ∙ over_ax c f 1 (slice_index p2.at.held 1 % 2 ^ 64) y)
-        q2 p2.left
+        q2.rax p2.left
 
     -- through LOCK XADD and MOVZX
     claims : (wide : Bool) (m : Local) → m.core ≡ with_reg (kept_in_ax c) rax 1 → Both a b m.held → Reaches us 0 (Claim 2 ∷ Reduce wide ∷ Put 3 (i + 1) ∷ back) [] m l → l.core ≡ c
@@ -157,14 +145,8 @@ module _ (n p i : ℕ) where
     -- the event restores
     restores_by : (wide : Bool) (began : List ℕ) → Reaches us 0 (Store 0 ∷ IntoAh ∷ IntoAl ∷ Store 1 ∷ SetLow 1 ∷ Claim 2 ∷ Reduce wide ∷ Put 3 (i + 1) ∷ back) [] (started c began) l → l.core ≡ c
     restores_by wide began r =
-        let ss = Store 1 ∷ SetLow 1 ∷ Claim 2 ∷ Reduce wide ∷ Put 3 (i + 1) ∷ back in
-        let p0 = past us (Store 0) (IntoAh ∷ IntoAl ∷ ss) (started c began) l r in
-        let p1 = past us IntoAh (IntoAl ∷ ss) (done (Store 0) p0.at) l p0.left in
-        let p2 = past us IntoAl ss (done IntoAh p1.at) l p1.left in
-        saves wide (done IntoAl p2.at) (ap (core_after seto_al 0) (p2.same.0 ∙ ap (core_after Lahf 0) (p1.same.0 ∙ p0.same.0)))
-        (first p1.at.held p2.at.held p2.same.2 ∙ first (done (Store 0) p0.at).held p1.at.held p1.same.2
-        ∙ get_or-set_same p0.at.held 0 (reg p0.at.core rax % 2 ^ 64) 0 (let q = long_two began p0.at.held p0.same.2 in omega (arith, q)) ∙ ap (λ z. reg z rax % 2 ^ 64) p0.same.0)
-        p2.left
+        let q = saves_in_ax us first c l (λ xs ys k. let z = long_two xs ys k in omega (arith, z)) (Store 1 ∷ SetLow 1 ∷ Claim 2 ∷ Reduce wide ∷ Put 3 (i + 1) ∷ back) began r in
+        saves wide q.at q.core q.first q.left
 
   -- what is in rax behind MOVZX is below the number of slots
   at_most : (xs : List ℕ) (v : ℕ) → slice_index (slice_set xs 0 v) 0 ≤ v

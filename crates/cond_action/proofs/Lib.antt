@@ -1,1 +1,2 @@
 pub mod CodeLengths
+pub mod ListedConditions

@@ -1,15 +1,17 @@
-//! The code of comparisons (Intel SDM, volume 2, CMP and Jcc).
-ghost use Rattle.std.specs.Prelude.{◌≡◌, ◌+◌, ◌^◌, ◌≤◌, ◌<◌, ◌++◌, ◌∷◌, [], length};
-ghost use Rattle.pun_base.specs.Actions.{AreComparisons, listed};
-ghost use Rattle.cond_action.specs.Codes.{compare_code, failing, comparing};
+//! The steps of comparisons (Intel SDM, volume 2, CMP and Jcc).
+ghost use Rattle.std.specs.Prelude.{◌≡◌, ◌+◌, ◌≤◌, ◌++◌, ◌∷◌, [], length};
+ghost use Rattle.pun_base.specs.Actions.{listed};
+ghost use Rattle.event_steps.specs.declared.step.EventStep.TheVariants.{Compare, SkipIf};
+ghost use Rattle.cond_action.specs.Codes.{failing};
+ghost use Rattle.cond_action.specs.CondLists.{register_checks};
 
+use arrayvec::ArrayVec;
+use event_steps::step::EventStep;
 use pun_base::action::{CompareOp, Comparison, Comparisons};
-use relocate_insn::writer::CodeWriter;
 
 /// The condition code of the jump that is taken where a comparison fails: `jne`, `je`, `jae`, `ja`, `jbe`, `jb`.
 fn failing_code(op: CompareOp) -> u8
-    ensures value { result ≡ failing op }
-    ensures few { result ≤ 7 }
+    ensures { result ≡ failing op }
 {
     match op {
         CompareOp::Eq => 5,
@@ -21,39 +23,30 @@ fn failing_code(op: CompareOp) -> u8
     }
 }
 
-/// Writes a comparison, and a short jump over so many bytes where it fails.
-fn put_comparison(code: &mut CodeWriter, one: Comparison, over: u8)
-    requires room { length code.old + 9 ≤ 128 }
-    requires reg { one.reg < 16 }
-    requires value { one.value < 2 ^ 31 }
-    ensures { code.new ≡ code.old ++ (compare_code one.reg one.value
-        ++ ((0x70 + failing one.op) ∷ over ∷ [])) }
+/// Adds a comparison, and a jump over so many of the next steps where it fails.
+fn push_check(steps: &mut ArrayVec<EventStep, 16>, one: Comparison, over: u8)
+    requires { length steps.old.items + 2 ≤ 16 }
+    ensures { steps.new.items ≡ steps.old.items ++ (Compare one.reg one.value ∷ SkipIf (failing one.op) over ∷ []) }
 {
-    code.put(&[
-        if one.reg < 8 { 0x48 } else { 0x49 },
-        0x81,
-        0xF8 + one.reg % 8,
-    ]);
-    code.put_address(one.value);
-    code.put(&[0x70 + failing_code(one.op), over]);
+    steps.push(EventStep::Compare(one.reg, one.value));
+    steps.push(EventStep::SkipIf(failing_code(one.op), over));
 }
 
-/// Writes the comparisons, each with a jump over those behind it and the eight bytes that record.
-pub(crate) fn put_comparisons(code: &mut CodeWriter, list: Comparisons)
-    requires room { length code.old + 27 ≤ 128 }
-    requires list { AreComparisons (listed list) }
-    ensures { code.new ≡ code.old ++ comparing (listed list) }
+/// Adds the comparisons, each with a jump over those behind it and the step that records.
+pub(crate) fn push_checks(steps: &mut ArrayVec<EventStep, 16>, list: Comparisons)
+    requires { length steps.old.items + 6 ≤ 16 }
+    ensures { steps.new.items ≡ steps.old.items ++ register_checks (listed list) }
 {
     match list {
-        Comparisons::One(a) => put_comparison(code, a, 8),
+        Comparisons::One(a) => push_check(steps, a, 1),
         Comparisons::Two(a, b) => {
-            put_comparison(code, a, 17);
-            put_comparison(code, b, 8);
+            push_check(steps, a, 3);
+            push_check(steps, b, 1);
         }
         Comparisons::Three(a, b, c) => {
-            put_comparison(code, a, 26);
-            put_comparison(code, b, 17);
-            put_comparison(code, c, 8);
+            push_check(steps, a, 5);
+            push_check(steps, b, 3);
+            push_check(steps, c, 1);
         }
     }
 }

@@ -1,35 +1,57 @@
-//! The code of an event under a condition (Intel SDM, volume 2, INC and MOV).
-ghost use Rattle.std.specs.Prelude.{◌≡◌, ◌+◌, ◌≤◌, ◌<◌, ◌++◌, length};
+//! The event under a condition.
+ghost use Rattle.std.specs.Prelude.{◌≡◌, ◌+◌, ◌≤◌, ◌<◌, ◌++◌, false, length};
 ghost use Rattle.pun_base.specs.Actions.{AreComparisons, listed};
 ghost use Rattle.pun_base.specs.Limits.{most_sites};
-ghost use Rattle.cond_action.specs.Codes.{recording};
 ghost use Rattle.cond_action.specs.Codes as codes;
+ghost use Rattle.cond_action.specs.CondLists as lists;
 
-use crate::comparing::put_comparisons;
-use crate::saved_flags::{put_give_back, put_keep_flags};
+use crate::comparing::push_checks;
 use arrayvec::ArrayVec;
+use event_steps::put_steps;
+use event_steps::step::{Datum, EventStep};
 use pun_base::action::{Base, Comparisons};
 use pun_base::limits::{COUNTER_LEN, DATA_AT};
 use relocate_insn::writer::CodeWriter;
 
-/// Writes the eight bytes that record an event of a base: a store of 1 into the site's byte, or an increment of its counter.
-fn put_recording(code: &mut CodeWriter, base: Base, number: u32, private: u32)
-    requires room { length code.old + 8 ≤ 128 }
+/// What an event of a base marks: the site's byte, or its counter.
+pub fn marked_datum(base: Base, private: u32, number: u32) -> Datum
     requires number { number < most_sites }
     requires private { private < 0x7FFF0000 }
-    ensures { code.new ≡ code.old ++ recording base private number }
+    ensures { result ≡ lists.marked_datum base private number }
 {
     match base {
-        Base::Cover => {
-            code.put(&[0xC6, 0x04, 0x25]);
-            code.put_address(private + DATA_AT + number);
-            code.put(&[0x01]);
-        }
-        Base::Count => {
-            code.put(&[0x48, 0xFF, 0x04, 0x25]);
-            code.put_address(private + DATA_AT + COUNTER_LEN * number);
-        }
+        Base::Cover => Datum::at(private + DATA_AT + number, 1),
+        Base::Count => Datum::at(private + DATA_AT + COUNTER_LEN * number, COUNTER_LEN),
     }
+}
+
+/// The step that marks the datum of a number: a store of 1, or an increment.
+fn marking_step(base: Base, named: u8) -> EventStep
+    ensures { result ≡ lists.marking_step base false named }
+{
+    match base {
+        Base::Cover => EventStep::Cover(named),
+        Base::Count => EventStep::CountUp(false, named),
+    }
+}
+
+/// The steps of an event of a base under a condition.
+fn cond_steps(base: Base, list: Comparisons) -> ArrayVec<EventStep, 16>
+    ensures { result.items ≡ (lists.cond_event base (listed list) 0 0).steps }
+{
+    let mut steps = ArrayVec::new();
+    steps.push(EventStep::Store(0));
+    steps.push(EventStep::IntoAh);
+    steps.push(EventStep::IntoAl);
+    steps.push(EventStep::StoreLow(1));
+    steps.push(EventStep::Load(0));
+    push_checks(&mut steps, list);
+    steps.push(marking_step(base, 2));
+    steps.push(EventStep::LoadLow(1));
+    steps.push(EventStep::FromAl);
+    steps.push(EventStep::FromAh);
+    steps.push(EventStep::Load(0));
+    steps
 }
 
 /// Writes the code of an event of the site of a number, which its base records where all comparisons hold of the registers.
@@ -40,11 +62,13 @@ pub fn put_when(code: &mut CodeWriter, base: Base, list: Comparisons, number: u3
     requires private { private < 0x7FFF0000 }
     ensures { code.new ≡ code.old ++ codes.cond_code base (listed list) private number }
 {
-    put_keep_flags(code, private);
-    code.put_load(private);
-    put_comparisons(code, list);
-    put_recording(code, base, number, private);
-    put_give_back(code, private);
+    let steps = cond_steps(base, list);
+    let data = [
+        Datum::at(private, 8),
+        Datum::at(private + 8, 4),
+        marked_datum(base, private, number),
+    ];
+    put_steps(code, &data, steps.as_slice());
 }
 
 /// The code of an event of the site of a number, which its base records where all comparisons hold of the registers. It runs in at most

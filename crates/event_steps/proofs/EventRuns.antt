@@ -8,7 +8,9 @@ use Rattle.insn_form.specs.Runs.{nowhere}
 use Rattle.relocate_insn.proofs.FixedCode.{fixed_on}
 use Rattle.relocate_insn.proofs.PrivateRange.{step_perms}
 use Rattle.event_steps.proofs.ThreadSteps.{keeps_perms, lacking_on}
-use Rattle.event_steps.specs.EventSteps.{Mode, Datum, EventStep, size, long, code}
+use Rattle.event_steps.specs.declared.step.Datum.{Datum}
+use Rattle.event_steps.specs.declared.step.EventStep.{EventStep}
+use Rattle.event_steps.specs.EventSteps.{Mode, size, long, code}
 use Rattle.event_steps.specs.MadeSteps.{StepIn, after, skipped}
 use Rattle.event_steps.specs.DoneSteps.{done, address, AreFree}
 use Rattle.event_steps.specs.WholeEvents.{left_in, EventsLeave}

@@ -7,11 +7,14 @@ use Rattle.cpu_state.specs.Fixed.{IsFixed}
 use Rattle.insn_form.specs.Machine.{Machine}
 use Rattle.relocate_insn.proofs.FixedCode.{fixed_on}
 use Rattle.event_steps.proofs.ByteRanges.{number_on}
-use Rattle.event_steps.specs.EventSteps.{Place, Datum, EventStep, size, long, code, AreSteps}
+use Rattle.event_steps.specs.declared.step.Place.{Place}
+use Rattle.event_steps.specs.declared.step.Datum.{Datum}
+use Rattle.event_steps.specs.declared.step.EventStep.{EventStep}
+use Rattle.event_steps.specs.EventSteps.{size, long, code, AreSteps}
 use Rattle.event_steps.specs.MadeSteps.{skipped, after}
 use Rattle.event_steps.specs.DoneSteps.{Local, started, done, address, Hold, StandsBy}
 use Rattle.event_steps.specs.EventSteps.Mode.{Shared}
-use Rattle.event_steps.specs.EventSteps.Place.{At, Below}
+use Rattle.event_steps.specs.declared.step.Place.TheVariants.{At, Below}
 use Rattle.event_steps.specs.Interleaved.{Listed, numbers_in, IsKeptAt, AreKept, Meanwhile, Reaches, IsIn, IsWell, ComesIn, GoesOn, CanGoOn, is_own_place, IsOwn, StaysIn}
 use Rattle.event_steps.proofs.ListedCode.{step_told, step_goes, step_leads, same_code, rest_stands}
 use Rattle.event_steps.proofs.LocalSteps.{steps_done, step_done}

@@ -1,5 +1,5 @@
 -- The code of lists of steps: each step is made where it stands, and leads in front of the next one.
-use Rattle.std.proofs.Common.{◌≡◌, ℕ, ◌+◌, ◌^◌, ◌<◌, Bool, true, false, cond, List, [], ◌∷◌, length-append, take, refl, ◌∙◌, subst, arith, Some, None, unwrap_or, ap, ◌-◌, ap₂}
+use Rattle.std.proofs.Common.{◌≡◌, ℕ, ◌+◌, ◌^◌, ◌<◌, Bool, true, false, cond, List, [], ◌∷◌, length-append, take, refl, ◌∙◌, subst, arith, Some, None, unwrap_or, ap}
 use Rattle.pun_base.specs.Memory.{Bytes}
 use Rattle.cpu_state.specs.Fixed.{IsFixed}
 use Rattle.length_decode.specs.Spelling.{spelling}
@@ -9,10 +9,12 @@ use Rattle.insn_form.specs.Machine.{Machine}
 use Rattle.insn_form.specs.Runs.{nowhere}
 use Rattle.relocate_insn.proofs.FixedCode.{SameCode, step_code, fixed_front, fixed_back}
 use Rattle.event_steps.proofs.ThreadSteps.{keeps_code}
-use Rattle.event_steps.specs.EventSteps.{Mode, Datum, EventStep, place_in, size, long, over, fields_of, code}
+use Rattle.event_steps.specs.declared.step.Datum.{Datum}
+use Rattle.event_steps.specs.declared.step.EventStep.{EventStep}
+use Rattle.event_steps.specs.EventSteps.{Mode, place_in, size, long, over, fields_of, code}
 use Rattle.event_steps.specs.MadeSteps.{StepIn, EventStepTold, EventStepGoes, EventStepLeads, CodeIsLong}
 use Rattle.event_steps.specs.EventSteps.Mode.{Alone, Shared}
-use Rattle.event_steps.specs.EventSteps.EventStep.{SkipIf, Reduce}
+use Rattle.event_steps.specs.declared.step.EventStep.TheVariants.{SkipIf, Reduce}
 use Rattle.event_steps.proofs.SingleSteps.{makes, tells, spelled_long}
 use Rattle.std.proofs.lemmas.Int.{ints}
 use Rattle.std.specs.Int.{cast_signed, w8}

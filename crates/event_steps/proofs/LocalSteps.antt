@@ -24,11 +24,14 @@ use Rattle.insn_form.proofs.TaskCopies.{low_word, four_signed}
 use Rattle.relocate_insn.specs.Pieces.{four}
 use Rattle.relocate_insn.proofs.PieceSteps.{four_word, fixed_place, pushed_word}
 use Rattle.event_steps.specs.DoneSteps.{is_one_of, FitsIn, mem_done, Local, datum_held, core_done, is_writing, number_done, done, address, IsLow, AreLow, is_in, AreApart, AreFree, Hold, StandsBy, IsDone, StepsAreDone}
-use Rattle.event_steps.specs.EventSteps.{Mode, Place, Datum, EventStep, datum, datum_of, place_in, size, over, form_of, element_of, IsFixedPlace, op_of, IsStep, IsNumber, HasDatum, taken}
+use Rattle.event_steps.specs.declared.step.Place.{Place}
+use Rattle.event_steps.specs.declared.step.Datum.{Datum}
+use Rattle.event_steps.specs.declared.step.EventStep.{EventStep}
+use Rattle.event_steps.specs.EventSteps.{Mode, datum, datum_of, place_in, size, over, form_of, element_of, IsFixedPlace, op_of, IsStep, IsNumber, HasDatum, taken}
 use Rattle.event_steps.specs.MadeSteps.{after_step, Can, after}
 use Rattle.event_steps.proofs.ByteRanges.{number_on, put_elsewhere, range_first, range_rest}
-use Rattle.event_steps.specs.EventSteps.Place.{At, Below}
-use Rattle.event_steps.specs.EventSteps.EventStep.{Cover, CountUp, Store, Load, StoreLow, LoadLow, Keep, Give, Raise, IntoAh, IntoAl, FromAl, FromAh, Compare, CompareAt, SetLow, NextLow, CompareLow, Reduce, Put, Claim, SkipIf}
+use Rattle.event_steps.specs.declared.step.Place.TheVariants.{At, Below}
+use Rattle.event_steps.specs.declared.step.EventStep.TheVariants.{Cover, CountUp, Store, Load, StoreLow, LoadLow, Keep, Give, Raise, IntoAh, IntoAl, FromAl, FromAh, Compare, CompareAt, SetLow, NextLow, CompareLow, Reduce, Put, Claim, SkipIf}
 
 -- so many bytes below: the four bytes of the displacement are that much less than nothing
 below_word : (d : ℕ) → 0 < d → d ≤ 2 ^ 31 → word_of (integer_of (four (2 ^ 32 - d))) ≡ 2 ^ 64 - d

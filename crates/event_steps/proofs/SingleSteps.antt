@@ -25,11 +25,13 @@ use Rattle.relocate_insn.proofs.PieceSteps.{is_at, next_is, op_step, told}
 use Rattle.event_steps.specs.ThreadSteps.{is_locked_xadd, thread_task, number_read}
 use Rattle.event_steps.proofs.ClaimSteps.{exchanging, sum_by, sum_insn, claimed, claim_told, claim_step}
 use Rattle.event_steps.proofs.KnownCodeSteps.{IsKnown, known_fixed, known_step, known_told}
-use Rattle.event_steps.specs.EventSteps.{Mode, Place, EventStep, size, fields_of, op_of, IsStep}
+use Rattle.event_steps.specs.declared.step.Place.{Place}
+use Rattle.event_steps.specs.declared.step.EventStep.{EventStep}
+use Rattle.event_steps.specs.EventSteps.{Mode, size, fields_of, op_of, IsStep}
 use Rattle.event_steps.specs.MadeSteps.{StepIn, loads, after_step}
 use Rattle.event_steps.specs.EventSteps.Mode.{Alone, Shared}
-use Rattle.event_steps.specs.EventSteps.Place.{At, Below}
-use Rattle.event_steps.specs.EventSteps.EventStep.{Cover, CountUp, Keep, Give, Compare, Reduce, Put, Claim, SkipIf}
+use Rattle.event_steps.specs.declared.step.Place.TheVariants.{At, Below}
+use Rattle.event_steps.specs.declared.step.EventStep.TheVariants.{Cover, CountUp, Keep, Give, Compare, Reduce, Put, Claim, SkipIf}
 
 -- something holds of each number below a bound
 abbrev pub AllUnder : ℕ → (ℕ → Type 0) → Type 0

@@ -10,10 +10,13 @@ use Rattle.insn_form.specs.declared.form.Op.TheVariants.{Sahf, Lahf}
 use Rattle.insn_form.specs.Operands.{reg, with_reg, with_flags, rax, rsp}
 use Rattle.insn_form.specs.FlagsBack.{core_after, seto_al, add_al}
 use Rattle.insn_form.specs.Machine.{Machine}
-use Rattle.event_steps.specs.EventSteps.{Mode, Place, Datum, EventStep, datum_of, datum, place_in, IsStep, taken, HasDatum}
+use Rattle.event_steps.specs.declared.step.Place.{Place}
+use Rattle.event_steps.specs.declared.step.Datum.{Datum}
+use Rattle.event_steps.specs.declared.step.EventStep.{EventStep}
+use Rattle.event_steps.specs.EventSteps.{Mode, datum_of, datum, place_in, IsStep, taken, HasDatum}
 use Rattle.event_steps.specs.MadeSteps.{after, Can, skipped}
-use Rattle.event_steps.specs.EventSteps.Place.{At, Below}
-use Rattle.event_steps.specs.EventSteps.EventStep.{Cover, CountUp, Store, Load, StoreLow, LoadLow, Keep, Give, Raise, IntoAh, IntoAl, FromAl, FromAh, Compare, CompareAt, SetLow, NextLow, CompareLow, Reduce, Put, Claim}
+use Rattle.event_steps.specs.declared.step.Place.TheVariants.{At, Below}
+use Rattle.event_steps.specs.declared.step.EventStep.TheVariants.{Cover, CountUp, Store, Load, StoreLow, LoadLow, Keep, Give, Raise, IntoAh, IntoAl, FromAl, FromAh, Compare, CompareAt, SetLow, NextLow, CompareLow, Reduce, Put, Claim}
 
 -- What a step does by itself: registers and flags, the number that each datum holds, and whether the event has marked.
 pub record Local : Type 0 where

@@ -16,60 +16,16 @@ use Rattle.insn_form.specs.Filling.{integer_of, immediate}
 use Rattle.insn_form.specs.Resolving.{absolute}
 use Rattle.insn_form.specs.FlagsBack.{seto_al, add_al}
 use Rattle.relocate_insn.specs.Pieces.{four}
-use Rattle.cond_action.specs.Codes.{wide_prefix}
+use Rattle.event_steps.specs.declared.step.Place.TheVariants.{At, Below}
+use Rattle.event_steps.specs.declared.step.EventStep.TheVariants.{Cover, CountUp, Store, Load, StoreLow, LoadLow, Keep, Give, Raise, SetLow, NextLow, CompareLow, Reduce, Put, Claim, IntoAh, IntoAl, FromAl, FromAh, Compare, CompareAt, SkipIf}
+use Rattle.event_steps.specs.declared.step.Place.{Place}
+use Rattle.event_steps.specs.declared.step.Datum.{Datum}
+use Rattle.event_steps.specs.declared.step.EventStep.{EventStep}
 
 -- how spellings are read: as a single processor reads them, or as threads that share their memory do
 pub data Mode : Type 0 where
   Alone : Mode
   Shared : Mode
-
--- where bytes lie that an event saves in or marks: from an address on, or from so many bytes below rsp on
-pub data Place : Type 0 where
-  At : (a : ℕ) → Place
-  Below : (d : ℕ) → Place
-
--- such bytes: a datum of an event, which is one number, or an array of numbers of four bytes
-pub record Datum : Type 0 where
-  pub place : Place
-  pub size : ℕ
-  pub number : Bool
-
--- one instruction of an event; k is the place of a datum in the event's list of them
-pub data EventStep : Type 0 where
-  -- MOV byte [datum], 1
-  Cover : (k : ℕ) → EventStep
-  -- INC qword [datum], with LOCK or without
-  CountUp : (locked : Bool) → (k : ℕ) → EventStep
-  -- MOV [datum], rax; MOV rax, [datum]
-  Store : (k : ℕ) → EventStep
-  Load : (k : ℕ) → EventStep
-  -- MOV [datum], eax; MOV eax, [datum]
-  StoreLow : (k : ℕ) → EventStep
-  LoadLow : (k : ℕ) → EventStep
-  -- MOV r, rax; MOV rax, r
-  Keep : (r : ℕ) → EventStep
-  Give : (r : ℕ) → EventStep
-  -- LEA rax, [rax + 1]
-  Raise : EventStep
-  -- MOV eax, n; LEA eax, [rax + 1]; CMP eax, n; MOVZX eax, ax or MOVZX eax, al
-  SetLow : (n : ℕ) → EventStep
-  NextLow : EventStep
-  CompareLow : (n : ℕ) → EventStep
-  Reduce : (wide : Bool) → EventStep
-  -- MOV dword [4 * rax + array], n
-  Put : (k n : ℕ) → EventStep
-  -- LOCK XADD [datum], eax
-  Claim : (k : ℕ) → EventStep
-  -- LAHF; SETO al; ADD al, 7F; SAHF
-  IntoAh : EventStep
-  IntoAl : EventStep
-  FromAl : EventStep
-  FromAh : EventStep
-  -- CMP r, n; CMP qword [datum], n
-  Compare : (r n : ℕ) → EventStep
-  CompareAt : (k n : ℕ) → EventStep
-  -- a short jump over the next k steps where the condition of this code is met
-  SkipIf : (cc k : ℕ) → EventStep
 
 -- the datum that a step reads or writes, if it does
 abbrev pub datum_of : EventStep → ℕ
@@ -150,6 +106,15 @@ long (s ∷ ss) = size s + long ss
 abbrev pub over : EventStep → List EventStep → ℕ
 over (SkipIf cc k) ss = long (take k ss)
 over s ss = 0
+
+-- REX with W, and with B for r8 to r15
+abbrev pub wide_prefix : ℕ → ℕ
+wide_prefix r = if nat_lt r 8 then 0x48 else 0x49
+
+-- the condition code of a jump is one
+abbrev pub has_condition : EventStep → Bool
+has_condition (SkipIf cc k) = nat_lt cc 16
+has_condition s = true
 
 -- the fields of a step whose datum lies at a place, and that may jump over d bytes
 abbrev pub fields_of : EventStep → Place → ℕ → Fields

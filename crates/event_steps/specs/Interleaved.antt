@@ -6,10 +6,13 @@ use Rattle.cpu_state.specs.Fixed.{IsFixed}
 use Rattle.insn_form.specs.Machine.{Machine}
 use Rattle.event_steps.specs.ThreadSteps.{ThreadStep}
 use Rattle.event_steps.specs.DoneSteps.{is_one_of, Local, started, done, address, AreLow, AreApart, AreFree, FitsIn, mem_done, StandsBy}
-use Rattle.event_steps.specs.EventSteps.{Place, Datum, EventStep, long, code, AreSteps}
+use Rattle.event_steps.specs.declared.step.Place.{Place}
+use Rattle.event_steps.specs.declared.step.Datum.{Datum}
+use Rattle.event_steps.specs.declared.step.EventStep.{EventStep}
+use Rattle.event_steps.specs.EventSteps.{long, code, AreSteps}
 use Rattle.event_steps.specs.MadeSteps.{skipped}
 use Rattle.event_steps.specs.EventSteps.Mode.{Shared}
-use Rattle.event_steps.specs.EventSteps.Place.{At, Below}
+use Rattle.event_steps.specs.declared.step.Place.TheVariants.{At, Below}
 use Rattle.pun_base.specs.Memory.{Bytes}
 
 -- what an event may leave changed: nothing, PF, AF, ZF, SF and OF, these and CF, or a register

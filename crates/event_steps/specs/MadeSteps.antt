@@ -14,9 +14,12 @@ use Rattle.insn_form.specs.Exactly.{after_op, HasOperands}
 use Rattle.insn_form.specs.Step.{Step}
 use Rattle.insn_form.specs.Runs.{nowhere}
 use Rattle.event_steps.specs.ThreadSteps.{ThreadStep}
-use Rattle.event_steps.specs.EventSteps.{Mode, Place, Datum, EventStep, place_in, size, long, over, op_of, AreSteps, code}
+use Rattle.event_steps.specs.declared.step.Place.{Place}
+use Rattle.event_steps.specs.declared.step.Datum.{Datum}
+use Rattle.event_steps.specs.declared.step.EventStep.{EventStep}
+use Rattle.event_steps.specs.EventSteps.{Mode, place_in, size, long, over, op_of, AreSteps, code}
 use Rattle.event_steps.specs.EventSteps.Mode.{Alone, Shared}
-use Rattle.event_steps.specs.EventSteps.EventStep.{Claim, SkipIf}
+use Rattle.event_steps.specs.declared.step.EventStep.TheVariants.{Claim, SkipIf}
 
 -- one step, by mode
 abbrev pub StepIn : Mode → Machine → Machine → Type 0

@@ -6,7 +6,9 @@ use Rattle.cpu_state.specs.Fixed.{IsFixed}
 use Rattle.insn_form.specs.Machine.{Machine}
 use Rattle.insn_form.specs.Runs.{IsPath, last_of}
 use Rattle.relocate_insn.specs.Running.{Inside}
-use Rattle.event_steps.specs.EventSteps.{Mode, Datum, EventStep, long, AreSteps, code}
+use Rattle.event_steps.specs.declared.step.Datum.{Datum}
+use Rattle.event_steps.specs.declared.step.EventStep.{EventStep}
+use Rattle.event_steps.specs.EventSteps.{Mode, long, AreSteps, code}
 use Rattle.event_steps.specs.MadeSteps.{StepIn, skipped}
 use Rattle.event_steps.specs.DoneSteps.{Local, done, ended, AreLow, is_in, AreApart, AreFree, FitsIn, mem_done, StandsBy}
 

@@ -1,6 +1,6 @@
 //! Relocated code: the bytes that do the work of an instruction at another place than its own.
 //!
-//! Stands on `insn_form`; `cond_action`, `trampoline` and `guest_gen` stand on it.
+//! Stands on `insn_form`; `event_steps`, `trampoline` and `guest_gen` stand on it.
 #![tactic(auto)]
 
 pub mod laws;

@@ -17,7 +17,7 @@ use Rattle.insn_form.specs.Operands.{reg, rax, with_reg}
 use Rattle.trampoline.specs.EventLists.{counter_at, four_at, slots_at}
 use Rattle.thread_runs.specs.ThreadCode.{slot_at, flag_slot, slot}
 use Rattle.event_steps.specs.DoneSteps.{is_one_of, is_in, AreApart, AreFree, ended, core_done}
-use Rattle.event_steps.specs.EventSteps.{Datum}
+use Rattle.event_steps.specs.declared.step.Datum.{Datum}
 use Rattle.event_steps.specs.WholeEvents.{FitAll, Leaves}
 use Rattle.thread_runs.specs.Threading.{is_saved}
 use Rattle.thread_runs.specs.AloneWithRing.{CanKeepAlone, EventKeepsAlone}
@@ -36,7 +36,7 @@ use Rattle.insn_form.specs.Touched.{perms_at}
 use Rattle.insn_form.proofs.TouchedMemory.{put_list_perms}
 use Rattle.event_steps.proofs.ThreadSteps.{lacking_on}
 use Rattle.cpu_state.proofs.Readback.{bytes_of_length, read_back}
-use Rattle.event_steps.specs.EventSteps.EventStep.{Store, IntoAh, IntoAl, SetLow, Claim, Reduce, Put, Load, FromAl, FromAh}
+use Rattle.event_steps.specs.declared.step.EventStep.TheVariants.{Store, IntoAh, IntoAl, SetLow, Claim, Reduce, Put, Load, FromAl, FromAh}
 use Rattle.event_steps.specs.EventSteps.Mode.{Shared}
 use Rattle.trampoline.specs.Recording.{coming}
 use Rattle.thread_runs.specs.ThreadLists.{thread_ring_list, saving_thread_event}

@@ -24,10 +24,11 @@ use Rattle.cond_action.specs.Conditions.{compares, all_hold}
 use Rattle.cond_action.specs.Codes.{failing}
 use Rattle.trampoline.proofs.FailedComparisons.{fails}
 use Rattle.event_steps.proofs.FlagsInAx.{ax_other}
-use Rattle.event_steps.specs.EventSteps.{Datum, EventStep}
+use Rattle.event_steps.specs.declared.step.Datum.{Datum}
+use Rattle.event_steps.specs.declared.step.EventStep.{EventStep}
 use Rattle.event_steps.specs.MadeSteps.{skipped}
 use Rattle.event_steps.specs.DoneSteps.{Local, started, is_marking, done}
-use Rattle.event_steps.specs.EventSteps.EventStep.{SkipIf, Store, Load, IntoAh, IntoAl, FromAl, FromAh}
+use Rattle.event_steps.specs.declared.step.EventStep.TheVariants.{SkipIf, Store, Load, IntoAh, IntoAl, FromAl, FromAh}
 use Rattle.thread_runs.specs.ThreadLists.{eight_below, comparing_step, checks, saving_thread_event, MarksWhereMet}
 use Rattle.trampoline.specs.EventLists.{marked_datum, marking_step}
 use Rattle.event_steps.specs.Interleaved.{Meanwhile, Reaches}

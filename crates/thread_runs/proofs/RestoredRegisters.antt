@@ -18,11 +18,14 @@ use Rattle.insn_form.specs.Conditions.{is_met}
 use Rattle.insn_form.specs.Meaning.{effect}
 use Rattle.insn_form.specs.FlagsBack.{core_after, add_al, seto_al, kept_in_ax}
 use Rattle.event_steps.proofs.FlagsInAx.{cut, all_back}
-use Rattle.event_steps.specs.EventSteps.{Place, Datum, EventStep, datum_of}
+use Rattle.event_steps.specs.declared.step.Place.{Place}
+use Rattle.event_steps.specs.declared.step.Datum.{Datum}
+use Rattle.event_steps.specs.declared.step.EventStep.{EventStep}
+use Rattle.event_steps.specs.EventSteps.{datum_of}
 use Rattle.event_steps.specs.DoneSteps.{is_writing, Local, started, done, ended}
 use Rattle.event_steps.specs.MadeSteps.{skipped}
-use Rattle.event_steps.specs.EventSteps.Place.{At, Below}
-use Rattle.event_steps.specs.EventSteps.EventStep.{Cover, CountUp, Store, Load, IntoAh, IntoAl, FromAl, FromAh, Compare, CompareAt, SkipIf}
+use Rattle.event_steps.specs.declared.step.Place.TheVariants.{At, Below}
+use Rattle.event_steps.specs.declared.step.EventStep.TheVariants.{Cover, CountUp, Store, Load, IntoAh, IntoAl, FromAl, FromAh, Compare, CompareAt, SkipIf}
 use Rattle.trampoline.specs.Recording.{AgreeBut, coming}
 use Rattle.event_steps.specs.Interleaved.{Listed, numbers_in, IsKeptAt, AreKept, Meanwhile, Reaches}
 use Rattle.thread_runs.specs.ThreadLists.{eight_below, comparing_step, checks, saving_thread_event, Restores, ThreadEventsRestore}

@@ -16,10 +16,11 @@ use Rattle.insn_form.specs.FlagsBack.{kept_in_ax}
 use Rattle.insn_form.specs.FlagMoves.{low_flags}
 use Rattle.insn_form.proofs.KeptFlags.{bit, kept}
 use Rattle.event_steps.proofs.FlagsInAx.{twice, same_reg, cut}
-use Rattle.event_steps.specs.EventSteps.{Datum, EventStep}
+use Rattle.event_steps.specs.declared.step.Datum.{Datum}
+use Rattle.event_steps.specs.declared.step.EventStep.{EventStep}
 use Rattle.event_steps.specs.MadeSteps.{skipped}
 use Rattle.event_steps.specs.DoneSteps.{Local, started, done, core_done, FitsIn}
-use Rattle.event_steps.specs.EventSteps.EventStep.{Store, Load, IntoAh, IntoAl, FromAl, FromAh, SetLow, Claim, Reduce, Put}
+use Rattle.event_steps.specs.declared.step.EventStep.TheVariants.{Store, Load, IntoAh, IntoAl, FromAl, FromAh, SetLow, Claim, Reduce, Put}
 use Rattle.thread_runs.specs.ThreadLists.{eight_below, thread_ring_list, ThreadRingsRestore}
 use Rattle.trampoline.specs.EventLists.{four_at, slots_at}
 use Rattle.event_steps.specs.Interleaved.{AreKept, Meanwhile, Reaches}

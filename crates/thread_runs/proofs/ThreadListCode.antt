@@ -8,9 +8,11 @@ use Rattle.length_decode.specs.Spelling.{spelling}
 use Rattle.cond_action.specs.Codes.{failing}
 use Rattle.thread_runs.specs.ThreadCode.{saving_code, restoring_code, marking_code, marking_len, compare_with, compare_len, checking_len, checking_code, saving_event, ring_event, keep_ax, load_one, claiming_code, position_at, take_ax}
 use Rattle.trampoline.specs.Events.{put_slot}
-use Rattle.event_steps.specs.EventSteps.{Datum, EventStep, size, long, over, fields_of, code, place_in}
-use Rattle.event_steps.specs.EventSteps.EventStep.{FromAl, FromAh, Store, Load, IntoAh, IntoAl, SetLow, Claim, Reduce, Put, SkipIf}
-use Rattle.event_steps.specs.EventSteps.Place.{At, Below}
+use Rattle.event_steps.specs.declared.step.Datum.{Datum}
+use Rattle.event_steps.specs.declared.step.EventStep.{EventStep}
+use Rattle.event_steps.specs.EventSteps.{size, long, over, fields_of, code, place_in}
+use Rattle.event_steps.specs.declared.step.EventStep.TheVariants.{FromAl, FromAh, Store, Load, IntoAh, IntoAl, SetLow, Claim, Reduce, Put, SkipIf}
+use Rattle.event_steps.specs.declared.step.Place.TheVariants.{At, Below}
 use Rattle.thread_runs.specs.ThreadLists.{thread_ring_list, eight_below, comparing_step, checks, saving_thread_event, AreThreadLists}
 use Rattle.trampoline.specs.EventLists.{marked_datum, marking_step}
 

@@ -8,10 +8,12 @@ use Rattle.cond_action.specs.Conditions.{all_hold}
 use Rattle.cond_action.specs.Codes.{failing}
 use Rattle.trampoline.specs.EventLists.{four_at, marked_datum, marking_step, cover_event, slots_at}
 use Rattle.thread_runs.specs.ThreadCode.{thread_event, saving_event, ring_event, is_ring_length}
-use Rattle.event_steps.specs.EventSteps.{Datum, EventStep, code}
+use Rattle.event_steps.specs.declared.step.Datum.{Datum}
+use Rattle.event_steps.specs.declared.step.EventStep.{EventStep}
+use Rattle.event_steps.specs.EventSteps.{code}
 use Rattle.event_steps.specs.DoneSteps.{Local, started, FitsIn}
-use Rattle.event_steps.specs.EventSteps.Place.{Below}
-use Rattle.event_steps.specs.EventSteps.EventStep.{Store, Load, IntoAh, IntoAl, FromAl, FromAh, Compare, CompareAt, SetLow, Reduce, Put, Claim, SkipIf}
+use Rattle.event_steps.specs.declared.step.Place.TheVariants.{Below}
+use Rattle.event_steps.specs.declared.step.EventStep.TheVariants.{Store, Load, IntoAh, IntoAl, FromAl, FromAh, Compare, CompareAt, SetLow, Reduce, Put, Claim, SkipIf}
 use Rattle.event_steps.specs.Interleaved.{Listed, Reaches}
 use Rattle.trampoline.specs.Recording.{AgreeBut}
 use Rattle.event_steps.specs.Interleaved.Killed.{Nothing}

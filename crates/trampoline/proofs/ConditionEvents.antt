@@ -1,5 +1,5 @@
 -- Events under a condition are recorded by the law of lists.
-use Rattle.std.proofs.Common.{◌≡◌, ◌≢◌, inr, ℕ, zero, suc, ◌+◌, ◌-◌, ◌*◌, ◌%◌, ◌^◌, ◌<◌, ◌≤◌, Bool, true, false, not, if◌then◌else◌, List, [], ◌∷◌, ◌++◌, length, map, Some, set, refl, sym, ap, ◌∙◌, subst, arith, true≢false}
+use Rattle.std.proofs.Common.{◌≡◌, inr, ℕ, zero, suc, ◌+◌, ◌-◌, ◌*◌, ◌%◌, ◌^◌, ◌<◌, ◌≤◌, Bool, true, false, not, if◌then◌else◌, List, [], ◌∷◌, ◌++◌, length, map, Some, set, refl, sym, ap, ◌∙◌, subst, arith, true≢false}
 use Rattle.std.proofs.lemmas.Bool.{and_from, and_left, and_right}
 use Rattle.std.proofs.lemmas.List.{set-set, get_or-set_same}
 use Rattle.pun_base.specs.Memory.{Bytes}
@@ -24,7 +24,7 @@ use Rattle.trampoline.proofs.FailedComparisons.{fails, failing_low}
 use Rattle.cpu_state.proofs.Readback.{bytes_of_length}
 use Rattle.insn_form.specs.Meaning.{effect}
 use Rattle.insn_form.specs.FlagsBack.{kept_in_ax, given_back}
-use Rattle.insn_form.proofs.KeptFlags.{gives_flags, kept}
+use Rattle.insn_form.proofs.KeptFlags.{gives_flags}
 use Rattle.insn_form.proofs.RegisterSizes.{reg_sized}
 use Rattle.relocate_insn.specs.Running.{IsReady, Inside}
 use Rattle.relocate_insn.proofs.PrivateRange.{put_away}
@@ -32,16 +32,19 @@ use Rattle.trampoline.specs.EventLists.{mark_at, mark_len, marking_step, registe
 use Rattle.trampoline.specs.Events.{bytes_at, base_mark, base_room, event_code, event_length}
 use Rattle.trampoline.proofs.DataParts.{bytes_keep}
 use Rattle.event_steps.proofs.FlagsInAx.{same_reg, cut}
-use Rattle.event_steps.specs.EventSteps.{Datum, EventStep, long, AreSteps, code}
+use Rattle.event_steps.specs.declared.step.Datum.{Datum}
+use Rattle.event_steps.specs.declared.step.EventStep.{EventStep}
+use Rattle.event_steps.specs.EventSteps.{long, AreSteps}
 use Rattle.event_steps.specs.MadeSteps.{skipped}
 use Rattle.event_steps.specs.DoneSteps.{Local, started, done, ended, FitsIn}
 use Rattle.event_steps.specs.WholeEvents.{left_in, FitAll}
 use Rattle.event_steps.specs.EventSteps.Mode.{Alone}
-use Rattle.event_steps.specs.EventSteps.EventStep.{Compare, SkipIf, Put, Load, LoadLow, FromAl, FromAh}
+use Rattle.event_steps.specs.declared.step.EventStep.TheVariants.{Compare, SkipIf, Put, Load, LoadLow, FromAl, FromAh}
 use Rattle.trampoline.specs.Recording.{AreLaid, SaysEnough, coming, any_data}
 use Rattle.event_steps.proofs.LocalSteps.{is_putting}
 use Rattle.trampoline.proofs.PrivateData.{listed_recorded}
-use Rattle.trampoline.proofs.PlainEvents.{register_over, covered, counted, cond_code_is}
+use Rattle.cond_action.proofs.ListedConditions.{register_over, cond_code_is}
+use Rattle.trampoline.proofs.PlainEvents.{covered, counted}
 use Rattle.pun_base.specs.declared.action.Action.TheVariants as action
 use Rattle.insn_form.specs.Machine.{Machine}
 use Rattle.trampoline.specs.Running.{Recorded}

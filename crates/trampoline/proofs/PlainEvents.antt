@@ -1,23 +1,20 @@
 -- Events as lists have the code of events; those that cover and that count are recorded by the law of lists.
-use Rattle.std.proofs.Common.{◌≡◌, inr, ℕ, suc, ◌+◌, ◌-◌, ◌*◌, ◌%◌, ◌^◌, ◌<◌, ◌≤◌, Bool, false, List, [], ◌∷◌, ◌++◌, length, map, take, drop, Some, refl, sym, ap, ◌∙◌, arith}
-use Rattle.std.proofs.lemmas.List.{set_split, get_or-set_same, length-set, append_assoc}
+use Rattle.std.proofs.Common.{◌≡◌, inr, ℕ, suc, ◌+◌, ◌-◌, ◌*◌, ◌%◌, ◌^◌, ◌<◌, ◌≤◌, Bool, List, [], ◌∷◌, ◌++◌, map, take, drop, Some, refl, sym, ap, ◌∙◌, arith}
+use Rattle.std.proofs.lemmas.List.{set_split, get_or-set_same, length-set}
 use Rattle.pun_base.specs.Memory.{Bytes}
 use Rattle.pun_base.specs.declared.action.Base.{Base}
 use Rattle.pun_base.specs.declared.action.Base.TheVariants as base
-use Rattle.pun_base.specs.declared.action.Comparison.{Comparison}
-use Rattle.cond_action.specs.Codes.{keep_flags, give_back, compare_code, failing, comparing, recording, cond_code}
 use Rattle.cpu_state.specs.Bytes.{number_at, put_list, bytes_of}
 use Rattle.cpu_state.proofs.Readback.{bytes_of_length}
 use Rattle.insn_form.specs.Operands.{reg, with_reg, rax}
-use Rattle.relocate_insn.specs.Pieces.{load_rax}
 use Rattle.relocate_insn.proofs.PrivateRange.{put_away}
 use Rattle.trampoline.specs.Events.{bytes_at, base_mark, event_code, base_room}
 use Rattle.trampoline.proofs.DataParts.{splice, field_written, number_part, bytes_size, bytes_keep}
 use Rattle.event_steps.proofs.FlagsInAx.{twice, same_reg}
-use Rattle.event_steps.specs.EventSteps.{Datum, EventStep, long, code}
-use Rattle.event_steps.specs.EventSteps.EventStep.{FromAl, FromAh, Load, LoadLow}
+use Rattle.event_steps.specs.EventSteps.{long}
 use Rattle.trampoline.specs.Recording.{SaysEnough, any_data}
-use Rattle.trampoline.specs.EventLists.{marking_step, register_checks, cond_event, cover_event, count_event, event_of, AreLists}
+use Rattle.trampoline.specs.EventLists.{cover_event, count_event, event_of, AreLists}
+use Rattle.cond_action.proofs.ListedConditions.{cond_code_is}
 use Rattle.trampoline.proofs.PrivateData.{listed_recorded}
 use Rattle.pun_base.specs.declared.action.Action.{Action}
 use Rattle.pun_base.specs.declared.action.Action.TheVariants as action
@@ -25,32 +22,6 @@ use Rattle.pun_base.specs.Actions.{listed}
 use Rattle.insn_form.specs.Machine.{Machine}
 use Rattle.relocate_insn.specs.Running.{IsReady}
 use Rattle.trampoline.specs.Running.{Recorded}
-
--- checks of registers jump over those behind them and the step that marks
-pub register_over : (b : Base) (t : Bool) (n : ℕ) (cs : List Comparison) (back : List EventStep) → long (take (2 * length cs + 1) (register_checks cs ++ (marking_step b false n ∷ back))) ≡ 9 * length cs + 8
-register_over base.Cover t n [] back = refl
-register_over base.Count t n [] back = refl
-register_over b t n (c ∷ cs) back =
-    let e : 2 * suc (length cs) + 1 ≡ suc (suc (2 * length cs + 1)) = omega arith in
-    let q = register_over b t n cs back in
-    ap (λ z. long (take z (register_checks (c ∷ cs) ++ (marking_step b false n ∷ back)))) e ∙ omega (arith, q)
-
-register_code : (b : Base) (n : ℕ) (ds : List Datum) (cs : List Comparison) (back : List EventStep)
-    → code ds (register_checks cs ++ (marking_step b false n ∷ back)) ≡ comparing cs ++ code ds (marking_step b false n ∷ back)
-register_code b n ds [] back = refl
-register_code b n ds (c ∷ cs) back =
-    let rest = code ds (marking_step b false n ∷ back) in
-    let tail = (0x70 + failing c.op) ∷ (9 * length cs + 8) ∷ comparing cs in
-    (λ j. compare_code c.reg c.value ++ ((0x70 + failing c.op) ∷ register_over b false n cs back j ∷ register_code b n ds cs back j))
-    ∙ sym (append_assoc (compare_code c.reg c.value) tail rest)
-
-pub cond_code_is : (p i : ℕ) (b : Base) (cs : List Comparison) → code (cond_event b cs p i).uses (cond_event b cs p i).steps ≡ cond_code b cs p i
-cond_code_is p i b cs = ap (λ z. keep_flags p ++ (load_rax p ++ z))
-    (register_code b 2 (cond_event b cs p i).uses cs (LoadLow 1 ∷ FromAl ∷ FromAh ∷ Load 0 ∷ []) ∙ ap (λ z. comparing cs ++ z) (mark_code b))
-  where
-    mark_code : (b : Base) → code (cond_event b cs p i).uses (marking_step b false 2 ∷ LoadLow 1 ∷ FromAl ∷ FromAh ∷ Load 0 ∷ []) ≡ recording b p i ++ give_back p
-    mark_code base.Cover = refl
-    mark_code base.Count = refl
 
 -- the code of each is the event's
 pub are_lists : AreLists

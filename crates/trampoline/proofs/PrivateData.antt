@@ -12,9 +12,11 @@ use Rattle.relocate_insn.proofs.FixedCode.{fixed_front}
 use Rattle.relocate_insn.proofs.PrivateRange.{private_free}
 use Rattle.trampoline.specs.Events.{bytes_at}
 use Rattle.event_steps.specs.DoneSteps.{is_one_of, address, IsLow, AreLow, is_in, AreApart, AreFree}
-use Rattle.event_steps.specs.EventSteps.{Place, Datum, code}
+use Rattle.event_steps.specs.declared.step.Place.{Place}
+use Rattle.event_steps.specs.declared.step.Datum.{Datum}
+use Rattle.event_steps.specs.EventSteps.{code}
 use Rattle.event_steps.specs.EventSteps.Mode.{Alone}
-use Rattle.event_steps.specs.EventSteps.Place.{At, Below}
+use Rattle.event_steps.specs.declared.step.Place.TheVariants.{At, Below}
 use Rattle.trampoline.specs.Recording.{AgreeBut, IsLaid, behind, AreLaid, coming, ListedEventsAreRecorded}
 use Rattle.event_steps.proofs.EventRuns.{events_leave}
 use Rattle.event_steps.proofs.InterleavedSteps.{held_now}

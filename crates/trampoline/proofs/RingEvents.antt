@@ -1,6 +1,6 @@
 -- Events with a ring are recorded by the law of lists.
 use Rattle.std.proofs.Common.{◌≡◌, inr, ℕ, ◌+◌, ◌-◌, ◌*◌, ◌%◌, ◌^◌, ◌<◌, ◌≤◌, Bool, true, false, not, eqb, if◌then◌else◌, List, [], ◌∷◌, length, map, Some, set, refl, sym, ap, ◌∙◌, arith, true≢false, eq-eqb}
-use Rattle.std.specs.Prelude.{nat_lt, ◌≢◌, ◌++◌}
+use Rattle.std.specs.Prelude.{nat_lt, ◌++◌}
 use Rattle.std.proofs.lemmas.Bool.{eqb-true, ltb-true, lt-ltb}
 use native.Mathlib.Nat.{mod-eq_of_lt}
 use Rattle.std.proofs.Math.Nat.{mod_self}
@@ -27,10 +27,11 @@ use Rattle.trampoline.specs.Events.{bytes_at, ring_mark, event_code, event_lengt
 use Rattle.trampoline.proofs.DataParts.{field_written, number_part, bytes_keep}
 use Rattle.trampoline.proofs.FailedComparisons.{flags_32}
 use Rattle.event_steps.proofs.FlagsInAx.{twice}
-use Rattle.event_steps.specs.EventSteps.{Datum, EventStep}
+use Rattle.event_steps.specs.declared.step.Datum.{Datum}
+use Rattle.event_steps.specs.declared.step.EventStep.{EventStep}
 use Rattle.event_steps.specs.DoneSteps.{Local, done, ended}
 use Rattle.event_steps.specs.WholeEvents.{left_in}
-use Rattle.event_steps.specs.EventSteps.EventStep.{Store, StoreLow, Load, LoadLow, IntoAh, IntoAl, FromAl, FromAh, SetLow, NextLow, CompareLow, Put, SkipIf}
+use Rattle.event_steps.specs.declared.step.EventStep.TheVariants.{Store, StoreLow, Load, LoadLow, IntoAh, IntoAl, FromAl, FromAh, SetLow, NextLow, CompareLow, Put, SkipIf}
 use Rattle.trampoline.specs.Recording.{SaysEnough, coming}
 use Rattle.trampoline.specs.EventLists.{ring_list}
 use Rattle.trampoline.proofs.PrivateData.{listed_recorded}

@@ -1,47 +1,18 @@
 -- Events as lists of steps. Theorems cite it. p is the first address of the private range, i the number of the site.
-use Rattle.std.specs.Prelude.{◌≡◌, ℕ, ◌+◌, ◌*◌, Bool, true, false, List, [], ◌∷◌, ◌++◌, length}
+use Rattle.std.specs.Prelude.{◌≡◌, ℕ, ◌+◌, ◌*◌, false, [], ◌∷◌}
 use Rattle.pun_base.specs.declared.action.Action.{Action}
 use Rattle.pun_base.specs.declared.action.Action.TheVariants as action
 use Rattle.pun_base.specs.declared.action.Base.{Base}
 use Rattle.pun_base.specs.declared.action.Base.TheVariants as base
-use Rattle.pun_base.specs.declared.action.Comparison.{Comparison}
 use Rattle.pun_base.specs.Actions.{listed}
-use Rattle.cond_action.specs.Codes.{failing}
+pub use Rattle.cond_action.specs.CondLists.{counter_at, mark_at, mark_len, eight_at, four_at, marked_datum, marking_step, register_checks, cond_event}
 use Rattle.trampoline.specs.Events.{event_code}
-use Rattle.event_steps.specs.EventSteps.{Datum, EventStep, code}
-use Rattle.event_steps.specs.EventSteps.Place.{At}
-use Rattle.event_steps.specs.EventSteps.EventStep.{Cover, CountUp, Store, Load, StoreLow, LoadLow, Raise, IntoAh, IntoAl, FromAl, FromAh, Compare, SetLow, NextLow, CompareLow, Put, SkipIf}
+use Rattle.event_steps.specs.declared.step.Datum.{Datum}
+use Rattle.event_steps.specs.EventSteps.{code}
+use Rattle.event_steps.specs.declared.step.Place.TheVariants.{At}
+use Rattle.event_steps.specs.declared.step.EventStep.TheVariants.{Cover, Store, Load, StoreLow, LoadLow, Raise, IntoAh, IntoAl, FromAl, FromAh, SetLow, NextLow, CompareLow, Put, SkipIf}
 use Rattle.event_steps.specs.Interleaved.{Listed}
 use Rattle.event_steps.specs.Interleaved.Killed.{Nothing}
-
--- the counter of site i
-abbrev pub counter_at : ℕ → ℕ → ℕ
-counter_at p i = p + 64 + 8 * i
-
--- the first byte of what an event of site i marks: the site's byte, or its counter
-abbrev pub mark_at : Base → ℕ → ℕ → ℕ
-mark_at base.Cover p i = p + 64 + i
-mark_at base.Count p i = counter_at p i
-
--- how many bytes it marks
-abbrev pub mark_len : Base → ℕ
-mark_len base.Cover = 1
-mark_len base.Count = 8
-
--- eight bytes at an address, and four
-abbrev pub eight_at : ℕ → Datum
-eight_at a = record { place = At a; size = 8; number = true }
-
-abbrev pub four_at : ℕ → Datum
-four_at a = record { place = At a; size = 4; number = true }
-
--- what an event marks, and the step that marks it
-abbrev pub marked_datum : Base → ℕ → ℕ → Datum
-marked_datum b p i = record { place = At (mark_at b p i); size = mark_len b; number = true }
-
-abbrev pub marking_step : Base → Bool → ℕ → EventStep
-marking_step base.Cover locked k = Cover k
-marking_step base.Count locked k = CountUp locked k
 
 -- the event that covers, and the one that counts
 abbrev pub cover_event : ℕ → ℕ → Listed
@@ -54,19 +25,6 @@ count_event p i = record { uses = eight_at p ∷ marked_datum base.Count p i ∷
 abbrev pub event_of : Base → ℕ → ℕ → Listed
 event_of base.Cover p i = cover_event p i
 event_of base.Count p i = count_event p i
-
--- comparisons of registers, each with a jump over those behind it and the step that marks
-abbrev pub register_checks : List Comparison → List EventStep
-register_checks [] = []
-register_checks (c ∷ cs) = Compare c.reg c.value ∷ SkipIf (failing c.op) (2 * length cs + 1) ∷ register_checks cs
-
--- the event under a condition: rax and the flags saved in the private range, rax back for the comparisons, the mark, and all back
-abbrev pub cond_event : Base → List Comparison → ℕ → ℕ → Listed
-cond_event b cs p i = record {
-  uses = eight_at p ∷ four_at (p + 8) ∷ marked_datum b p i ∷ [];
-  steps = Store 0 ∷ IntoAh ∷ IntoAl ∷ StoreLow 1 ∷ Load 0 ∷ (register_checks cs ++ (marking_step b false 2 ∷ LoadLow 1 ∷ FromAl ∷ FromAh ∷ Load 0 ∷ []));
-  kills = Nothing;
-}
 
 -- a ring of n slots, each four bytes
 abbrev pub slots_at : ℕ → ℕ → Datum

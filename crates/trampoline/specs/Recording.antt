@@ -10,11 +10,13 @@ use Rattle.insn_form.specs.Step.{Step}
 use Rattle.insn_form.specs.Runs.{IsRun, last_of}
 use Rattle.relocate_insn.specs.Running.{IsReady, Inside}
 use Rattle.trampoline.specs.Events.{bytes_at}
-use Rattle.event_steps.specs.EventSteps.{Place, Datum, long, code, AreSteps}
+use Rattle.event_steps.specs.declared.step.Place.{Place}
+use Rattle.event_steps.specs.declared.step.Datum.{Datum}
+use Rattle.event_steps.specs.EventSteps.{long, code, AreSteps}
 use Rattle.event_steps.specs.DoneSteps.{Local, started, ended}
 use Rattle.event_steps.specs.WholeEvents.{left_in, FitAll}
 use Rattle.event_steps.specs.EventSteps.Mode.{Alone}
-use Rattle.event_steps.specs.EventSteps.Place.{At, Below}
+use Rattle.event_steps.specs.declared.step.Place.TheVariants.{At, Below}
 use Rattle.event_steps.specs.Interleaved.{Killed, Listed, numbers_in}
 use Rattle.event_steps.specs.Interleaved.Killed.{Nothing, Five, Six, Register}
 

@@ -13,7 +13,8 @@ use Rattle.elf_read.specs.Image.{image_of}
 use Rattle.elf_read.specs.Writing.{header_of}
 use Rattle.elf_read.proofs.FileTables.{length-table}
 use Rattle.settle.specs.Stub.{stub_code}
-use Rattle.settle.specs.Settled.{used_len, front_len, settled_table, stub_at, own_table, settled, moved_image, front_image, image_at}
+use Rattle.settle.specs.Lengths.{used_len, front_len}
+use Rattle.settle.specs.Settled.{settled_table, stub_at, own_table, settled, moved_image, front_image, image_at}
 use Rattle.settled_runs.specs.Vector.{OwnTable, Word, Variables, Pairs, with_pair, told, variables_at, pairs_at, IsVector}
 use Rattle.settle.specs.Laws.{IsPlaceable}
 use Rattle.settled_runs.specs.Laws.{IsTold, own_of, SettledStarts}

@@ -112,11 +112,7 @@ fn push_table(out: &mut Vec<u8>, file: &[u8], count: usize) -> Result<(), AllocE
 }
 
 /// Appends the section table of a file to its front, where that has it, and tells of it.
-pub(crate) fn push_sections(
-    out: &mut Vec<u8>,
-    file: &[u8],
-    count: usize,
-) -> Result<(), AllocError>
+pub(crate) fn push_sections(out: &mut Vec<u8>, file: &[u8], count: usize) -> Result<(), AllocError>
     requires long { 64 ≤ length file.now }
     requires few { count ≤ 1023 }
     requires header { 64 ≤ length out.old.items }

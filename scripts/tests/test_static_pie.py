@@ -180,9 +180,20 @@ def test_blocks_to_which_only_relocations_lead_are_counted(flags):
     assert list(struct.unpack("<7Q", held)) == lines
 
 
+def loader(name: str) -> str:
+    """A copy of the dynamic loader."""
+    run("gcc", "-pie", "-o", "some", "some.c")
+    (path,) = re.findall(r"interpreter: (.*)\]", run("readelf", "-lW", "some"))
+    return shutil.copy(path, name)
+
+
 IS_DYNAMIC = "is dynamic, so its libraries are loaded as it runs: link with gcc -static, or take a static build of it"
+IS_LOADER = ("is a dynamic loader, or a library that can be run: what it loads isn't patched with it: link that with gcc "
+             "-static, or take a static build of it")
 KINDS: list[tuple[str, Callable[[], str], str]] = [
     ("lib.so", lambda: run("gcc", "-shared", "-fPIC", "-o", "lib.so", "some.c"), "is a shared library: name a program"),
+    ("loader", lambda: loader("loader"), IS_LOADER),
+    ("runs.so", lambda: run("gcc", *BARE, "-shared", "-Wl,-e,main", "-o", "runs.so", "some.c"), IS_LOADER),
     ("moved", lambda: run("gcc", "-pie", "-o", "moved", "some.c"), IS_DYNAMIC),
     ("bound", lambda: run("gcc", "-no-pie", "-o", "bound", "some.c"), IS_DYNAMIC),
     ("some.o", lambda: run("gcc", "-c", "-o", "some.o", "some.c"), "is an object file: link it with gcc -static"),

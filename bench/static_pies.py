@@ -34,8 +34,9 @@ from vaknuhol.recording.patching import find_tool
 from vaknuhol.recording.record_file import Record
 
 PIE, LIBC, MUSL, QEMU = "-fPIE -static-pie", "libc-bin", "musl-dev", "qemu-user-static"
-OF_MUSL = (f"gcc -O2 {PIE} -nostdinc -isystem {{musl}}/include/x86_64-linux-musl -nostdlib -L{{libs}} -o {{out}} {{libs}}/rcrt1.o"
-           f" {{libs}}/crti.o {{source}} -lc -lgcc -lgcc_eh -lc {{libs}}/crtn.o").replace("{libs}", "{musl}/lib/x86_64-linux-musl")
+LIBS = "{musl}/lib/x86_64-linux-musl"
+OF_MUSL = (f"gcc -O2 {PIE} -nostdinc -isystem {{musl}}/include/x86_64-linux-musl -isystem $(gcc -print-file-name=include) -nostdlib"
+           f" -L{LIBS} -o {{out}} {LIBS}/rcrt1.o {LIBS}/crti.o {{source}} -lc -lgcc -lgcc_eh -lc {LIBS}/crtn.o")
 RUST = "rustc -O -C target-feature=+crt-static -o {out} {source}"
 GO = "CGO_ENABLED=1 go build -buildmode=pie -ldflags '-linkmode external -extldflags -static-pie' -o {out} {source}"
 FEW = 24  # program headers: fewer than a table of all pages with new code has
@@ -63,7 +64,7 @@ CASES = [
     Case("gcc, -z norelro", "bench/static/work.c", f"gcc -O2 {PIE} -Wl,-z,norelro -o {{out}} {{source}}"),
     Case("gcc, SipHash of libcrypto", "bench/static/digests.c", f"gcc -O2 {PIE} -o {{out}} {{source}} -lcrypto"),
     Case("gcc, signals of a timer", "scripts/tests/signals.c", f"gcc -O2 {PIE} -pthread -o {{out}} {{source}}", ("nested",), MANY),
-    Case("gcc, faults and siglongjmp", "scripts/tests/signals.c", f"gcc -O2 {PIE} -pthread -o {{out}} {{source}}", ("faulting",)),
+    Case("gcc, faults and siglongjmp", "scripts/tests/signals.c", f"gcc -O2 {PIE} -pthread -o {{out}} {{source}}", ("repeatable",)),
     Case("gcc, threads, TLS", "bench/threads/pthreads.c", f"gcc -O2 -DLOCALS {PIE} -pthread -o {{out}} {{source}}", (), MANY),
     Case("gcc, threads, signals", "bench/threads/pthreads.c", f"gcc -O2 -DSIGNALS {PIE} -pthread -o {{out}} {{source}}", (), MANY),
     Case("clang", "bench/static/work.c", f"clang -O2 {PIE} -o {{out}} {{source}}"),
@@ -71,9 +72,9 @@ CASES = [
     Case("clang, lld, RELR", "bench/static/work.c", f"clang -O2 {PIE} -fuse-ld=lld -Wl,--pack-dyn-relocs=relr -o {{out}} {{source}}"),
     Case("g++, exceptions", "bench/static/work.cc", f"g++ -O2 {PIE} -o {{out}} {{source}}"),
     Case("g++, threads", "bench/threads/standard.cc", f"g++ -std=c++20 -O2 {PIE} -pthread -o {{out}} {{source}}", (), MANY),
-    Case("clang++, lld, exceptions", "bench/static/work.cc", f"clang++ -O2 {PIE} -fuse-ld=lld -o {{out}} {{source}}"),
+    Case("clang++, lld, exceptions", "bench/static/work.cc", f"clang++ -std=c++20 -O2 {PIE} -fuse-ld=lld -o {{out}} {{source}}"),
     Case("musl", "bench/static/work.c", OF_MUSL),
-    Case("musl, faults and siglongjmp", "scripts/tests/signals.c", OF_MUSL, ("faulting",)),
+    Case("musl, faults and siglongjmp", "scripts/tests/signals.c", OF_MUSL, ("repeatable",)),
     Case("musl, threads, TLS", "bench/threads/pthreads.c", f"{OF_MUSL} -DLOCALS", (), MANY),
     Case("Rust", "bench/static/work.rs", RUST),
     Case("Rust, threads", "bench/threads/standard.rs", RUST, (), MANY),

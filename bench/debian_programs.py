@@ -1,5 +1,5 @@
 #!/usr/bin/env python3
-"""Debian's static programs, as the table of the page on programs: each is taken out of its package, which needn't be installed,
+"""Debian's static programs, of which the page on programs speaks: each is taken out of its package, which needn't be installed,
 patched at all its blocks, and run with and without the patch.
 
     debian_programs.py [--keep FOLDER] [PACKAGE]...

@@ -1,5 +1,5 @@
 #!/usr/bin/env python3
-"""Static PIEs of many compilers, and Debian's own, as the table of the page on programs has them.
+"""Static PIEs of many compilers, and Debian's own, of which the page on programs speaks.
 
     static_pies.py [--jobs N] [--keep FOLDER] [NAME]...
 

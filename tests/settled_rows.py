@@ -27,6 +27,12 @@ def other(kind: int, offset: int, vaddr: int, size: int) -> Entry:
     return kind, 4, offset, vaddr, vaddr, size, size, 8
 
 
+def put(file: bytes, at: int, kind: str, value: int) -> bytes:
+    changed = bytearray(file)
+    pack_into("<" + kind, changed, at, value)
+    return bytes(changed)
+
+
 def header(kind: int, entry: int, count: int) -> bytes:
     return b"\x7fELF\2\1\1".ljust(16, b"\0") + pack("<HHIQQQIHHHHHH", kind, 62, 1, entry, 64, 0, 0, 64, 56, count, 0, 0, 0)
 
@@ -64,6 +70,29 @@ def stub(at: int, phdr: int, count: int, entry: int) -> bytes:
     return code + bytes.fromhex("ebdc bf00000000 e9") + pack("<i", entry - (at + STUB))
 
 
+def with_sections(file: bytes, sections: list[bytes], size: int = 64) -> bytes:
+    """A file with section headers at its end; `size` is what it tells of the length of one."""
+    for at, kind, value in ((40, "Q", len(file)), (58, "H", size), (60, "H", len(sections)), (62, "H", max(len(sections) - 1, 0))):
+        file = put(file, at, kind, value)
+    return file + b"".join(sections)
+
+
+def section(kind: int, offset: int, size: int, addr: int = 0) -> bytes:
+    return pack("<IIQQQQIIQQ", 1, kind, 2 if addr else 0, addr, offset, size, 0, 0, 1, 0)
+
+
+def shown_sections(file: bytes, used: int) -> bytes:
+    """The section table of a file as the front has it, where it has it."""
+    place, size, count = unpack_from("<Q", file, 40)[0], *unpack_from("<HH", file, 58)
+    if size != 64 or not count or place + 64 * count > len(file) or used + 7 + 64 * count > up(used):
+        return b""
+    shown = bytearray(file[place : place + 64 * count])
+    for at in range(0, 64 * count, 64):
+        if unpack_from("<I", shown, at + 4)[0]:
+            pack_into("<Q", shown, at + 24, (unpack_from("<Q", shown, at + 24)[0] + up(used)) % (1 << 64))
+    return bytes(shown)
+
+
 def settled(file: bytes, base: int) -> bytes:
     entries, place = entries_of(file), unpack_from("<Q", file, 32)[0]
     count, size = len(entries), 56 * len(entries)
@@ -74,6 +103,10 @@ def settled(file: bytes, base: int) -> bytes:
     first = (LOAD, 5, 0, low, base, used, used, PAGE)
     front = header(2, at, count + 1) + table([first] + [moved(it, up(used), base) for it in entries])
     front += stub(at, base + own[3] + place - own[2], count, base + unpack_from("<Q", file, 24)[0])
+    sections = shown_sections(file, used)
+    if sections:
+        front = put(front, 40, "Q", used + 7)[:58] + pack("<HH", 64, len(sections) // 64) + file[62:64] + front[64:]
+        front = front.ljust(used + 7, b"\0") + sections
     return front.ljust(up(used), b"\0") + file
 
 
@@ -92,7 +125,28 @@ USUAL = program(0x1004, USUAL_ENTRIES, b"").ljust(0x1000, b"h") + b"\xf4" * 0x10
 WIDE = program(0x200004, [load(4, 0, 0, 0x200), load(5, 0x1000, 0x201000 - 0x1000, 0x10, align=0x200000)], b"").ljust(0x1010, b"\xf4")
 MANY = program(0x2000, [load(5, 0, 0, 0x2008), *[other(NOTE, 0, 0, 0)] * 99], b"").ljust(0x2008, b"\xf4")
 MOST = program(0xF000, [load(5, 0, 0, 0xF008), *[other(NOTE, 0, 0, 0)] * 1022], b"").ljust(0xF008, b"\xf4")
-PROGRAMS = {"tiny": TINY, "usual": USUAL, "wide": WIDE, "of 100 entries": MANY, "of 1,023 entries": MOST}
+# a null section whose offset means nothing, code, data without bytes, names, and one whose offset is the largest
+SECTIONS = [
+    section(0, 0x77, 0),
+    section(1, 0x1000, 0x20, 0x1000),
+    section(8, 0x2040, 0x4FD0, 0x3040),
+    section(1, (1 << 64) - 1, 1),
+    section(3, 0x2040, 0x40),
+]
+NULL = [section(0, 0, 0)]
+ROOM = (up(64 + 56 * 8 + STUB) - (64 + 56 * 8 + STUB + 7)) // 64  # how many sections the front of USUAL has room for
+SECTIONED = {
+    "with sections": with_sections(USUAL, SECTIONS),
+    "with sections at an odd place": with_sections(USUAL + b"x", SECTIONS),
+    "with one section": with_sections(TINY, SECTIONS[1:2]),
+    "with as many sections as there is room for": with_sections(USUAL, SECTIONS * (ROOM // 5) + NULL * (ROOM % 5)),
+    "with a section too many": with_sections(USUAL, SECTIONS * (ROOM // 5) + NULL * (ROOM % 5 + 1)),
+    "with sections of another length": with_sections(USUAL, SECTIONS, 63),
+    "with sections that reach past its end": with_sections(USUAL, SECTIONS)[:-1],
+    "with a table and no section": with_sections(USUAL, []),
+    "with sections far behind its end": put(with_sections(USUAL, SECTIONS), 40, "Q", (1 << 64) - 64),
+}
+PROGRAMS = {"tiny": TINY, "usual": USUAL, "wide": WIDE, "of 100 entries": MANY, "of 1,023 entries": MOST, **SECTIONED}
 
 # where a field of the header or of the first entry of TINY stands, how wide it is, what is put there, and what is then refused
 FIELDS = [
@@ -138,12 +192,6 @@ BASES = [
     ("USUAL", "base:7fff0000", "SETTLED 13 AddressHigh 2"),
     ("USUAL", "base:fffff000", "SETTLED 13 AddressHigh 0"),
 ]
-
-
-def put(file: bytes, at: int, kind: str, value: int) -> bytes:
-    changed = bytearray(file)
-    pack_into("<" + kind, changed, at, value)
-    return bytes(changed)
 
 
 def refused(words: str, name: str, file: bytes, told: str) -> Row:

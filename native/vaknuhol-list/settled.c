@@ -13,7 +13,7 @@ static uint64_t front_length(const struct elf *elf) {
     uint64_t used = sizeof *head + sizeof(Elf64_Phdr) * (uint64_t)elf->header_count + STUB;
     uint64_t front = (used + FRONT_PAGE - 1) / FRONT_PAGE * FRONT_PAGE;
     const Elf64_Phdr *first = elf->headers;
-    if (elf->header_count < 2 || head->e_phoff != sizeof *head || head->e_shoff || !is_in_file(&elf->file, front, sizeof *head))
+    if (elf->header_count < 2 || head->e_phoff != sizeof *head || !is_in_file(&elf->file, front, sizeof *head))
         return 0;
     if (first->p_type != PT_LOAD || first->p_offset || first->p_filesz != used || first->p_vaddr + front != first->p_paddr)
         return 0;

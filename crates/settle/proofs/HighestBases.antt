@@ -11,7 +11,8 @@ use Rattle.elf_read.specs.Refusals.{is_dynamic, is_outside, is_oversized, is_mis
 use Rattle.elf_read.proofs.AcceptedFiles.{NoneBreaks, none_breaks, position-none}
 use Rattle.settle.specs.declared.error.SettleError.{SettleError}
 use Rattle.settle.specs.declared.error.SettleError.TheVariants.{SegmentOutside, BaseUnaligned, Settled}
-use Rattle.settle.specs.Settled.{used_len, front_len, front_entry, moved, own_table, settled_table, settled}
+use Rattle.settle.specs.Lengths.{used_len, front_len}
+use Rattle.settle.specs.Settled.{front_entry, moved, own_table, settled_table, settled}
 use Rattle.settle.specs.Refusals.{largest_align, highest_end, highest_base, header_refusal, or_later, entries_refusal, settled_refusal, places_refusal}
 use Rattle.settle.specs.Laws.{NoneIsHigher, HighestIsTaken}
 use Rattle.settle.proofs.FrontParts.{used_fits}
@@ -264,7 +265,7 @@ highest_is_taken b file readable multiple h =
     let outside = none_later (option_map SegmentOutside (position (is_outside (length file)) ss)) _ r1.0 in
     let kept = all_kept (length (settled b file)) (settled_table b ss) (map_none _ _ r2.0) in
     let even : length (settled b file) ≡ length (settled c file) =
-    length_with b ss (own_table b file) (b + entry_of file) file ∙ sym (length_with c ss (own_table c file) (c + entry_of file) file) in
+    length_with b file ss (own_table b file) (b + entry_of file) ∙ sym (length_with c file ss (own_table c file) (c + entry_of file)) in
     let last = none_refused (length (settled b file)) (settled_table c ss) (table_kept b c (length (settled b file)) ss t.few le (omega (arith, end)) t.below bm cm info kept) in
     let again : entry_refusal 0x20000 (length (settled c file)) (settled_table c ss) ≡ None =
     subst (λ (x : ℕ). entry_refusal 0x20000 x (settled_table c ss) ≡ None) even last in

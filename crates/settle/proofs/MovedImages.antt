@@ -8,13 +8,14 @@ use Rattle.pun_base.specs.Memory.{or_else}
 use Rattle.elf_read.specs.declared.segment.Segment.{Segment}
 use Rattle.elf_read.specs.Entries.{Fits, entry_of, table_place, table_count, is_load, loads, segments, table}
 use Rattle.elf_read.specs.Image.{Chunk, holds, image, chunk_of, chunks}
-use Rattle.elf_read.specs.Writing.{header_of}
 use Rattle.elf_read.proofs.FileSlices.{slice_past}
 use Rattle.elf_read.proofs.FileTables.{segments_read}
 use Rattle.elf_read.proofs.ChunkImages.{image-cons, chunk_with}
-use Rattle.settle.specs.Settled.{used_len, front_len, is_hidden, moved, front_entry, settled_table, own_table, stub_at, front_parts, front_with, front, settled, moved_image, front_image}
+use Rattle.settle.specs.Lengths.{used_len, front_len}
+use Rattle.settle.specs.Sections.{section_tail, front_header}
+use Rattle.settle.specs.Settled.{is_hidden, moved, front_entry, settled_table, own_table, stub_at, front_parts, front_with, front, settled, moved_image, front_image}
 use Rattle.settle.specs.Laws.{IsRoomy, SettledLoads}
-use Rattle.settle.proofs.FrontParts.{length-header_of, length-settled_table, length-front_parts, length-front_with, used_fits, behind_table, parts_with, place-header_of, count-header_of}
+use Rattle.settle.proofs.FrontParts.{length-front_header, length-settled_table, length-front_parts, length-front_with, used_fits, behind_table, parts_with, place-front_header, count-front_header}
 
 -- the front is small
 pub front_small : (n : ℕ) → n + 1 < 2 ^ 16 → front_len n < 2 ^ 32
@@ -53,19 +54,19 @@ Fits-front_entry b n l m =
     record { kind = lit< tt; flags = lit< tt; offset = lit< tt; vaddr = omega arith; paddr = l; filesz = omega arith; memsz = omega arith; align = lit< tt }
 
 -- the entries of a file with a front
-pub segments_with : (b : ℕ) (ss : List Segment) (phdr entry : ℕ) (file : List ℕ) → b < 2 ^ 64 → length ss + 1 < 2 ^ 16 → AllByRecursion Fits ss
-    → segments (front_with b ss phdr entry ++ file) ≡ settled_table b ss
-segments_with b ss phdr entry file base few fits =
-    let n = length ss in let out = front_with b ss phdr entry ++ file in
-    let e = parts_with b ss phdr entry file in let rest = table (settled_table b ss) ++ behind_table b ss phdr entry file in
-    segments_read 64 out (header_of (stub_at b n) (n + 1)) (behind_table b ss phdr entry file) (settled_table b ss) e
-    (length-header_of (stub_at b n) (n + 1)) (ap table_place e ∙ place-header_of (stub_at b n) (n + 1) rest)
-    (ap table_count e ∙ count-header_of (stub_at b n) (n + 1) rest few ∙ sym (length-settled_table b ss))
+pub segments_with : (b : ℕ) (file : List ℕ) (ss : List Segment) (phdr entry : ℕ) → b < 2 ^ 64 → length ss + 1 < 2 ^ 16 → AllByRecursion Fits ss
+    → segments (front_with b file ss phdr entry ++ file) ≡ settled_table b ss
+segments_with b file ss phdr entry base few fits =
+    let n = length ss in let out = front_with b file ss phdr entry ++ file in
+    let e = parts_with b file ss phdr entry in let rest = table (settled_table b ss) ++ behind_table b file ss phdr entry in
+    segments_read 64 out (front_header (stub_at b n) n file) (behind_table b file ss phdr entry) (settled_table b ss) e
+    (length-front_header (stub_at b n) n file) (ap table_place e ∙ place-front_header (stub_at b n) n file rest)
+    (ap table_count e ∙ count-front_header (stub_at b n) n file rest few ∙ sym (length-settled_table b ss))
     (Fits-front_entry b n base few, all_moved (front_len n) b ss fits)
 
 -- those of the settled file
 pub segments-settled : (b : ℕ) (file : List ℕ) → b < 2 ^ 64 → length (segments file) + 1 < 2 ^ 16 → AllByRecursion Fits (segments file) → segments (settled b file) ≡ settled_table b (segments file)
-segments-settled b file base few fits = segments_with b (segments file) (own_table b file) (b + entry_of file) file base few fits
+segments-settled b file base few fits = segments_with b file (segments file) (own_table b file) (b + entry_of file) base few fits
 
 -- a moved entry is loaded exactly where the entry is
 pub kind_kept : (k : ℕ) → (cond ((k == 2) || (k == 6)) 0 k == 1) ≡ (k == 1)
@@ -130,11 +131,12 @@ chunks-moved p b before file (s ∷ ss) e h =
     λ i. c i ∷ r i
 
 -- what the front's entry loads
-front_chunk : (b : ℕ) (file : List ℕ) → take (used_len (length (segments file))) (settled b file) ≡ front_parts b (segments file) (own_table b file) (b + entry_of file)
+front_chunk : (b : ℕ) (file : List ℕ) → take (used_len (length (segments file))) (settled b file) ≡ front_parts b file (segments file) (own_table b file) (b + entry_of file)
 front_chunk b file =
-    let ss = segments file in let n = length ss in let x = front_parts b ss (own_table b file) (b + entry_of file) in
-    ap (λ (z : List ℕ). take (used_len n) z) (append_assoc x (replicate (front_len n - length x) 0) file)
-    ∙ take_at x (replicate (front_len n - length x) 0 ++ file) (used_len n) (length-front_parts b ss (own_table b file) (b + entry_of file))
+    let ss = segments file in let n = length ss in let x = front_parts b file ss (own_table b file) (b + entry_of file) in
+    let z = replicate (front_len n - length (x ++ section_tail n file)) 0 in
+    ap (λ (y : List ℕ). take (used_len n) y) (append_assoc (x ++ section_tail n file) z file ∙ append_assoc x (section_tail n file) (z ++ file))
+    ∙ take_at x (section_tail n file ++ (z ++ file)) (used_len n) (length-front_parts b file ss (own_table b file) (b + entry_of file))
 
 -- the image of the settled file
 pub settled_loads : SettledLoads
@@ -142,9 +144,9 @@ settled_loads b file h a =
     let ss = segments file in let n = length ss in let p = front_len n in let out = settled b file in
     let e = front_entry b n in
     let l : is_load e ≡ true = lt-ltb 0 (used_len n) (used_some n) in
-    let first = chunk_with out (front_parts b ss (own_table b file) (b + entry_of file)) e (front_chunk b file) in
+    let first = chunk_with out (front_parts b file ss (own_table b file) (b + entry_of file)) e (front_chunk b file) in
     let others : map (chunk_of out) (loads (map (moved p b) ss)) ≡ map (lifted b) (chunks file ss) =
-    ap (map (chunk_of out)) (loads-moved p b ss) ∙ chunks-moved p b (front b file) file (loads ss) (length-front_with b ss (own_table b file) (b + entry_of file)) h.roomy in
+    ap (map (chunk_of out)) (loads-moved p b ss) ∙ chunks-moved p b (front b file) file (loads ss) (length-front_with b file ss (own_table b file) (b + entry_of file)) h.roomy in
     ap (λ (z : List Segment). image (chunks out z) a) (segments-settled b file h.base h.few h.fits)
     ∙ ap (λ (z : List Segment). image (map (chunk_of out) z) a) (cond-true (is_load e) (e ∷ loads (map (moved p b) ss)) (loads (map (moved p b) ss)) l)
     ∙ (λ i. image (first i ∷ others i) a)

@@ -1,5 +1,5 @@
 -- What settling finds, step by step, is the first refusal, or the settled file.
-use Rattle.std.proofs.Common.{◌≡◌, ℕ, ◌+◌, ◌%◌, ◌^◌, ◌<◌, ◌≤◌, List, ◌++◌, length, Option, Some, None, option_map, refl, sym, ap, ◌∙◌, subst, arith}
+use Rattle.std.proofs.Common.{◌≡◌, ℕ, ◌+◌, ◌%◌, ◌^◌, ◌<◌, ◌≤◌, List, ◌++◌, length, Option, Some, None, option_map, sym, ap, ◌∙◌, subst, arith}
 use Rattle.elf_read.specs.declared.refusal.ElfError.{ElfError}
 use Rattle.elf_read.specs.declared.refusal.ElfError.TheVariants as elf
 use Rattle.elf_read.specs.Refusals as files
@@ -39,15 +39,15 @@ module _ (b : ℕ) (file : List ℕ) where
       behind_entries : settle_refusal b file ≡ or_later (settled_refusal b file) (places_refusal file)
       behind_entries = behind_header ∙ ap (λ (o : Option SettleError). or_later o (or_later (settled_refusal b file) (places_refusal file))) m
 
-      module _ (readable : IsReadable file) (base : b < 2 ^ 64) (few : length (segments file) ≤ 1023) (phdr entry : ℕ) (out : List ℕ) (is : out ≡ front_with b (segments file) phdr entry ++ file) where
+      module _ (readable : IsReadable file) (base : b < 2 ^ 64) (few : length (segments file) ≤ 1023) (phdr entry : ℕ) (out : List ℕ) (is : out ≡ front_with b file (segments file) phdr entry ++ file) where
         -- what the written file breaks the settled file breaks
         same_refusal : files.refusal 0x20000 out ≡ files.entry_refusal 0x20000 (length (settled b file)) (settled_table b (segments file))
         same_refusal =
             let ss = segments file in
             let more : length ss + 1 < 2 ^ 16 = omega (arith, few) in
             let fits = fits_from (table_count file) (table_place file) file readable.bytes in
-            let one = length_with b ss phdr entry file in let other = length_with b ss (own_table b file) (b + entry_of file) file in
-            ap (files.refusal 0x20000) is ∙ refused_with b ss phdr entry file base more fits
+            let one = length_with b file ss phdr entry in let other = length_with b file ss (own_table b file) (b + entry_of file) in
+            ap (files.refusal 0x20000) is ∙ refused_with b file ss phdr entry base more fits
             ∙ ap (λ (l : ℕ). files.entry_refusal 0x20000 l (settled_table b ss)) (one ∙ sym other)
 
         -- or one of the settled file
@@ -76,4 +76,4 @@ module _ (b : ℕ) (file : List ℕ) where
               let t0 = t.table in let t1 = t.entry in
               let p' : phdr ≡ own_table b file = omega (arith, p, t0) in
               let q' : entry ≡ b + entry_of file = omega (arith, q, t1) in
-              (k, is ∙ (λ i. front_with b (segments file) (p' i) (q' i) ++ file))
+              (k, is ∙ (λ i. front_with b file (segments file) (p' i) (q' i) ++ file))

@@ -17,12 +17,14 @@ use Rattle.elf_read.proofs.FileTables.{length-table}
 use Rattle.elf_emit.proofs.OriginalFacts.{fits_from}
 use Rattle.elf_emit.proofs.StayingSegments.{all_filtered}
 use Rattle.unpatch.proofs.OriginalSegments.{backed_at}
-use Rattle.settle.specs.Settled.{used_len, front_len, moved, front_entry, front_with, settled_table, has_bytes, loaded_at, own_table, stub_at, settled}
+use Rattle.settle.specs.Lengths.{used_len, front_len}
+use Rattle.settle.specs.Sections.{shows, with_sections, front_header}
+use Rattle.settle.specs.Settled.{moved, front_entry, front_with, settled_table, has_bytes, loaded_at, own_table, stub_at, settled}
 use Rattle.settle.specs.declared.error.SettleError.{SettleError}
 use Rattle.settle.specs.declared.error.SettleError.TheVariants.{SegmentOutside, TableNotLoaded, EntryOutside}
 use Rattle.settle.specs.Laws.{IsReadable, IsRoomy, IsTaken, UnrefusedIsTaken}
 use Rattle.settle.specs.Refusals.{largest_align, settle_refusal, kind_refusal, table_rules, table_refusal, first_broken, header_refusal, or_later, entries_refusal, settled_refusal, places_refusal}
-use Rattle.settle.proofs.FrontParts.{length-header_of, length-settled_table, length-front_with, behind_table, parts_with, place-header_of, count-header_of}
+use Rattle.settle.proofs.FrontParts.{length-front_header, length-settled_table, length-front_with, behind_table, parts_with, place-front_header, count-front_header}
 use Rattle.settle.proofs.MovedImages.{front_small, used_some, segments_with, segments-settled, loads-moved}
 
 -- of two refusals neither holds
@@ -59,14 +61,24 @@ few_unrefused b file h =
     omega (arith, m, n)
 
 -- the header of a written file breaks no rule
-header_none : (start count : ℕ) (rest : List ℕ) → count < 2 ^ 16 → 56 * count ≤ length rest → header_refusal_of (header_of start count ++ rest) ≡ None
+header_none : (start n : ℕ) (file rest : List ℕ) → n + 1 < 2 ^ 16 → 56 * (n + 1) ≤ length rest → header_refusal_of (front_header start n file ++ rest) ≡ None
 unfolding header_refusal_of header_of header
-header_none start count rest l m =
-    let out = header_of start count ++ rest in
-    let a = length-append (header_of start count) rest in let d = length-header_of start count in
-    let p = place-header_of start count rest in let q = count-header_of start count rest l in
-    cond-false (nat_lt (length out) 64) _ _ (le-ltb (length out) 64 (omega (arith, a, d)))
-    ∙ cond-false (nat_lt (length out) (table_place out + 56 * table_count out)) _ _ (le-ltb (length out) (table_place out + 56 * table_count out) (omega (arith, a, d, p, q, m)))
+header_none start n file rest l m =
+    step (shows n file) (length-append (front_header start n file) rest) (length-front_header start n file) (place-front_header start n file rest) (count-front_header start n file rest l)
+  where
+    told : Bool → List ℕ
+    told t = cond t (with_sections n file (header_of start (n + 1))) (header_of start (n + 1))
+
+    step : (t : Bool) → length (told t ++ rest) ≡ length (told t) + length rest → length (told t) ≡ 64 → table_place (told t ++ rest) ≡ 64 → table_count (told t ++ rest) ≡ n + 1
+        → header_refusal_of (told t ++ rest) ≡ None
+    step true a d p q =
+        let out = told true ++ rest in
+        cond-false (nat_lt (length out) 64) _ _ (le-ltb (length out) 64 (omega (arith, a, d)))
+        ∙ cond-false (nat_lt (length out) (table_place out + 56 * table_count out)) _ _ (le-ltb (length out) (table_place out + 56 * table_count out) (omega (arith, a, d, p, q, m)))
+    step false a d p q =
+        let out = told false ++ rest in
+        cond-false (nat_lt (length out) 64) _ _ (le-ltb (length out) 64 (omega (arith, a, d)))
+        ∙ cond-false (nat_lt (length out) (table_place out + 56 * table_count out)) _ _ (le-ltb (length out) (table_place out + 56 * table_count out) (omega (arith, a, d, p, q, m)))
 
 -- the front keeps below the addresses' end
 front_high : (b n : ℕ) → is_high (front_entry b n) ≡ false → b - front_len n + used_len n ≤ 0x7fff0000
@@ -181,25 +193,25 @@ entry_low p b e (s ∷ ss) h x = step (is_exec_in e s) refl x (λ y. entry_low p
         omega (arith, hi, z, w0, w1)
 
 -- a file with a front breaks the first rule that its entries break, whatever its stub tells
-pub refused_with : (b : ℕ) (ss : List Segment) (phdr entry : ℕ) (file : List ℕ) → b < 2 ^ 64 → length ss + 1 < 2 ^ 16 → AllByRecursion Fits ss
-    → refusal 0x20000 (front_with b ss phdr entry ++ file) ≡ entry_refusal 0x20000 (length (front_with b ss phdr entry ++ file)) (settled_table b ss)
-refused_with b ss phdr entry file base few fits =
-    let n = length ss in let out = front_with b ss phdr entry ++ file in
-    let rest = table (settled_table b ss) ++ behind_table b ss phdr entry file in
-    let l1 = length-append (table (settled_table b ss)) (behind_table b ss phdr entry file) in let l2 = length-table (settled_table b ss) in let l3 = length-settled_table b ss in
+pub refused_with : (b : ℕ) (file : List ℕ) (ss : List Segment) (phdr entry : ℕ) → b < 2 ^ 64 → length ss + 1 < 2 ^ 16 → AllByRecursion Fits ss
+    → refusal 0x20000 (front_with b file ss phdr entry ++ file) ≡ entry_refusal 0x20000 (length (front_with b file ss phdr entry ++ file)) (settled_table b ss)
+refused_with b file ss phdr entry base few fits =
+    let n = length ss in let out = front_with b file ss phdr entry ++ file in
+    let rest = table (settled_table b ss) ++ behind_table b file ss phdr entry in
+    let l1 = length-append (table (settled_table b ss)) (behind_table b file ss phdr entry) in let l2 = length-table (settled_table b ss) in let l3 = length-settled_table b ss in
     let hn : header_refusal_of out ≡ None =
-    ap header_refusal_of (parts_with b ss phdr entry file) ∙ header_none (stub_at b n) (n + 1) rest few (omega (arith, l1, l2, l3)) in
-    let segs = segments_with b ss phdr entry file base few fits in
+    ap header_refusal_of (parts_with b file ss phdr entry) ∙ header_none (stub_at b n) n file rest few (omega (arith, l1, l2, l3)) in
+    let segs = segments_with b file ss phdr entry base few fits in
     λ i. or_else (hn i) (entry_refusal 0x20000 (length out) (segs i))
 
 -- its length
-pub length_with : (b : ℕ) (ss : List Segment) (phdr entry : ℕ) (file : List ℕ) → length (front_with b ss phdr entry ++ file) ≡ front_len (length ss) + length file
-length_with b ss phdr entry file = let a = length-append (front_with b ss phdr entry) file in let e = length-front_with b ss phdr entry in omega arith
+pub length_with : (b : ℕ) (file : List ℕ) (ss : List Segment) (phdr entry : ℕ) → length (front_with b file ss phdr entry ++ file) ≡ front_len (length ss) + length file
+length_with b file ss phdr entry = let a = length-append (front_with b file ss phdr entry) file in let e = length-front_with b file ss phdr entry in omega arith
 
 -- the settled file breaks no rule, if its entries break none
 out_accepted : (b : ℕ) (file : List ℕ) → b < 2 ^ 64 → length (segments file) + 1 < 2 ^ 16 → AllByRecursion Fits (segments file)
     → entry_refusal 0x20000 (length (settled b file)) (settled_table b (segments file)) ≡ None → refusal 0x20000 (settled b file) ≡ None
-out_accepted b file base few fits er = refused_with b (segments file) (own_table b file) (b + entry_of file) file base few fits ∙ er
+out_accepted b file base few fits er = refused_with b file (segments file) (own_table b file) (b + entry_of file) base few fits ∙ er
 
 -- an entry point that can be executed
 entry_is_exec : (file : List ℕ) → places_refusal file ≡ None → is_exec file (entry_of file) ≡ true

@@ -1,5 +1,5 @@
 -- What was settled comes back, and only that does.
-use Rattle.std.proofs.Common.{◌≡◌, ℕ, ◌+◌, ◌-◌, ◌^◌, ◌<◌, ◌≤◌, Bool, true, false, cond, ◌&&◌, is_none, List, [], length, drop, slice_index, Option, Some, None, bytes_eq, refl, sym, ap, ap₂, ◌∙◌, subst, arith}
+use Rattle.std.proofs.Common.{◌≡◌, ℕ, ◌+◌, ◌-◌, ◌^◌, ◌<◌, ◌≤◌, Bool, true, false, cond, ◌&&◌, is_none, List, [], length, drop, slice_index, Option, Some, None, Result, Ok, Err, IfErr, bytes_eq, refl, sym, ap, ap₂, ◌∙◌, subst, arith}
 use Rattle.std.proofs.lemmas.List.{drop_at, drop_all, get_or-drop, length-drop}
 use Rattle.std.proofs.lemmas.Bool.{cond-true, cond-false, and_parts}
 use Rattle.std.proofs.lemmas.Slice.Eq.{bytes_eq-Decides}
@@ -7,12 +7,16 @@ use Rattle.elf_read.specs.Entries.{entry_of, table_count, segments}
 use Rattle.elf_read.specs.declared.refusal.ElfError.TheVariants.{TooShort}
 use Rattle.settle.specs.declared.error.SettleError.{SettleError}
 use Rattle.settle.specs.declared.error.SettleError.TheVariants.{File}
-use Rattle.settle.specs.Settled.{used_len, front_len, front, own_table, settled}
+use Rattle.settle.specs.Lengths.{used_len, front_len}
+use Rattle.settle.specs.Settled.{front, own_table, settled}
 use Rattle.settle.specs.Refusals.{kind_refusal, settle_refusal}
-use Rattle.settle.specs.Undone.{base_in, behind_front, unsettled}
+use Rattle.pun_base.specs.Desk.{as_list}
+use Rattle.settle.specs.declared.error.UnsettleError.{UnsettleError}
+use Rattle.settle.specs.declared.error.UnsettleError.TheVariants.{NotSettled, Memory}
+use Rattle.settle.specs.Settling.{IsCompared}
+use Rattle.settle.specs.Undone.{base_in, behind_front, unsettled, NotUndone}
 use Rattle.settle.specs.Laws.{IsReadable, SettledIsUndone, UndoneWasSettled}
 use Rattle.settle.proofs.FrontParts.{length-front_with, count-settled, base-settled}
-use Rattle.settle.proofs.MovedImages.{front_small}
 use Rattle.settle.proofs.TakenFiles.{unrefused_is_taken, few_unrefused, low_base}
 
 -- behind the front stands the file
@@ -20,7 +24,7 @@ behind : (b : ℕ) (file : List ℕ) → length (segments file) + 1 < 2 ^ 16 →
 behind b file l =
     let n = length (segments file) in
     let e : table_count (settled b file) - 1 ≡ n = omega (arith, count-settled b file l) in
-    ap (λ (k : ℕ). drop (front_len k) (settled b file)) e ∙ drop_at (front b file) file (front_len n) (length-front_with b (segments file) (own_table b file) (b + entry_of file))
+    ap (λ (k : ℕ). drop (front_len k) (settled b file)) e ∙ drop_at (front b file) file (front_len n) (length-front_with b file (segments file) (own_table b file) (b + entry_of file))
 
 -- what was settled comes back
 pub settled_is_undone : SettledIsUndone
@@ -104,6 +108,13 @@ compared out again n e =
     step : (t : Bool) → bytes_eq (settled (base_in out) (behind_front out)) out ≡ t → (again ≡ out → ⊥) → unsettled out ≡ None
     step true q other = absurd (other (e ∙ (bytes_eq-Decides (settled (base_in out) (behind_front out)) out).0 q))
     step false q other = cond-false _ _ _ (ap₂ (λ p q. p && q) (ap is_none n) q)
+
+-- so it is told where they are others
+pub told_other : {V : Type 0} (f : V → List ℕ) (r : Result V UnsettleError) (out again file : List ℕ) → settle_refusal (base_in out) (behind_front out) ≡ None
+    → again ≡ settled (base_in out) (behind_front out) → IsCompared again out file (as_list f r) → IfErr r (λ e. NotUndone out e)
+told_other f (Ok v) out again file n e h = tt
+told_other f (Err NotSettled) out again file n e h = (compared out again n e).1 h
+told_other f (Err Memory) out again file n e h = tt
 
 -- bytes behind others are bytes
 pub bytes_behind : (n : ℕ) (out : List ℕ) → ((k : ℕ) → slice_index out k < 256) → (k : ℕ) → slice_index (drop n out) k < 256

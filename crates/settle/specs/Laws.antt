@@ -5,7 +5,8 @@ use Rattle.elf_read.specs.declared.segment.Segment.{Segment}
 use Rattle.elf_read.specs.Entries.{Fits, entry_of, segments, loads}
 use Rattle.elf_read.specs.Image.{image_of}
 use Rattle.elf_read.specs.Refusals.{refusal}
-use Rattle.settle.specs.Settled.{front_len, stub_at, own_table, settled, image_at}
+use Rattle.settle.specs.Lengths.{front_len}
+use Rattle.settle.specs.Settled.{stub_at, own_table, settled, image_at}
 use Rattle.settle.specs.Refusals.{largest_align, highest_base, settle_refusal}
 use Rattle.settle.specs.Undone.{base_in, unsettled}
 

@@ -1,4 +1,6 @@
 pub mod Stub
+pub mod Lengths
+pub mod Sections
 pub mod Settled
 pub mod Refusals
 pub mod Undone

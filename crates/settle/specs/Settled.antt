@@ -1,21 +1,15 @@
--- A static PIE settled at a base: a front of whole pages, and behind it the file, byte for byte. The front has a header, a table, the stub and
--- zeros. Theorems cite it.
-use Rattle.std.specs.Prelude.{ℕ, ◌+◌, ◌-◌, ◌*◌, ◌/◌, ◌%◌, ◌^◌, ◌==◌, Bool, ◌&&◌, ◌||◌, nat_le, if◌then◌else◌, List, [], ◌∷◌, ◌++◌, length, map, Option, Some, None}
+-- A static PIE settled at a base: a front of whole pages, and behind it the file, byte for byte. The front has a header, a table, the stub, the
+-- file's section table where there is room, and zeros. Theorems cite it.
+use Rattle.std.specs.Prelude.{ℕ, ◌+◌, ◌-◌, ◌*◌, ◌%◌, ◌^◌, ◌==◌, Bool, ◌&&◌, ◌||◌, nat_le, if◌then◌else◌, List, [], ◌∷◌, ◌++◌, length, map, Option, Some, None}
 use Rattle.std.specs.List.{find}
 use Rattle.pun_base.specs.Memory.{Bytes, joined}
 use Rattle.elf_read.specs.declared.segment.Segment.{Segment}
 use Rattle.elf_read.specs.Entries.{table_place, table_count, entry_of, segments, is_load, table}
 use Rattle.elf_read.specs.Image.{image, image_of}
-use Rattle.elf_read.specs.Writing.{header_of, filled_to}
+use Rattle.elf_read.specs.Writing.{filled_to}
 use Rattle.settle.specs.Stub.{stub_code}
-
--- The bytes of the front that are used, for a file of n entries: a header, one entry more, and the stub.
-unfoldable pub used_len : ℕ → ℕ
-used_len n = 64 + 56 * (n + 1) + 89
-
--- The front's length: whole pages.
-unfoldable pub front_len : ℕ → ℕ
-front_len n = (used_len n + 4095) / 4096 * 4096
+use Rattle.settle.specs.Lengths.{used_len, front_len}
+use Rattle.settle.specs.Sections.{front_header, section_tail}
 
 -- PT_DYNAMIC or PT_PHDR: the program finds them by its own table; a kernel isn't to see them, so they become PT_NULL.
 abbrev pub is_hidden : Segment → Bool
@@ -68,19 +62,19 @@ own_table b file = loaded_at b (table_place file) (find (has_bytes (table_place 
 abbrev pub stub_at : ℕ → ℕ → ℕ
 stub_at b n = b - front_len n + 64 + 56 * (n + 1)
 
--- What the front has before its zeros, for a file of these entries.
-abbrev pub front_parts : ℕ → List Segment → ℕ → ℕ → List ℕ
-front_parts b ss phdr entry =
-    header_of (stub_at b (length ss)) (length ss + 1)
+-- What the front has that is loaded, for a file of these entries: its header, its table and the stub.
+abbrev pub front_parts : ℕ → List ℕ → List Segment → ℕ → ℕ → List ℕ
+front_parts b file ss phdr entry =
+    front_header (stub_at b (length ss)) (length ss) file
     ++ (table (settled_table b ss) ++ stub_code (stub_at b (length ss)) phdr (length ss) entry)
 
 -- The front, for a file of these entries, with what its stub tells.
-abbrev pub front_with : ℕ → List Segment → ℕ → ℕ → List ℕ
-front_with b ss phdr entry = filled_to (front_len (length ss)) (front_parts b ss phdr entry)
+abbrev pub front_with : ℕ → List ℕ → List Segment → ℕ → ℕ → List ℕ
+front_with b file ss phdr entry = filled_to (front_len (length ss)) (front_parts b file ss phdr entry ++ section_tail (length ss) file)
 
 -- The front of a file.
 abbrev pub front : ℕ → List ℕ → List ℕ
-front b file = front_with b (segments file) (own_table b file) (b + entry_of file)
+front b file = front_with b file (segments file) (own_table b file) (b + entry_of file)
 
 -- The settled file.
 abbrev pub settled : ℕ → List ℕ → List ℕ
@@ -96,7 +90,7 @@ front_image b file = image (record {
   lo = b - front_len (length (segments file));
   size = used_len (length (segments file));
   perms = 5;
-  bytes = front_parts b (segments file) (own_table b file) (b + entry_of file);
+  bytes = front_parts b file (segments file) (own_table b file) (b + entry_of file);
 } ∷ [])
 
 -- The image of the settled file, as it is to be: the front, and the file's image, moved.

@@ -1,13 +1,17 @@
 -- What the code of settling does in part. Contracts of private functions alone cite it.
-use Rattle.std.specs.Prelude.{◌≡◌, ℕ, List, Option, Some, None, Result, Ok, Err}
+use Rattle.std.specs.Prelude.{◌≡◌, ℕ, ◌+◌, List, ◌++◌, length, Option, Some, None, Result, Ok, Err}
 use Rattle.elf_read.specs.declared.refusal.ElfError.{ElfError}
 use Rattle.elf_read.specs.declared.refusal.ElfError.TheVariants as elf
+use Rattle.elf_read.specs.declared.segment.Segment.{Segment}
+use Rattle.elf_read.specs.Entries.{table}
+use Rattle.elf_read.specs.Writing.{header_of}
 use Rattle.elf_read.specs.Refusals as files
 use Rattle.settle.specs.declared.error.SettleError.{SettleError}
 use Rattle.settle.specs.declared.error.SettleError.TheVariants.{Settled, Memory}
 use Rattle.settle.specs.declared.error.UnsettleError.{UnsettleError}
 use Rattle.settle.specs.declared.error.UnsettleError.TheVariants as unsettle
-use Rattle.settle.specs.Settled.{settled}
+use Rattle.settle.specs.Stub.{stub_code}
+use Rattle.settle.specs.Settled.{settled, settled_table, stub_at}
 use Rattle.settle.specs.Refusals.{settle_refusal, Refused}
 
 -- What an error of the settled file is told as.
@@ -35,3 +39,9 @@ abbrev pub IsCompared : (again out file : List ℕ) → Result (List ℕ) Unsett
 IsCompared again out file (Ok bytes) = (again ≡ out) × (bytes ≡ file)
 IsCompared again out file (Err unsettle.NotSettled) = again ≡ out → ⊥
 IsCompared again out file (Err unsettle.Memory) = Unit {0}
+
+-- A front up to the end of its stub, without the section table.
+abbrev pub bare_parts : ℕ → List Segment → ℕ → ℕ → List ℕ
+bare_parts b ss phdr entry =
+    header_of (stub_at b (length ss)) (length ss + 1)
+    ++ (table (settled_table b ss) ++ stub_code (stub_at b (length ss)) phdr (length ss) entry)

@@ -5,7 +5,8 @@ use Rattle.pun_base.specs.Field.{field}
 use Rattle.elf_read.specs.Entries.{table_count}
 use Rattle.settle.specs.declared.error.UnsettleError.{UnsettleError}
 use Rattle.settle.specs.declared.error.UnsettleError.TheVariants.{NotSettled, Memory}
-use Rattle.settle.specs.Settled.{front_len, settled}
+use Rattle.settle.specs.Lengths.{front_len}
+use Rattle.settle.specs.Settled.{settled}
 use Rattle.settle.specs.Refusals.{settle_refusal}
 
 -- The base that a settled file tells: `p_paddr` of its first entry.

@@ -1,11 +1,13 @@
-//! The front of a settled file: its header and table, the stub, and zeros.
+//! The front of a settled file: its header and table, the stub, the file's section table, and zeros.
 ghost use Rattle.std.specs.Prelude.{◌≡◌, ◌+◌, ◌-◌, ◌*◌, ◌^◌, ◌<◌, ◌≤◌, ◌++◌, ◌∷◌, length, map, IfOk, OnOk};
 ghost use Rattle.std.specs.Int.{to_le_bytes, w32};
 ghost use Rattle.elf_read.specs.Writing.{filled_to};
 ghost use Rattle.settle.specs.Stub.{go_to, stub_code};
+ghost use Rattle.settle.specs.Settling.{bare_parts};
 ghost use Rattle.settle.specs.Settled.{front_entry, front_with, is_hidden, moved, settled_table, stub_at};
-ghost use Rattle.settle.specs.Settled.{front_len as len_of_front, used_len as len_used};
+ghost use Rattle.settle.specs.Lengths.{front_len as len_of_front, used_len as len_used};
 
+use crate::sections::push_sections;
 use elf_read::header::HEADER_LEN;
 use elf_read::segment::{ENTRY_LEN, PF_R, PF_X, PT_LOAD, PT_PHDR, Segment};
 use elf_read::writing::file_with;
@@ -37,8 +39,8 @@ const WALK: [u8; 49] = [
 ];
 
 /// How many bytes of the front are used, for a file of so many entries.
-#[tactic(auto, unfolding(crate::specs::Settled::used_len))]
-fn used_len(count: usize) -> usize
+#[tactic(auto, unfolding(crate::specs::Lengths::used_len))]
+pub(crate) fn used_len(count: usize) -> usize
     requires { count ≤ 65535 }
     ensures { result ≡ len_used count }
 {
@@ -46,7 +48,7 @@ fn used_len(count: usize) -> usize
 }
 
 /// How many bytes the front has: whole pages.
-#[tactic(auto, unfolding(crate::specs::Settled::front_len, crate::specs::Settled::used_len))]
+#[tactic(auto, unfolding(crate::specs::Lengths::front_len, crate::specs::Lengths::used_len))]
 pub(crate) fn front_len(count: usize) -> usize
     requires { count ≤ 65535 }
     ensures value { result ≡ len_of_front count }
@@ -171,6 +173,32 @@ fn fill_to(out: &mut Vec<u8>, at: usize) -> Result<(), AllocError>
     Ok(())
 }
 
+/// A front up to the end of its stub: the header, the table, and the stub with what it tells.
+fn bare_front(
+    alloc: Global,
+    entries: &[Segment],
+    base: u32,
+    phdr: u32,
+    entry: u32,
+) -> Result<Vec<u8>, AllocError>
+    requires { length entries.now ≤ 1023 }
+    ensures value { IfOk result (λ v. v.items ≡ bare_parts base entries.now phdr entry) }
+    ensures long { IfOk result (λ v. 64 ≤ length v.items) }
+{
+    let count = entries.len();
+    let table = settled_table(alloc, entries, base)?;
+    let at = stub_at(base, count);
+    let code = stub_code(alloc, at, phdr, count as u32, entry)?;
+    let out = file_with(
+        alloc,
+        u64::from(at),
+        &table,
+        HEADER_LEN + ENTRY_LEN * (count + 1),
+        &code,
+    )?;
+    Ok(out)
+}
+
 /// A front for a file of these entries, with what its stub tells, and behind it the file.
 pub(crate) fn with_front(
     alloc: Global,
@@ -180,20 +208,13 @@ pub(crate) fn with_front(
     phdr: u32,
     entry: u32,
 ) -> Result<Vec<u8>, AllocError>
-    requires { length entries.now ≤ 1023 }
-    ensures { IfOk result (λ v. v.items ≡ front_with base entries.now phdr entry ++ file.now) }
+    requires few { length entries.now ≤ 1023 }
+    requires long { 64 ≤ length file.now }
+    ensures { IfOk result (λ v. v.items ≡ front_with base file.now entries.now phdr entry ++ file.now) }
 {
     let count = entries.len();
-    let table = settled_table(alloc, entries, base)?;
-    let at = stub_at(base, count);
-    let code = stub_code(alloc, at, phdr, count as u32, entry)?;
-    let mut out = file_with(
-        alloc,
-        u64::from(at),
-        &table,
-        HEADER_LEN + ENTRY_LEN * (count + 1),
-        &code,
-    )?;
+    let mut out = bare_front(alloc, entries, base, phdr, entry)?;
+    push_sections(&mut out, file, count)?;
     fill_to(&mut out, front_len(count))?;
     out.extend_from_slice(file)?;
     Ok(out)

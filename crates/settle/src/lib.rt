@@ -9,5 +9,6 @@ pub mod error;
 mod front;
 mod header;
 pub mod laws;
+mod sections;
 pub mod settling;
 pub mod unsettling;

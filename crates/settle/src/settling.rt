@@ -136,7 +136,7 @@ fn written(
 ) -> Result<Vec<u8>, SettleError>
     requires long { 64 ≤ length file.now }
     requires few { length entries.now ≤ 1023 }
-    ensures out { IfOk result (λ v. v.items ≡ front_with base entries.now
+    ensures out { IfOk result (λ v. v.items ≡ front_with base file.now entries.now
         (loaded_at base (table_place file.now) own % 2 ^ 32) ((base + entry_of file.now) % 2 ^ 32) ++ file.now) }
     ensures lost { IfErr result (λ e. e ≡ Memory) }
 {

@@ -16,7 +16,8 @@ use Rattle.insn_form.proofs.TouchedMemory.{touches, keeps_permissions}
 use Rattle.insn_form.proofs.FrameRule.{frame, keep}
 use Rattle.elf_read.specs.Entries.{entry_of, segments}
 use Rattle.elf_read.specs.Image.{image_of}
-use Rattle.settle.specs.Settled.{front_len, used_len, settled, moved_image, front_image, image_at}
+use Rattle.settle.specs.Lengths.{front_len, used_len}
+use Rattle.settle.specs.Settled.{settled, moved_image, front_image, image_at}
 use Rattle.settled_runs.specs.Vector.{told, pairs_at}
 use Rattle.settled_runs.specs.Laws.{StubStep, own_of, start_at, beside, BesideRuns, file_start, SettledFollows}
 use Rattle.settle.proofs.FrontParts.{used_fits}

@@ -10,14 +10,15 @@ use Rattle.cpu_state.proofs.Readback.{bytes_of_length}
 use Rattle.insn_form.specs.Operands.{reg}
 use Rattle.elf_read.specs.Entries.{entry_of, segments, table}
 use Rattle.elf_read.specs.Image.{image_of}
-use Rattle.elf_read.specs.Writing.{header_of}
+use Rattle.settle.specs.Sections.{front_header}
 use Rattle.elf_read.proofs.FileTables.{length-table}
 use Rattle.settle.specs.Stub.{stub_code}
-use Rattle.settle.specs.Settled.{used_len, front_len, settled_table, stub_at, own_table, settled, moved_image, front_image, image_at}
+use Rattle.settle.specs.Lengths.{used_len, front_len}
+use Rattle.settle.specs.Settled.{settled_table, stub_at, own_table, settled, moved_image, front_image, image_at}
 use Rattle.settled_runs.specs.Vector.{OwnTable, Word, Variables, Pairs, with_pair, told, variables_at, pairs_at, IsVector}
 use Rattle.settle.specs.Laws.{IsPlaceable}
 use Rattle.settled_runs.specs.Laws.{IsTold, own_of, SettledStarts}
-use Rattle.settle.proofs.FrontParts.{length-header_of, length-settled_table, length-stub, entry-header_of, after_table, settled_parts}
+use Rattle.settle.proofs.FrontParts.{length-front_header, length-settled_table, length-stub, entry-front_header, after_table, settled_parts}
 use Rattle.settle.proofs.MovedImages.{settled_loads}
 use Rattle.settled_runs.proofs.WordsBehind.{lacking_stays, pairs_stay}
 use Rattle.settled_runs.proofs.StubRuns.{stub_tells}
@@ -43,9 +44,9 @@ unfolding used_len
 stub_byte b file k l =
     let ss = segments file in let n = length ss in let at = stub_at b n in
     let lo = b - front_len n in let x = at + k in
-    let h = header_of at (n + 1) in let t = table (settled_table b ss) in
+    let h = front_header at n file in let t = table (settled_table b ss) in
     let s = stub_code at (own_table b file) n (b + entry_of file) in
-    let lh = length-header_of at (n + 1) in let lt = length-table (settled_table b ss) in let lst = length-settled_table b ss in
+    let lh = length-front_header at n file in let lt = length-table (settled_table b ss) in let lst = length-settled_table b ss in
     let far : x - lo ≡ length h + (length t + k) = omega (arith, lh, lt, lst) in
     let inside : (nat_le lo x && nat_lt (x - lo) (used_len n)) ≡ true = ap₂ (λ p q. p && q) (le-leb lo x (omega arith)) (lt-ltb (x - lo) (used_len n) (omega (arith, lh, lt, lst, far, l))) in
     let byte : slice_index (h ++ (t ++ s)) (x - lo) ≡ slice_index s k =
@@ -60,7 +61,7 @@ first_held m w x c e = ap (λ z. or_else z (w x)) e
 pub starts_at : (b : ℕ) (file : List ℕ) → IsPlaceable b file → entry_of (settled b file) ≡ stub_at b (length (segments file))
 starts_at b file h =
     let n = length (segments file) in let l = h.stub in
-    ap (λ (z : List ℕ). entry_of z) (settled_parts b file) ∙ entry-header_of (stub_at b n) (n + 1) (table (settled_table b (segments file)) ++ after_table b file) (omega (arith, l))
+    ap (λ (z : List ℕ). entry_of z) (settled_parts b file) ∙ entry-front_header (stub_at b n) n file (table (settled_table b (segments file)) ++ after_table b file) (omega (arith, l))
 
 -- a memory that doesn't meet the image
 module _ (im : Bytes) where

@@ -32,8 +32,8 @@ def front_of(data: bytes) -> Front | None:
     front = -(-used // PAGE) * PAGE
     kind, _, offset, addr, base, length, _, _ = struct.unpack_from("<IIQQQQQQ", data, HEADER)
     own = data[front:front + HEADER]
-    if struct.unpack_from("<QQ", data, 32) != (HEADER, 0) or (kind, offset, length, addr + front) != (PT_LOAD, 0, used,
-                                                                                                    base):
+    place = struct.unpack_from("<Q", data, 32)[0]
+    if (place, kind, offset, length, addr + front) != (HEADER, PT_LOAD, 0, used, base):
         return None
     is_own = len(own) == HEADER and own[:4] == b"\x7fELF" and struct.unpack_from("<H", own, 16)[0] == ET_DYN
     return Front(front, base) if is_own and struct.unpack_from("<H", own, 56)[0] + 1 == count else None

@@ -1,5 +1,6 @@
 /* How often the single steps of a program stand at each of some addresses: count_steps ADDRESSES COUNTS PROGRAM [WORD..]. COUNTS gets
-   a line for each of ADDRESSES, with its count, as far as one process goes. A repeated string instruction is one step.
+   a line for each of ADDRESSES, with its count, as far as one process goes. A repeated string instruction is one step, and what a
+   signal comes before, or a fault ends, is none, as the runner takes its event back.
    gcc -O1 -o count_steps count_steps.c */
 #include <errno.h>
 #include <signal.h>
@@ -54,6 +55,13 @@ static int repeats(pid_t child, uint64_t at) {
     return 0;
 }
 
+static uint64_t rip_of(pid_t child) {
+    errno = 0;
+    uint64_t rip = ptrace(PTRACE_PEEKUSER, child, offsetof(struct user_regs_struct, rip), 0);
+    if (errno) refuse("rip");
+    return rip;
+}
+
 int main(int count, char **words) {
     uint64_t before = 0, steps = 0;
     int status, sent = 0;
@@ -72,9 +80,7 @@ int main(int count, char **words) {
     if (child < 0 || waitpid(child, &status, 0) != child || !WIFSTOPPED(status)) refuse(words[3]);
     ptrace(PTRACE_SETOPTIONS, child, 0, PTRACE_O_EXITKILL);
     for (;;) {
-        errno = 0;
-        uint64_t rip = ptrace(PTRACE_PEEKUSER, child, offsetof(struct user_regs_struct, rip), 0);
-        if (errno) refuse("rip");
+        uint64_t rip = rip_of(child);
         int again = rip == before && repeats(child, rip);
         uint64_t *found = again || sent ? NULL : bsearch(&rip, addresses, known, sizeof rip, by_address);
         if (found) counts[found - addresses]++;
@@ -84,6 +90,7 @@ int main(int count, char **words) {
         if (waitpid(child, &status, 0) != child) refuse("wait");
         if (!WIFSTOPPED(status)) break;
         sent = WSTOPSIG(status) == SIGTRAP ? 0 : WSTOPSIG(status);
+        if (sent && found && rip_of(child) == rip) counts[found - addresses]--;
     }
     write_counts(words[2]);
     fprintf(stderr, "%lu steps\n", steps);

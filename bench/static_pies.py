@@ -3,11 +3,12 @@
 
     static_pies.py [--jobs N] [--keep FOLDER] [NAME]...
 
-Each is patched at all its blocks (QEMU, which has more than a file may have sites, at its functions) to count, to keep a ring and to
-cover, and once more to count in the loader form; for threads where it starts some. Each of these runs has to have the output and the
-status of the program itself, `check` has to say of each patched file that it is sound, and `unpatch` has to give the program back, byte
-for byte, as has `unsettle` of its settled file. Where the program has one process and thread, the counts are compared with its single
-steps at the same base (count_steps.c), in the same surroundings: file names as long, addresses not random. A row for each program:
+Each is patched at all its blocks (QEMU at its functions) to count, to keep a ring and to cover, and once more to count in the loader
+form; for threads where it starts some; in several files, and with rings of parts, where it has more blocks than a file may have
+sites. Each of these runs has to have the output and the status of the program itself, `check` has to say of each patched file that
+it is sound, and `unpatch` has to give the program back, byte for byte, as has `unsettle` of its settled file. Where the program has
+one process and thread, the counts are compared with its single steps at the same base (count_steps.c), in the same surroundings:
+file names as long, addresses not random. A row for each program:
 
     blocks, and how many are left, also in the loader form; blocks whose count is that of the single steps, of those with a count;
     `the same` where all runs were, or what wasn't.
@@ -27,14 +28,15 @@ import tempfile
 from typing import NamedTuple
 
 from debian_programs import unpacked
-from static_programs import SECONDS, TOP, call, last_line, vaknuhol
+from static_programs import PATCHED, SECONDS, TOP, call, last_line, vaknuhol
 from vaknuhol.messages import counted
 from vaknuhol.recording.patching import find_tool
 from vaknuhol.recording.record_file import Record
 
-PIE, MUSL, QEMU = "-fPIE -static-pie", "/usr/lib/x86_64-linux-musl", "qemu-user-static"
-OF_MUSL = (f"gcc -O2 {PIE} -nostdinc -isystem /usr/include/x86_64-linux-musl -nostdlib -L{MUSL} -o {{out}} {MUSL}/rcrt1.o {MUSL}/crti.o"
-           f" {{source}} -lc -lgcc -lgcc_eh -lc {MUSL}/crtn.o")
+PIE, LIBC, MUSL, QEMU = "-fPIE -static-pie", "libc-bin", "musl-dev", "qemu-user-static"
+LIBS = "{musl}/lib/x86_64-linux-musl"
+OF_MUSL = (f"gcc -O2 {PIE} -nostdinc -isystem {{musl}}/include/x86_64-linux-musl -isystem $(gcc -print-file-name=include) -nostdlib"
+           f" -L{LIBS} -o {{out}} {LIBS}/rcrt1.o {LIBS}/crti.o {{source}} -lc -lgcc -lgcc_eh -lc {LIBS}/crtn.o")
 RUST = "rustc -O -C target-feature=+crt-static -o {out} {source}"
 GO = "CGO_ENABLED=1 go build -buildmode=pie -ldflags '-linkmode external -extldflags -static-pie' -o {out} {source}"
 FEW = 24  # program headers: fewer than a table of all pages with new code has
@@ -62,7 +64,7 @@ CASES = [
     Case("gcc, -z norelro", "bench/static/work.c", f"gcc -O2 {PIE} -Wl,-z,norelro -o {{out}} {{source}}"),
     Case("gcc, SipHash of libcrypto", "bench/static/digests.c", f"gcc -O2 {PIE} -o {{out}} {{source}} -lcrypto"),
     Case("gcc, signals of a timer", "scripts/tests/signals.c", f"gcc -O2 {PIE} -pthread -o {{out}} {{source}}", ("nested",), MANY),
-    Case("gcc, faults and siglongjmp", "scripts/tests/signals.c", f"gcc -O2 {PIE} -pthread -o {{out}} {{source}}", ("faulting",)),
+    Case("gcc, faults and siglongjmp", "scripts/tests/signals.c", f"gcc -O2 {PIE} -pthread -o {{out}} {{source}}", ("repeatable",)),
     Case("gcc, threads, TLS", "bench/threads/pthreads.c", f"gcc -O2 -DLOCALS {PIE} -pthread -o {{out}} {{source}}", (), MANY),
     Case("gcc, threads, signals", "bench/threads/pthreads.c", f"gcc -O2 -DSIGNALS {PIE} -pthread -o {{out}} {{source}}", (), MANY),
     Case("clang", "bench/static/work.c", f"clang -O2 {PIE} -o {{out}} {{source}}"),
@@ -70,14 +72,14 @@ CASES = [
     Case("clang, lld, RELR", "bench/static/work.c", f"clang -O2 {PIE} -fuse-ld=lld -Wl,--pack-dyn-relocs=relr -o {{out}} {{source}}"),
     Case("g++, exceptions", "bench/static/work.cc", f"g++ -O2 {PIE} -o {{out}} {{source}}"),
     Case("g++, threads", "bench/threads/standard.cc", f"g++ -std=c++20 -O2 {PIE} -pthread -o {{out}} {{source}}", (), MANY),
-    Case("clang++, lld, exceptions", "bench/static/work.cc", f"clang++ -O2 {PIE} -fuse-ld=lld -o {{out}} {{source}}"),
+    Case("clang++, lld, exceptions", "bench/static/work.cc", f"clang++ -std=c++20 -O2 {PIE} -fuse-ld=lld -o {{out}} {{source}}"),
     Case("musl", "bench/static/work.c", OF_MUSL),
-    Case("musl, faults and siglongjmp", "scripts/tests/signals.c", OF_MUSL, ("faulting",)),
+    Case("musl, faults and siglongjmp", "scripts/tests/signals.c", OF_MUSL, ("repeatable",)),
     Case("musl, threads, TLS", "bench/threads/pthreads.c", f"{OF_MUSL} -DLOCALS", (), MANY),
     Case("Rust", "bench/static/work.rs", RUST),
     Case("Rust, threads", "bench/threads/standard.rs", RUST, (), MANY),
     Case("Go", "bench/static/work.go", GO, (), MANY),
-    Case("`ldconfig` of libc-bin", "", "libc-bin sbin/ldconfig", ("-p",)),
+    Case("`ldconfig` of libc-bin", "", f"{LIBC} sbin/ldconfig", ("-p",)),
     Case(f"`qemu-x86_64-static` of {QEMU}", "bench/static/work.c", f"{QEMU} usr/bin/qemu-x86_64-static", ("./guest",), MANY, "--functions"),
     *(Case(f"`{name}` of {QEMU}", "", f"{QEMU} usr/bin/{name}", ("--version",), MANY, "--functions")
       for name in ("qemu-aarch64-static", "qemu-riscv64-static")),
@@ -87,7 +89,7 @@ CASES = [
 def make(case: Case, folder: str, packages: dict[str, str]) -> str:
     """Puts the program into the folder; where that fails, why. What QEMU runs is made of the source beside it."""
     package, _, path = case.command.partition(" ")
-    command = case.command.format(out="program", source=os.path.join(TOP, case.source))
+    command = case.command.format(out="program", source=os.path.join(TOP, case.source), musl=f"{packages.get(MUSL, '')}/usr")
     if package in packages:
         shutil.copy(os.path.join(packages[package], path), f"{folder}/program")
         command = f"gcc -O2 -static -no-pie -o guest {TOP}/{case.source}" if case.source else "true"
@@ -108,30 +110,37 @@ class Tried:
         self.faults: list[str] = []
         self.cells: list[str] = []
 
-    def try_way(self, name: str, words: list[str]) -> tuple[int, int]:
-        """Runs it as it is patched in a way; how many of its blocks were patched, and of how many."""
+    def try_way(self, name: str, *words: str) -> str:
+        """Runs it as it is patched in a way; what is told of that."""
         status, output, told = vaknuhol(self.folder, *words, self.case.choice, "--record", f"{name}.record", "./program", "--",
                                         *self.case.words)
-        numbers = re.search(r"patched ([0-9]+) of ([0-9]+)", told)
-        if (status, output) != self.wanted or not numbers or name == "loader form" and "in the loader form" not in told:
+        if not PATCHED.search(told) and (parts := re.findall("--within ([0-9a-f]+-[0-9a-f]+)", told)):
+            return "".join(self.try_way(name, *words, "--within", part) for part in parts)
+        if (status, output) != self.wanted or not PATCHED.search(told) or name == "loader form" and "in the loader form" not in told:
             self.faults.append(f"{name}: {last_line(told)}")
-        return (int(numbers[1]), int(numbers[2])) if numbers else (0, 0)
+        return told
 
     def try_ways(self) -> None:
-        sizes = {name: self.try_way(name, words) for name, words in WAYS.items()}
+        sizes = {}
+        for name, words in WAYS.items():
+            numbers = PATCHED.findall(self.try_way(name, *words))
+            sizes[name] = sum(int(some) for some, _ in numbers), sum(int(whole) for _, whole in numbers)
         blocks = sizes["count"][1]
         self.cells += [f"{blocks:,}", f"{blocks - sizes['count'][0]:,}", f"{blocks - sizes['loader form'][0]:,}"]
 
+    def patched(self, folder: str, ending: str = "*.patched") -> list[str]:
+        return sorted(glob.glob(f"{glob.escape(self.folder)}/{folder}/*/{ending}"))
+
     def check(self) -> None:
         """Each patched file is sound, and gives the program back."""
-        for folder, files in (("program.vak", len(WAYS) - 1), ("loader", 1)):
+        for folder in ("program.vak", "loader"):
             status, output, told = vaknuhol(self.folder, "check", "program", "--into", folder)
-            if status or output.count(b"\n") != files:
+            if status or output.count(b"\n") != len(self.patched(folder)):
                 self.faults.append(f"check: {last_line(output.decode() + told)}")
         with open(f"{self.folder}/program", "rb") as file:
             own = file.read()
-        patched = glob.glob(f"{glob.escape(self.folder)}/*/*/*.patched")
-        if len(patched) != len(WAYS) or any(vaknuhol(self.folder, "unpatch", path, "-")[1] != own for path in patched):
+        patched = self.patched("*")
+        if len(patched) < len(WAYS) or any(vaknuhol(self.folder, "unpatch", path, "-")[1] != own for path in patched):
             self.faults.append("unpatch")
         call([find_tool(), "unsettle", "program.vak/settled/program", "unsettled"], self.folder)
         with open(f"{self.folder}/unsettled", "rb") as file:
@@ -140,19 +149,20 @@ class Tried:
 
     def compare_steps(self, stepper: str) -> None:
         """How many counts are those of the single steps of the settled file, where both run under names as long."""
-        (report,) = glob.glob(f"{glob.escape(self.folder)}/program.vak/count-*/*.report")
-        stem = report.removesuffix(".report")
-        shutil.copy(f"{self.folder}/program.vak/settled/program", f"{stem}.stepped")
-        still = ["setarch", "-R", sys.executable, os.path.join(TOP, "scripts", "run_and_record.py")]
-        call([*still, report, f"{self.folder}/again", f"{stem}.patched", *self.case.words], self.folder)
-        rows = [row for row in Record(f"{self.folder}/again").rows if row.count is not None]
-        with open(f"{self.folder}/addresses", "w", encoding="ascii") as file:
-            file.writelines(f"{row.first:x}\n" for row in rows)
-        call([stepper, "addresses", "steps", f"{stem}.stepped", *self.case.words], self.folder)
-        with open(f"{self.folder}/steps", encoding="ascii") as file:
-            steps = {int(addr, 16): int(count) for addr, count in map(str.split, file)}
-        same = sum(steps[row.first] == row.count for row in rows)
-        self.cells.append(f"{same:,} of {len(rows):,}")
+        same = blocks = 0
+        for of_run in self.patched("program.vak", "*.count.run"):
+            stem = of_run.removesuffix(".count.run")
+            shutil.copy(f"{self.folder}/program.vak/settled/program", f"{stem}.stepped")
+            still = ["setarch", "-R", sys.executable, os.path.join(TOP, "scripts", "run_and_record.py")]
+            call([*still, f"{stem}.report", f"{self.folder}/again", f"{stem}.patched", *self.case.words], self.folder)
+            rows = [row for row in Record(f"{self.folder}/again").rows if row.count is not None]
+            with open(f"{self.folder}/addresses", "w", encoding="ascii") as file:
+                file.writelines(f"{row.first:x}\n" for row in rows)
+            call([stepper, "addresses", "steps", f"{stem}.stepped", *self.case.words], self.folder)
+            with open(f"{self.folder}/steps", encoding="ascii") as file:
+                steps = {int(addr, 16): int(count) for addr, count in map(str.split, file)}
+            same, blocks = same + sum(steps[row.first] == row.count for row in rows), blocks + len(rows)
+        self.cells.append(f"{same:,} of {blocks:,}")
 
     def row(self) -> str:
         return f"| {self.case.name} | {' | '.join(self.cells)} | {'; '.join(self.faults) or 'the same'} |"
@@ -193,7 +203,7 @@ def main() -> None:
         os.makedirs(top, exist_ok=True)
         subprocess.run(["gcc", "-O1", "-o", stepper, os.path.join(TOP, "bench", "count_steps.c")], check=True)
         packages = {}
-        for package in {case.command.partition(" ")[0] for case in chosen} & {"libc-bin", QEMU}:
+        for package in {MUSL if "{musl}" in case.command else case.command.partition(" ")[0] for case in chosen} & {LIBC, MUSL, QEMU}:
             os.makedirs(f"{top}/{package}", exist_ok=True)
             packages[package] = unpacked(package, f"{top}/{package}")
         print(HEAD, flush=True)

@@ -33,13 +33,13 @@ def written(texts: list[str]) -> list[str]:
     return names
 
 
-def told(records) -> "tuple[list[str], str] | str":
-    """The rows and the hash of a sum, or why there is none."""
+def told(records) -> "tuple[list[str], str, bool] | str":
+    """The rows of a sum, its hash, and whether not all records count the same blocks, or why there is none."""
     try:
         whole = Sum(records)
     except Refusal as refusal:
         return str(refusal)
-    return [row.line() for row in whole.sorted_rows()], whole.hash
+    return [row.line() for row in whole.sorted_rows()], whole.hash, whole.in_part
 
 
 @given(st.lists(st.tuples(VALUES, st.sampled_from([16, 8])), min_size=1, max_size=6), st.booleans())
@@ -83,3 +83,15 @@ def test_blocks_that_were_left_in_one_record_only_are_counted_by_the_others(plac
     whole = in_one(names, "all")
     assert [row.count for row in whole.rows] == [10, 11] and whole.left == 0
     assert (whole.path, whole.processes, whole.body) == ("all", 4, "")
+
+
+@pytest.mark.parametrize("second, is_in_part", [(["5", "NoPlan"], False), (["5", "-"], False), (["5", "6"], True),
+                                                (["NoPlan", "6"], True), (["5"], False), (["5", "7", "6"], True)])
+def test_a_sum_tells_whether_the_records_count_the_same_blocks(place, second, is_in_part):
+    """Also once it was written, and of sums of sums; of the files of one run each counts its own part."""
+    names = written([text_of(["1", "NoPlan"]), text_of(second)])
+    assert in_one(names, "all").in_part == is_in_part
+    sum_of(names).write("sum.record")
+    assert [Record(name).in_part for name in [*names, "sum.record"]] == [False, False, is_in_part]
+    assert in_one(["sum.record", "sum.record"], "all").in_part == is_in_part
+    assert not Sum(map(RecordHead, names), of_one_run=True).in_part

@@ -22,13 +22,17 @@ SHOWN = [
 ]
 
 
-@pytest.fixture
-def both() -> None:
+def link(*flags: str) -> None:
     """The static PIE `any`, and `any.fixed`, of the same objects."""
     run("gcc", *FLAGS, "-g", "-c", f"{SOURCES}/anywhere.c")
     run("gcc", *FLAGS, "-c", f"{SOURCES}/relocates.c")
-    run("gcc", "-nostdlib", "-static-pie", "-Wl,-Tbss=8000", "-o", "any", "anywhere.o", "relocates.o")
-    run("gcc", "-nostdlib", "-static", "-no-pie", "-Wl,-Tbss=408000", "-o", FIXED, "anywhere.o", "relocates.o")
+    run("gcc", "-nostdlib", "-static-pie", "-Wl,-Tbss=8000", *flags, "-o", "any", "anywhere.o", "relocates.o")
+    run("gcc", "-nostdlib", "-static", "-no-pie", "-Wl,-Tbss=408000", *flags, "-o", FIXED, "anywhere.o", "relocates.o")
+
+
+@pytest.fixture
+def both() -> None:
+    link()
 
 
 def code_of(name: str) -> int:
@@ -69,9 +73,31 @@ def test_pages_without_lines_say_what_they_say_of_the_program_at_fixed_addresses
     assert pages[0] == pages[1] and len(pages[0]) > 4
 
 
+def fit_of_both() -> list[str]:
+    return [call("fit", program)[0].splitlines()[0].partition(": ")[2] for program in ("any", FIXED)]
+
+
 def test_fit_tells_of_the_program_and_not_of_its_front(both: None) -> None:
-    told = [call("fit", program)[0].splitlines()[0].partition(": ")[2] for program in ("any", FIXED)]
+    told = fit_of_both()
     assert told[0] == told[1] and "; not listed: 0 bytes" in told[0]
+
+
+def test_fit_tells_of_sections_where_they_are_loaded() -> None:
+    """And not of what is loaded around them."""
+    link("-Wl,-z,noseparate-code")
+    told = fit_of_both()
+    assert told[0] == told[1] and "; not listed: 0 bytes" in told[0]
+
+
+def test_fit_tells_of_a_program_without_sections(both: None) -> None:
+    for program in ("any", FIXED):
+        with open(program, "r+b") as file:
+            file.seek(40)  # e_shoff
+            file.write(bytes(8))
+            file.seek(60)  # e_shnum, e_shstrndx
+            file.write(bytes(4))
+    told = fit_of_both()
+    assert told[0] == told[1] and " bytes of text" in told[0]
 
 
 def test_a_sum_of_records_keeps_the_base(both: None) -> None:

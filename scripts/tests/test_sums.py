@@ -22,6 +22,16 @@ def test_merge_adds_up(runs):
     assert call("report", "tour", "short", "long")[0] == call("report", "tour", "both")[0]
 
 
+def test_a_sum_of_records_of_other_blocks_says_why_its_counts_contradict_each_other(runs):
+    call("count", "tour", "--fast", "--quiet", "--record", "fast", "--", "walk", "3", status=4)
+    call("merge", "both", "short", "fast")
+    cause = "contradict those around, as where the records that were added up don't count the same blocks: nothing is solved"
+    for records in (["both"], ["fast", "short"]):
+        assert cause in call("report", "tour", *records)[0]
+    for records in (["short", "short"], ["fast", "fast"], ["fast"]):
+        assert "contradict" not in call("report", "tour", *records)[0]
+
+
 def test_merge_refuses_records_of_two_actions(runs):
     call("cover", "tour", "--functions", "--quiet", "--record", "covered", status=4)
     assert "is of the action count, and covered of cover" in call("merge", "sum", "short", "covered", status=2)[1]

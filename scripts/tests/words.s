@@ -7,9 +7,12 @@ run:
     lea words(%rip), %rsi
     mov $7, %ebx
 .Lnext:
-    call *-8(%rsi,%rbx,8)
+    mov %ebx, %eax
+    shl $4, %eax
+    call *-8(%rsi,%rax)
     dec %ebx
     jnz .Lnext
+    call *first(%rip)
     call chosen
     mov executed(%rip), %eax
     pop %rbx
@@ -21,6 +24,11 @@ lines:                              # nobody comes here
 line_\number:
     incl executed(%rip)
 .endr
+    ret
+    incl executed(%rip)             # nor here
+.globl line_0
+line_0:
+    incl executed(%rip)
     ret
 unchosen:                           # nor here
     incl executed(%rip)
@@ -36,14 +44,16 @@ plain:
 .set chosen, choice
 .data
 .balign 8
+.globl first, words
+first:                              # the address that a packed relocation begins with
+    .quad line_0
 .rept 64                            # so that the words that name code are behind the first 63 of a packed relocation
     .quad words
 .endr
-.globl words
-words:
+words:                              # every other one is a number
 .irp number, 1, 2, 3, 4, 5, 6, 7
-    .quad line_\number
+    .quad \number, line_\number
 .endr
-executed:
-    .long 0
+.local executed
+.comm executed, 4, 4
 .section .note.GNU-stack, "", @progbits

@@ -5,7 +5,7 @@ import os
 import struct
 
 from vaknuhol.arguments import Refusal
-from vaknuhol.program.settled import entries_of, front_of, relocated
+from vaknuhol.program.settled import entries_of, front_of, is_library, relocated
 
 PT_LOAD, PT_DYNAMIC, PT_INTERP, PT_GNU_RELRO, ET_REL, ET_EXEC, ET_DYN, EM_X86_64 = 1, 2, 3, 0x6474E552, 1, 2, 3, 62
 EXECUTABLE, WRITABLE, HEADER = 1, 2, 64
@@ -41,13 +41,17 @@ def file_hash(path: str) -> str:
 
 
 def is_static_pie(data: bytes) -> bool:
-    """Whether an ELF file is loaded anywhere, by no other program, and starts in code of its own."""
+    """Whether an ELF file is loaded anywhere, by no other program, starts in code of its own, and is no library."""
     if len(data) < HEADER or struct.unpack_from("<H", data, 16)[0] != ET_DYN or is_cut_off(data):
         return False
-    entry, entries = struct.unpack_from("<Q", data, 24)[0], list(entries_of(data))
-    return all(kind != PT_INTERP for kind, *_ in entries) and any(
-        kind == PT_LOAD and flags & EXECUTABLE and addr <= entry < addr + size
-        for kind, flags, _, addr, _, _, size, _ in entries)
+    return all(kind != PT_INTERP for kind, *_ in entries_of(data)) and is_started(data) and not is_library(data)
+
+
+def is_started(data: bytes) -> bool:
+    """Whether the entry of an ELF file is code."""
+    entry = struct.unpack_from("<Q", data, 24)[0]
+    return any(kind == PT_LOAD and flags & EXECUTABLE and addr <= entry < addr + size
+               for kind, flags, _, addr, _, _, size, _ in entries_of(data))
 
 
 def is_cut_off(data: bytes) -> bool:
@@ -65,6 +69,9 @@ def why_refused(data: bytes) -> str:
     if is_static_pie(data):
         return ("is position independent: e9tool settle makes a program at fixed addresses of it (vaknuhol cover, "
                 "count, ring, wrap and fit do so by themselves)")
+    if kind == ET_DYN and is_started(data):
+        return ("is a dynamic loader, or a library that can be run: what it loads isn't patched with it: link that "
+                "with gcc -static, or take a static build of it")
     if kind == ET_DYN:
         return "is a shared library: name a program that was linked with gcc -static, with its code in it"
     if kind == ET_REL:

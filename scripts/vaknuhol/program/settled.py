@@ -13,6 +13,8 @@ RELATIVE, RELATION, WORD, BITS = 8, struct.Struct("<QQQ"), 8, 63
 LONGEST = 1 << 17  # of a front and the header behind it
 SYMBOL, SECTION, SYMBOLS, ALLOCATED, LAST_SECTION = 24, 64, 2, 2, 0xFF00
 RELA, RELA_SIZE, RELR_SIZE, RELR = 7, 8, 35, 36  # tags of PT_DYNAMIC
+SONAME, GNU_HASH, FLAGS_1, IS_PIE = 14, 0x6FFFFEF5, 0x6FFFFFFB, 0x08000000  # more of them, and a flag of the last
+HASH_HEAD = struct.Struct("<IIII")
 
 
 class Front(NamedTuple):
@@ -60,6 +62,16 @@ def bytes_at(own: bytes, addr: int, length: int) -> bytes:
         if kind == PT_LOAD and start <= addr and addr + length <= start + size:
             return own[offset + addr - start:offset + addr - start + length]
     return b""
+
+
+def is_library(own: bytes) -> bool:
+    """Whether it has names for programs that load it, as a dynamic loader has too, and doesn't say that it is a PIE."""
+    tags = tags_of(own)
+    table = tags.get(GNU_HASH, 0)
+    head = bytes_at(own, table, HASH_HEAD.size)
+    buckets, _, words, _ = HASH_HEAD.unpack(head) if GNU_HASH in tags and head else (0, 0, 0, 0)
+    names = any(bytes_at(own, table + HASH_HEAD.size + WORD * words, buckets * 4))
+    return (SONAME in tags or names) and not tags.get(FLAGS_1, 0) & IS_PIE
 
 
 def packed(words: bytes) -> Iterator[int]:

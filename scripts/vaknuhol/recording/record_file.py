@@ -6,6 +6,7 @@
     report HASH             of the report
     for threads             where it was a patch for threads; else there is no such line
     base 7ff38000           where the program is a static PIE: the base at which it was patched
+    in part                 where it is a sum of records that don't count the same blocks; else there is no such line
     state ended             or `running`: what was recorded until then
     processes 3 threads 0 execs 1
                             and `unrecorded 1`, where no memory could be had for the record of so many processes
@@ -35,7 +36,7 @@ from vaknuhol.program.program_file import Program
 from vaknuhol.recording.actions import Action, Ring
 from vaknuhol.recording.patch_files import Run
 from vaknuhol.recording.patch_report import LEFT, Report, outcome_counts
-from vaknuhol.recording.record_head import HEAD, NOT_KNOWN, SEEN, RecordHead, head_text
+from vaknuhol.recording.record_head import HEAD, IN_PART, NOT_KNOWN, SEEN, RecordHead, head_text
 
 LINE = re.compile(rf"^([0-9a-f]{{8}}) ([0-9a-f]{{8}}) ([0-9a-f]{{8}}) (?:([0-9]+)|{NOT_KNOWN}|({'|'.join(LEFT)}))$",
                   re.M)
@@ -134,11 +135,11 @@ def record_rows(report: Report, run: Run, numbers: "array.array[int]", ended: st
 
 
 def write_record(path: str, report: Recorded, program_hash: str | None, rows: Iterable[str], state: str,
-                 seen: Mapping[str, int]) -> None:
+                 seen: Mapping[str, int], in_part: bool = False) -> None:
     """Writes a record of these lines."""
     counts = " ".join(f"{name} {number}" for name, number in seen.items() if number or name != SEEN[-1])
     head = head_text(report.action, program_hash, report.hash, report.for_threads, report.base)
-    lines = (f"state {state}", counts, *rows, "end")
+    lines = (*[IN_PART] * in_part, f"state {state}", counts, *rows, "end")
     write_whole({path: f"{HEAD}\n{head}" + "".join(f"{line}\n" for line in lines)})
 
 

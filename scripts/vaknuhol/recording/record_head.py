@@ -7,10 +7,10 @@ from vaknuhol.program.program_file import read_text
 from vaknuhol.recording.actions import Action, ActionError, action_of
 
 HEAD = "vakrecord 1"
-FOR_THREADS, NOT_KNOWN = "for threads", "-"
+FOR_THREADS, IN_PART, NOT_KNOWN = "for threads", "in part", "-"
 HASH, SEEN = r"([0-9a-f]{64})", ("processes", "threads", "execs", "unrecorded")
 HEADS = re.compile(rf"{HEAD}\naction (.+)\nprogram (-|[0-9a-f]{{64}})\nreport {HASH}\n({FOR_THREADS}\n)?"
-                   r"(?:base ([0-9a-f]{8})\n)?"
+                   rf"(?:base ([0-9a-f]{{8}})\n)?({IN_PART}\n)?"
                    r"state (ended|running)\nprocesses ([0-9]+) threads ([0-9]+) execs ([0-9]+)"
                    r"(?: unrecorded ([0-9]+))?\n")
 
@@ -34,9 +34,10 @@ class RecordHead:
         if not heads or not text.endswith("\nend\n"):
             raise Refusal(f"{path} is no record of run_and_record")
         self.path, self.body = path, text[heads.end():].removesuffix("end\n")
-        action, self.program_hash, self.report_hash, for_threads, base, self.state = heads.groups()[:6]
-        self.processes, self.threads, self.execs, self.unrecorded = (int(number or 0) for number in heads.groups()[6:])
+        action, self.program_hash, self.report_hash, for_threads, base, in_part, self.state = heads.groups()[:7]
+        self.processes, self.threads, self.execs, self.unrecorded = (int(number or 0) for number in heads.groups()[7:])
         self.for_threads, self.base = for_threads is not None, int(base, 16) if base else None
+        self.in_part = in_part is not None
         try:
             self.action = action_of(action)
         except ActionError:

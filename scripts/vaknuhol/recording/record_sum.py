@@ -69,6 +69,7 @@ class Sum:
 
     def __init__(self, records: Iterable[RecordHead], of_one_run: bool = False) -> None:
         self.rows: dict[int, Row] = {}
+        self.counted: set[frozenset[int]] = set()  # which blocks records count: more than one, where not all the same
         self.same: list[SameBlocks] = []
         heads: list[RecordHead] = []
         for head in records:
@@ -94,6 +95,7 @@ class Sum:
         self.for_threads = (any(record.for_threads for record in heads)
                             and all(record.for_threads or not record.threads for record in heads))
         seen = {name: [getattr(record, name) for record in heads] for name in SEEN}
+        self.in_part = len(self.counted) > 1 and not of_one_run or any(record.in_part for record in heads)
         self.seen = {name: max(numbers) if of_one_run else sum(numbers) for name, numbers in seen.items()}
 
     def add(self, head: RecordHead) -> None:
@@ -103,6 +105,7 @@ class Sum:
                 return
             body, head = head.body, Record.of(head)
             self.same.insert(0, SameBlocks(head, body))
+        self.counted.add(frozenset(row.first for row in head.rows if row.count is not None))
         for row in head.rows:
             self.take(head, row)
 
@@ -139,13 +142,14 @@ class Sum:
         return [row for _, row in sorted(self.rows.items())]
 
     def write(self, path: str) -> None:
-        write_record(path, self, self.program_hash, (row.line() for row in self.sorted_rows()), self.state, self.seen)
+        write_record(path, self, self.program_hash, (row.line() for row in self.sorted_rows()), self.state, self.seen,
+                     self.in_part)
 
     def as_record(self, name: str) -> Record:
         """The sum as a record that was read, which goes by a name in messages."""
         record = Record.of(self.first)
         record.path, record.report_hash = name, self.hash
-        record.state, record.for_threads = self.state, self.for_threads
+        record.state, record.for_threads, record.in_part = self.state, self.for_threads, self.in_part
         for what in SEEN:
             setattr(record, what, self.seen[what])
         record.take_over(self.sorted_rows())

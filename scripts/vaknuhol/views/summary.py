@@ -123,10 +123,11 @@ def of_ring(coverage: Coverage, names: Callable[[str], str]) -> Iterator[str]:
 def of_flow(coverage: Coverage) -> Iterator[str]:
     """Counts that can't all be those of whole executions."""
     blocks = len(coverage.flow.contradicted)
+    cause = ("the records that were added up don't count the same blocks" if coverage.record.in_part else
+             "a signal ended a process in the middle of one")
     if blocks:
-        yield (f"the counts of {counted(blocks, 'block')} contradict those around, as where a signal ended a process "
-               "in the middle of one: "
-               "nothing is solved by them")
+        yield (f"the counts of {counted(blocks, 'block')} contradict those around, as where {cause}: nothing is solved "
+               "by them")
 
 
 def of_run(record: Record) -> Iterator[str]:

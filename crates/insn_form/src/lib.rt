@@ -1,7 +1,7 @@
 //! Single instructions: their operands, and what they do as definitions. The module `code`, the machine code of a trampoline, is that of
 //! `code_bytes`.
 //!
-//! Stands on `code_bytes`, `length_decode` and `cpu_state`; `relocate_insn`, `cpu_step` and `start_entries` stand on it.
+//! Stands on `code_bytes`, `length_decode` and `cpu_state`; `killing`, `relocate_insn`, `cpu_step` and `start_entries` stand on it.
 #![tactic(auto)]
 
 mod bits;

@@ -1,6 +1,6 @@
 //! Guests of several threads: trampolines that count in one step, and runs of threads that share their memory.
 //!
-//! Stands on `sound_images` and `image_step`; `thread_laws` and `guest_threads` stand on it.
+//! Stands on `sound_images` and `image_step`; `thread_laws`, `bare_threads` and `guest_threads` stand on it.
 #![tactic(auto)]
 
 mod building;

@@ -1,0 +1,2 @@
+pub mod BareLists
+pub mod BareRunning

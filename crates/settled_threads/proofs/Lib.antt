@@ -1,0 +1,2 @@
+pub mod BackSteps
+pub mod BackRuns

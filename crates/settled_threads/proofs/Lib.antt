@@ -1,2 +1,4 @@
 pub mod BackSteps
 pub mod BackRuns
+pub mod StubThreads
+pub mod FileGuests

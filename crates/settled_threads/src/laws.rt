@@ -1,8 +1,14 @@
 //! What a settled file's guest of several threads does.
 ghost use Rattle.settled_threads.specs.Beside.{StepsComeBack, RunsComeBack};
+ghost use Rattle.settled_threads.specs.FileRuns.{SettledGuests};
 
 /// A thread's step beside memory that it leaves alone is one without it, and so is each run of a guest.
 pub fn runs_come_back()
     ensures step { StepsComeBack }
     ensures run { RunsComeBack }
+{}
+
+/// A run of a settled file's guest that begins with the stub's steps and then leaves the front alone is one of the original's at the base, behind them.
+pub fn settled_guests()
+    ensures { SettledGuests }
 {}

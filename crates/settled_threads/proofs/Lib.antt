@@ -2,3 +2,4 @@ pub mod BackSteps
 pub mod BackRuns
 pub mod StubThreads
 pub mod FileGuests
+pub mod FollowedThreads

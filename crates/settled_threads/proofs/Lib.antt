@@ -3,3 +3,4 @@ pub mod BackRuns
 pub mod StubThreads
 pub mod FileGuests
 pub mod FollowedThreads
+pub mod LoadedThreads

@@ -69,7 +69,7 @@ pub record IsMomentOfFile (b : ℕ) (file : List ℕ) (r : Threading) (s from : 
 
 -- Each proper run of the patched file's guest, which starts with one thread, with deliveries and threads that begin, is so at each moment, and
 -- counted, covered and kept.
-pub record FollowsInThreads (b : ℕ) (file : List ℕ) (r : Threading) (further : Bytes) (n : ℕ) (vs ks : List ℕ) (s u : Machine) : Type 0 where
+pub record ThreadsFollowFile (b : ℕ) (file : List ℕ) (r : Threading) (further : Bytes) (n : ℕ) (vs ks : List ℕ) (s u : Machine) : Type 0 where
   pub stub : List Machine
   pub few : length stub ≤ 9 + 4 * length vs + 12 * length ks
   pub own : IsPath (StubStep s.rip) s stub
@@ -83,4 +83,4 @@ abbrev pub SettledThreadsFollow : Type 0
 SettledThreadsFollow =
     (b : ℕ) (file : List ℕ) (r : Threading) → IsReadable file → settle_refusal b file ≡ None → IsSettledThreading b file r
     → (s u : Machine) (n : ℕ) (vs ks : List ℕ) → (c : IsKernelPair r.original r.patched r.entry n vs ks s u)
-    → FollowsInThreads b file r c.pair.further n vs ks s u
+    → ThreadsFollowFile b file r c.pair.further n vs ks s u

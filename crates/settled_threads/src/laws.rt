@@ -1,6 +1,7 @@
 //! What a settled file's guest of several threads does.
 ghost use Rattle.settled_threads.specs.Beside.{StepsComeBack, RunsComeBack};
 ghost use Rattle.settled_threads.specs.FileRuns.{SettledGuests, SettledThreadsFollow};
+ghost use Rattle.settled_threads.specs.Loaded.{SettledThreadsLoad};
 
 /// A thread's step beside memory that it leaves alone is one without it, and so is each run of a guest.
 pub fn runs_come_back()
@@ -16,4 +17,9 @@ pub fn settled_guests()
 /// From where a kernel starts it, a settled file that was patched for threads follows the original at its base.
 pub fn settled_threads_follow()
     ensures { SettledThreadsFollow }
+{}
+
+/// What is written of it in the loader form does so behind the steps of both stubs.
+pub fn settled_threads_load()
+    ensures { SettledThreadsLoad }
 {}

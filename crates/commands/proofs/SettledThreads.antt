@@ -21,13 +21,12 @@ use Rattle.settle.specs.Refusals.{settle_refusal}
 use Rattle.settle.specs.Laws.{IsReadable}
 use Rattle.settled_threads.proofs.FollowedThreads.{settled_threads_follow}
 use Rattle.settled_threads.proofs.LoadedThreads.{settled_threads_load}
-use Rattle.command_words.specs.Words.{ThreadNames}
 use Rattle.command_io.specs.Inputs.{All, gathered}
 use Rattle.command_io.specs.Writing.{Accepted, files_after, Writes}
 use Rattle.command_io.specs.Verdict.{Patching, Form, patching, starts_of, sites_of, OfTexts, HoldsBytes}
 use Rattle.command_io.proofs.GatheredInputs.{first_read}
 use Rattle.patch_commands.specs.Answers.{TextsFollowed, form_writing}
-use Rattle.patch_commands.specs.ThreadsAnswers.{ThreadPatching, threads_rewriting, threads_inputs, threads_outputs, FollowsInThreads, threads_writing, FilesFollowedInThreads, FollowsReported, for_threads, FollowsLoaded, for_threads_with_stub}
+use Rattle.patch_commands.specs.ThreadsAnswers.{ThreadPatching, threads_rewriting, threads_inputs, threads_outputs, FollowsInThreads, threads_writing, FilesFollowedInThreads, for_threads, for_threads_with_stub}
 use Rattle.patch_commands.proofs.TextVerdicts.{in_order}
 use Rattle.commands.specs.SettledFiles.{FollowsSettled}
 use Rattle.commands.specs.SettledThreads.{of_threads, of_threads_loaded, FollowsSettledInThreads}

@@ -1,18 +1,16 @@
 -- A run of a guest beside memory that it leaves alone is one without it.
-use Rattle.std.proofs.Common.{◌≡◌, ◌⊎◌, inl, inr, ℕ, List, [], ◌∷◌, map, true, Option, Some, None, refl, sym, ap, ◌∙◌, subst}
-use Rattle.std.specs.Prelude.{slice_get, slice_set}
+use Rattle.std.proofs.Common.{◌≡◌, ◌⊎◌, inl, inr, ℕ, List, [], ◌∷◌, true, None, refl, ap, ◌∙◌, subst}
+use Rattle.std.specs.Prelude.{slice_set}
 use Rattle.std.proofs.Math.Path.{fun_ext}
-use Rattle.pun_base.specs.Memory.{Cell, Bytes, or_else, joined, without}
+use Rattle.pun_base.specs.Memory.{Bytes, joined, without}
 use Rattle.start_entries.specs.declared.entry.StartEntry.{StartEntry}
 use Rattle.insn_form.specs.Machine.{put_all, avoids_writes}
 use Rattle.insn_form.proofs.TouchedMemory.{writes_held, put_all_perms}
 use Rattle.insn_form.proofs.FrameRule.{lacking_writes_frame, put_all_frame, put_all_keeps}
 use Rattle.image_runs.specs.declared.delivery.Delivery.{Delivery}
-use Rattle.image_runs.specs.Deliveries.{Fits}
-use Rattle.thread_runs.specs.Guest.{Thread, Guest, machine_of, thread_of, Moves}
-use Rattle.thread_runs.specs.GuestDeliveries.{GuestItem, Goes, Takes, given, Receives}
+use Rattle.thread_runs.specs.Guest.{Guest, machine_of, thread_of, Moves}
+use Rattle.thread_runs.specs.GuestDeliveries.{Goes, Takes, given, Receives}
 use Rattle.thread_laws.specs.Beginning.{BirthItem, Does, Begins, with_thread, LeadsOn, IsGrowing}
-use Rattle.settled_runs.specs.Laws.{beside}
 use Rattle.settled_runs.proofs.BesideRuns.{hidden_at, byte_after, none_of}
 use Rattle.settled_threads.specs.Beside.{is_held, IsUnwritable, AreApart, guest_beside, ItemLeaves, RunLeaves, IsRunBeside, RunsComeBack}
 use Rattle.settled_threads.proofs.BackSteps.{bare, step_back, apart_on}

@@ -1,5 +1,5 @@
 -- A thread's step beside memory that it leaves alone is one without it.
-use Rattle.std.proofs.Common.{◌≡◌, ◌⊎◌, inl, inr, ℕ, zero, suc, Bool, true, false, not, ◌&&◌, is_some, List, [], ◌∷◌, length, Option, Some, None, option_map, refl, sym, ap, ap₂, ◌∙◌, true≢false}
+use Rattle.std.proofs.Common.{◌≡◌, ◌⊎◌, inl, inr, ℕ, Bool, true, false, not, ◌&&◌, is_some, List, [], ◌∷◌, length, Option, Some, None, option_map, refl, sym, ap, ap₂, ◌∙◌, true≢false}
 use Rattle.std.proofs.Math.Path.{fun_ext}
 use Rattle.std.proofs.lemmas.Bool.{and_parts}
 use Rattle.pun_base.specs.Memory.{Cell, Bytes, or_else, joined}
@@ -8,7 +8,7 @@ use Rattle.cpu_state.specs.Bytes.{advanced, allows, avoids, byte_of, Stands}
 use Rattle.insn_form.specs.Machine.{Machine, leaves}
 use Rattle.insn_form.specs.Step.{IsAt, next_after}
 use Rattle.insn_form.specs.Runs.{nowhere}
-use Rattle.insn_form.specs.Touched.{perms_at, reads_none, writes_none}
+use Rattle.insn_form.specs.Touched.{reads_none, writes_none}
 use Rattle.insn_form.specs.Alike.{IsAlike}
 use Rattle.insn_form.proofs.TouchedMemory.{read_and_write, writes_are_held, leaves_nowhere}
 use Rattle.event_steps.specs.ThreadSteps.{is_locked_xadd, thread_task, ThreadStepsBy}

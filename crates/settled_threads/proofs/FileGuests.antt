@@ -1,8 +1,8 @@
 -- A run of a settled file's guest that begins with the stub's steps and then leaves the front alone is one of FILE's, behind them.
-use Rattle.std.proofs.Common.{◌≡◌, ◌⊎◌, inl, inr, ℕ, ◌+◌, ◌-◌, ◌==◌, ◌≤◌, Bool, true, false, cond, ◌&&◌, nat_le, nat_lt, is_some, List, [], ◌∷◌, ◌++◌, length, map, drop, Option, Some, None, option_map, refl, sym, ap, ◌∙◌, subst, arith, true≢false}
+use Rattle.std.proofs.Common.{◌≡◌, ◌⊎◌, inl, inr, ℕ, ◌+◌, ◌-◌, ◌==◌, ◌≤◌, Bool, true, false, cond, ◌&&◌, nat_le, nat_lt, List, [], ◌∷◌, ◌++◌, length, map, drop, Option, Some, None, option_map, refl, sym, ap, ◌∙◌, subst, arith}
 use Rattle.std.specs.Prelude.{slice_get}
 use Rattle.std.proofs.Math.Path.{fun_ext}
-use Rattle.pun_base.specs.Memory.{Cell, Bytes, or_else, joined}
+use Rattle.pun_base.specs.Memory.{Cell, Bytes}
 use Rattle.cpu_state.specs.Bytes.{allows, bytes_of, put_number}
 use Rattle.start_entries.specs.declared.entry.StartEntry.{StartEntry}
 use Rattle.insn_form.specs.Operands.{reg}
@@ -16,14 +16,14 @@ use Rattle.event_steps.specs.ThreadSteps.{ThreadStep}
 use Rattle.event_steps.proofs.ThreadSteps.{one_thread_next}
 use Rattle.thread_runs.specs.Guest.{Thread, Guest, machine_of, thread_of, Moves}
 use Rattle.thread_laws.specs.Beginning.{BirthItem, IsGrowing}
-use Rattle.settle.specs.Settled.{front_len, used_len, settled, moved_image, front_image, image_at}
+use Rattle.settle.specs.Settled.{front_len, used_len, settled, front_image, image_at}
 use Rattle.settle.specs.Laws.{IsSettleable}
 use Rattle.settle.proofs.MovedImages.{settled_loads}
 use Rattle.settled_runs.specs.Vector.{OwnTable, with_pair, told, pairs_at}
-use Rattle.settled_runs.specs.Laws.{IsSettledStart, own_of, beside, file_start}
+use Rattle.settled_runs.specs.Laws.{IsSettledStart, own_of, file_start}
 use Rattle.settled_runs.proofs.BesideRuns.{none_of, front_apart, settled_follows}
-use Rattle.settled_threads.specs.Beside.{is_held, IsUnwritable, AreApart, guest_beside, RunLeaves}
-use Rattle.settled_threads.specs.FileRuns.{lone, first_steps, IsRunOfFile, IsFileGuest, SettledGuests}
+use Rattle.settled_threads.specs.Beside.{IsUnwritable, AreApart, guest_beside, RunLeaves}
+use Rattle.settled_threads.specs.FileRuns.{lone, first_steps, SettledGuests}
 use Rattle.settled_threads.proofs.BackRuns.{run_back}
 use Rattle.settled_threads.proofs.StubThreads.{stub_threads}
 

@@ -1,24 +1,21 @@
 -- A patched file of a settled file follows FILE with any number of threads.
-use Rattle.std.proofs.Common.{◌≡◌, ◌⊎◌, inl, inr, ℕ, true, List, [], ◌∷◌, ◌++◌, length, drop, Option, Some, None, refl, sym, ap, ◌∙◌, subst}
+use Rattle.std.proofs.Common.{◌≡◌, ◌⊎◌, inl, inr, ℕ, true, List, [], ◌∷◌, Option, Some, None, refl, sym, ap, ◌∙◌, subst}
 use Rattle.std.specs.List.{AllByRecursion}
 use Rattle.pun_base.specs.Memory.{Cell, Bytes, or_else, joined}
 use Rattle.insn_form.specs.Machine.{Machine}
-use Rattle.elf_read.specs.Image.{image_of}
 use Rattle.image_runs.specs.Listed.{is_start}
 use Rattle.thread_runs.specs.Ring.{AreKept}
 use Rattle.thread_runs.specs.Theorem.{AreCounted, AreCovered}
 use Rattle.thread_runs.specs.Threading.{Threading}
-use Rattle.thread_runs.specs.Watching.{watch_of}
 use Rattle.thread_runs.specs.Premises.{StandAtStarts}
 use Rattle.thread_laws.specs.Beginning.{BirthItem, IsGrowing, GrowingWatch, growing_watch, IsProperGrowing}
 use Rattle.thread_laws.specs.ThreadsBegin.{IsGrowingFollowed}
 use Rattle.thread_laws.proofs.WaitingThreads.{threads_may_begin}
 use Rattle.thread_loader.proofs.LoadedGuests.{starts_threads}
-use Rattle.settle.specs.Settled.{settled}
 use Rattle.settle.proofs.TakenFiles.{unrefused_is_taken}
 use Rattle.settled_runs.specs.Laws.{IsSettledStart, file_start}
 use Rattle.settled_runs.specs.Started.{IsKernelPair}
-use Rattle.settled_threads.specs.FileRuns.{lone, first_steps, IsFileGuest, IsSettledThreading, IsMomentOfFile, SettledThreadsFollow}
+use Rattle.settled_threads.specs.FileRuns.{lone, IsSettledThreading, IsMomentOfFile, SettledThreadsFollow}
 use Rattle.settled_threads.proofs.FileGuests.{settled_guests}
 
 -- the original's side of a kernel's start pair is a start of the settled file

@@ -1,5 +1,5 @@
 -- The stub's steps are steps of a thread: none of them asks the world, so none is LOCK INC or LOCK XADD.
-use Rattle.std.proofs.Common.{◌≡◌, ℕ, ◌<◌, ◌≤◌, Bool, true, false, cond, List, [], ◌∷◌, length, Option, Some, None, Result, Ok, Err, refl, sym, ap, ◌∙◌, subst, arith}
+use Rattle.std.proofs.Common.{◌≡◌, ℕ, ◌<◌, ◌≤◌, Bool, true, false, cond, List, [], ◌∷◌, length, Some, None, Ok, refl, sym, ap, ◌∙◌, subst, arith}
 use Rattle.length_decode.specs.Spelling.{Fields}
 use Rattle.cpu_state.specs.declared.world.Entry.{Entry}
 use Rattle.cpu_state.specs.declared.world.Question.{Question}
@@ -8,8 +8,8 @@ use Rattle.insn_form.specs.declared.form.Insn.{Insn}
 use Rattle.insn_form.specs.declared.form.Insn.TheVariants.{Exact, Asked, Ending}
 use Rattle.insn_form.specs.Instruction.{insn_of}
 use Rattle.insn_form.specs.Resolving.{resolved_insn}
-use Rattle.insn_form.specs.Plan.{Plan, Halt, lacking_writes, after_answer, by_answer, plan}
-use Rattle.insn_form.specs.Machine.{Machine, Task, first, rest, act, carried}
+use Rattle.insn_form.specs.Plan.{Plan, lacking_writes, by_answer}
+use Rattle.insn_form.specs.Machine.{Machine, Task, first, rest, act}
 use Rattle.insn_form.specs.Step.{StepsBy, next_after, question_of, task_of}
 use Rattle.insn_form.specs.Runs.{nowhere, IsPath, last_of}
 use Rattle.insn_form.proofs.FrameRule.{carry_ok, ask_ok, unless_ok, same_Ok}

@@ -4,6 +4,7 @@ pub mod ReversedPlans
 pub mod PatchReversal
 pub mod LoadReversal
 pub mod SettledRuns
+pub mod SettledThreads
 pub mod ReversedThreads
 pub mod InspectingRuns
 pub mod GenRuns

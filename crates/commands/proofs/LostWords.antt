@@ -23,6 +23,7 @@ use Rattle.commands.specs.Reversal.{Unpatches}
 use Rattle.command_words.proofs.CommandForms.{known_of}
 use Rattle.commands.proofs.PatchRuns.{form_ended, lost, patch_ended}
 use Rattle.commands.proofs.SettledRuns.{patch_follows, load_follows}
+use Rattle.commands.proofs.SettledThreads.{threads_follow, loaded_threads_follow, plain_threads_follow}
 use Rattle.commands.proofs.ThreadsRuns.{threads_ended}
 use Rattle.commands.proofs.PatchReversal.{unpatch_ended}
 use Rattle.commands.proofs.SettleRuns.{settle_ended, unsettle_ended}
@@ -53,14 +54,16 @@ words_lost words (Load n action reserves) s k e =
     let p = patching n action reserves in let apart = (known_of words (Load n action reserves) e).0 in
     let w = lost (form_writing with_stub p) (Loads p) (form_ended with_stub p apart) s k in (w, load_follows p apart s s k k 6 w.writes)
 words_lost words (Threads n reserves) s k e =
-    let p = thread_patching n reserves in lost (threads_writing p) (PatchesThreads p) (threads_ended p) s k
+    let p = thread_patching n reserves in
+    let w = lost (threads_writing p) (PatchesThreads p) (threads_ended p) s k in (w, plain_threads_follow p s s k k 6 w.writes)
 words_lost words (ThreadsReported n action reserves) s k e =
-    let p = patching n action reserves in
-    lost (form_writing (for_threads action) p) (PatchesReported action p) (form_ended (for_threads action) p (known_of words (ThreadsReported n action reserves) e).0) s k
+    let p = patching n action reserves in let apart = (known_of words (ThreadsReported n action reserves) e).0 in
+    let w = lost (form_writing (for_threads action) p) (PatchesReported action p) (form_ended (for_threads action) p apart) s k in
+    (w, threads_follow action p apart s s k k 6 w.writes)
 words_lost words (ThreadsLoaded n action reserves) s k e =
-    let p = patching n action reserves in
-    lost (form_writing (for_threads_with_stub action) p) (LoadsThreads action p)
-    (form_ended (for_threads_with_stub action) p (known_of words (ThreadsLoaded n action reserves) e).0) s k
+    let p = patching n action reserves in let apart = (known_of words (ThreadsLoaded n action reserves) e).0 in
+    let w = lost (form_writing (for_threads_with_stub action) p) (LoadsThreads action p) (form_ended (for_threads_with_stub action) p apart) s k in
+    (w, loaded_threads_follow action p apart s s k k 6 w.writes)
 words_lost words (Unpatch n) s k e = lost (unpatch_writing n) (Unpatches n) (unpatch_ended n) s k
 words_lost words (Settle n base) s k e = lost (settle_writing n base) (Writes (settle_writing n base)) (settle_ended n base) s k
 words_lost words (Unsettle n) s k e = lost (unsettle_writing n) (Writes (unsettle_writing n)) (unsettle_ended n) s k

@@ -35,14 +35,14 @@ use Rattle.commands.proofs.PatchReversal.{first_few}
 use Rattle.commands.proofs.LoadReversal.{laid_after}
 
 -- so much is said of each job that a settled file is judged to be
-abbrev SaysOfJudged : {J : Type 0} → Form J → SaysOfJob J → Type 0
+abbrev pub SaysOfJudged : {J : Type 0} → Form J → SaysOfJob J → Type 0
 SaysOfJudged {J = J} f Says =
     (b : ℕ) (file : List ℕ) → IsReadable file → settle_refusal b file ≡ None → (a : Asked) (job : J) → IsInOrder a → length a.file < 2 ^ 63
     → a.file ≡ settled b file → f.Judged a (Accepted job) → f.Follows a.file a.starts job → Says b file a.file a.starts job
 
 module _ {J : Type 0} (f : Form J) (Says : SaysOfJob J) (one : SaysOfJudged f Says) (p : Patching) (b : ℕ) (file : List ℕ) (readable : IsReadable file) (none : settle_refusal b file ≡ None) where
   -- of the job of lists
-  lists_say : (out list : List ℕ) (starts sites : Result (List ℕ) ListError) (job : J) → length out < 2 ^ 63 → out ≡ settled b file → starts ≡ Ok list
+  pub lists_say : (out list : List ℕ) (starts sites : Result (List ℕ) ListError) (job : J) → length out < 2 ^ 63 → out ≡ settled b file → starts ≡ Ok list
       → ((ns ms : List ℕ) (reserves : _) → starts ≡ Ok ns → sites ≡ Ok ms → IsInOrder (asked p.action reserves out ns ms))
       → OfLists (rewriting_in f p) out starts sites (Accepted job) → f.Follows out list job → Says b file out list job
   lists_say out list (Err error) sites job size is q o h w = absurd cc
@@ -90,7 +90,7 @@ module _ {J : Type 0} (f : Form J) (Says : SaysOfJob J) (one : SaysOfJudged f Sa
   texts_say files new other job apart bytes held e j h same = absurd h
 
 -- what a form's command that did its work wrote of a settled file
-form_follows : {J : Type 0} → (f : Form J) (Says : SaysOfJob J) → SaysOfJudged f Says → (p : Patching) → (p.names.out ≡ p.names.report → ⊥)
+pub form_follows : {J : Type 0} → (f : Form J) (Says : SaysOfJob J) → SaysOfJudged f Says → (p : Patching) → (p.names.out ≡ p.names.report → ⊥)
     → (s t : DeskState) (k l : SinkState) (status : ℕ) → Writes (form_writing f p) s t k l status → FollowsSettled f Says p s t status
 form_follows f Says one p apart s t k l status w files h new g o bytes b file readable none held =
     let x = (w.held files h).done o in

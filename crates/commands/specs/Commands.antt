@@ -5,7 +5,7 @@ use Rattle.pun_base.specs.Shown.{DeskState, SinkState, Rose}
 use Rattle.command_words.specs.Words.{Command, Usage, Patch, Check, Step, Gen, Load, Threads, ThreadsReported, ThreadsLoaded, Unpatch, Settle, Unsettle}
 use Rattle.patch_commands.specs.Answers.{IsUsage, Patches}
 use Rattle.patch_commands.specs.LoadAnswers.{with_stub, Loads}
-use Rattle.patch_commands.specs.ThreadsAnswers.{thread_patching, PatchesThreads, PatchesReported, LoadsThreads}
+use Rattle.patch_commands.specs.ThreadsAnswers.{thread_patching, for_threads, for_threads_with_stub, PatchesThreads, PatchesReported, LoadsThreads}
 use Rattle.command_io.specs.Verdict.{patching, plain}
 use Rattle.inspect_commands.specs.CheckAnswers.{Checks}
 use Rattle.inspect_commands.specs.StepAnswers.{Steps}
@@ -15,6 +15,7 @@ use Rattle.settle_commands.specs.SettleAnswers.{settle_writing}
 use Rattle.settle_commands.specs.UnsettleAnswers.{unsettle_writing}
 use Rattle.commands.specs.Reversal.{Unpatches}
 use Rattle.commands.specs.SettledFiles.{FollowsSettled, of_patch, of_load}
+use Rattle.commands.specs.SettledThreads.{FollowsSettledInThreads, of_threads, of_threads_loaded}
 
 -- Which command it is.
 abbrev pub IsPatch : Command → Type 0
@@ -55,7 +56,7 @@ pub record HasCause (command : Command) (s t : DeskState) (k l : SinkState) (sta
   pub unsound : status ≡ 7 → IsCheck command
   pub fewer : status ≡ 8 → IsStep command
 
--- What each command does; of `patch` and `load` also what OUT does where FILE was a settled one.
+-- What each command does; of `patch`, `load` and `threads` also what OUT does where FILE was a settled one.
 abbrev pub Does : Command → DeskState → DeskState → SinkState → SinkState → ℕ → Type 0
 Does Usage s t k l status = IsUsage s t k l status
 Does (Patch names action reserves) s t k l status =
@@ -66,8 +67,13 @@ Does (Gen seed blocks) s t k l status = Generates seed blocks s t k l status
 Does (Unpatch names) s t k l status = Unpatches names s t k l status
 Does (Load names action reserves) s t k l status =
     Loads (patching names action reserves) s t k l status × FollowsSettled with_stub of_load (patching names action reserves) s t status
-Does (Threads names reserves) s t k l status = PatchesThreads (thread_patching names reserves) s t k l status
-Does (ThreadsReported names action reserves) s t k l status = PatchesReported action (patching names action reserves) s t k l status
-Does (ThreadsLoaded names action reserves) s t k l status = LoadsThreads action (patching names action reserves) s t k l status
+Does (Threads names reserves) s t k l status =
+    PatchesThreads (thread_patching names reserves) s t k l status × FollowsSettledInThreads (thread_patching names reserves) s t status
+Does (ThreadsReported names action reserves) s t k l status =
+    PatchesReported action (patching names action reserves) s t k l status
+    × FollowsSettled (for_threads action) (of_threads action) (patching names action reserves) s t status
+Does (ThreadsLoaded names action reserves) s t k l status =
+    LoadsThreads action (patching names action reserves) s t k l status
+    × FollowsSettled (for_threads_with_stub action) (of_threads_loaded action) (patching names action reserves) s t status
 Does (Settle names base) s t k l status = Writes (settle_writing names base) s t k l status
 Does (Unsettle names) s t k l status = Writes (unsettle_writing names) s t k l status

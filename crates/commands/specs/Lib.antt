@@ -1,4 +1,5 @@
 pub mod Planned
 pub mod Reversal
 pub mod SettledFiles
+pub mod SettledThreads
 pub mod Commands

@@ -13,6 +13,7 @@ use Rattle.patch_commands.specs.ThreadsAnswers.{for_threads, for_threads_with_st
 use Rattle.commands.specs.Commands.{Does}
 use Rattle.commands.proofs.PatchRuns.{form_ended, patch_ended}
 use Rattle.commands.proofs.SettledRuns.{patch_follows, load_follows}
+use Rattle.commands.proofs.SettledThreads.{threads_follow, loaded_threads_follow, plain_threads_follow}
 use Rattle.commands.proofs.ThreadsRuns.{threads_ended}
 use Rattle.commands.proofs.GenRuns.{gen_ran}
 use Rattle.commands.proofs.InspectingRuns.{check_ran, step_ran}
@@ -102,9 +103,11 @@ returns-in-Ok-Threads-clause-does g c =
     let pairs = map ends c.deref-in-Ok-Threads.result.now in
     let q : Threads n (map ends c.in-Ok-Threads.reserves.items) ≡ command_of words = rw c.in-Ok-Threads.field-0-is at c.in-Ok-Threads.ensures in
     let r : Threads n pairs ≡ command_of words = ap (λ rs. Threads n (map ends rs)) c.deref-in-Ok-Threads.ensures.value ∙ q in
-    of_words words (Threads n pairs) _ _ _ _ _ r
-    (threads_ended (thread_patching n pairs) _ _ _ _ (seen_as told_of c.patch_threads.result) _
-    c.patch_threads.ensures.rest c.patch_threads.ensures.ends c.tell-in-Ok-Threads.ensures.printed)
+    let p = thread_patching n pairs in
+    let w =
+    threads_ended p _ _ _ _ (seen_as told_of c.patch_threads.result) _
+    c.patch_threads.ensures.rest c.patch_threads.ensures.ends c.tell-in-Ok-Threads.ensures.printed in
+    of_words words (Threads n pairs) _ _ _ _ _ r (w, plain_threads_follow p _ _ _ _ _ w.writes)
 
 pub patch-requires-in-Ok-ThreadsReported-clause-action : goal.patch-requires-in-Ok-ThreadsReported-clause-action
 patch-requires-in-Ok-ThreadsReported-clause-action g c =
@@ -128,9 +131,11 @@ returns-in-Ok-ThreadsReported-clause-does g c =
     let q : ThreadsReported n a (map ends c.in-Ok-ThreadsReported.reserves.items) ≡ command_of words =
     rw c.in-Ok-ThreadsReported.field-0-is at c.in-Ok-ThreadsReported.ensures in
     let r : ThreadsReported n a pairs ≡ command_of words = ap (λ rs. ThreadsReported n a (map ends rs)) c.deref-in-Ok-ThreadsReported.ensures.value ∙ q in
-    of_words words (ThreadsReported n a pairs) _ _ _ _ _ r
-    (form_ended (for_threads a) (patching n a pairs) (known_of words (ThreadsReported n a pairs) r).0 _ _ _ _ (seen_as told_of c.patch-in-Ok-ThreadsReported.result) _
-    c.patch-in-Ok-ThreadsReported.ensures.rest c.patch-in-Ok-ThreadsReported.ensures.ends c.tell-in-Ok-ThreadsReported.ensures.printed)
+    let p = patching n a pairs in let apart = (known_of words (ThreadsReported n a pairs) r).0 in
+    let w =
+    form_ended (for_threads a) p apart _ _ _ _ (seen_as told_of c.patch-in-Ok-ThreadsReported.result) _
+    c.patch-in-Ok-ThreadsReported.ensures.rest c.patch-in-Ok-ThreadsReported.ensures.ends c.tell-in-Ok-ThreadsReported.ensures.printed in
+    of_words words (ThreadsReported n a pairs) _ _ _ _ _ r (w, threads_follow a p apart _ _ _ _ _ w.writes)
 
 pub patch-requires-in-Ok-ThreadsLoaded-clause-action : goal.patch-requires-in-Ok-ThreadsLoaded-clause-action
 patch-requires-in-Ok-ThreadsLoaded-clause-action g c =
@@ -154,10 +159,11 @@ returns-in-Ok-ThreadsLoaded-clause-does g c =
     let q : ThreadsLoaded n a (map ends c.in-Ok-ThreadsLoaded.reserves.items) ≡ command_of words =
     rw c.in-Ok-ThreadsLoaded.field-0-is at c.in-Ok-ThreadsLoaded.ensures in
     let r : ThreadsLoaded n a pairs ≡ command_of words = ap (λ rs. ThreadsLoaded n a (map ends rs)) c.deref-in-Ok-ThreadsLoaded.ensures.value ∙ q in
-    of_words words (ThreadsLoaded n a pairs) _ _ _ _ _ r
-    (form_ended (for_threads_with_stub a) (patching n a pairs) (known_of words (ThreadsLoaded n a pairs) r).0 _ _ _ _
-    (seen_as told_of c.patch-in-Ok-ThreadsLoaded.result) _
-    c.patch-in-Ok-ThreadsLoaded.ensures.rest c.patch-in-Ok-ThreadsLoaded.ensures.ends c.tell-in-Ok-ThreadsLoaded.ensures.printed)
+    let p = patching n a pairs in let apart = (known_of words (ThreadsLoaded n a pairs) r).0 in
+    let w =
+    form_ended (for_threads_with_stub a) p apart _ _ _ _ (seen_as told_of c.patch-in-Ok-ThreadsLoaded.result) _
+    c.patch-in-Ok-ThreadsLoaded.ensures.rest c.patch-in-Ok-ThreadsLoaded.ensures.ends c.tell-in-Ok-ThreadsLoaded.ensures.printed in
+    of_words words (ThreadsLoaded n a pairs) _ _ _ _ _ r (w, loaded_threads_follow a p apart _ _ _ _ _ w.writes)
 
 pub returns-in-Ok-Unpatch-clause-does : goal.returns-in-Ok-Unpatch-clause-does
 returns-in-Ok-Unpatch-clause-does g c =

@@ -1,0 +1,3 @@
+pub mod Beside
+pub mod FileRuns
+pub mod Loaded

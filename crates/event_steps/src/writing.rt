@@ -58,8 +58,8 @@ fn bytes_over(step: EventStep, rest: &[EventStep]) -> u8
 }
 
 /// The place of the datum that a step names, if it names one.
-fn place_in(data: &[Datum], step: EventStep) -> Place
-    ensures { result ≡ lists.place_in data.now step }
+fn place_in(uses: &[Datum], step: EventStep) -> Place
+    ensures { result ≡ lists.place_in uses.now step }
 {
     let named = match step {
         EventStep::Cover(k)
@@ -73,14 +73,14 @@ fn place_in(data: &[Datum], step: EventStep) -> Place
         | EventStep::CompareAt(k, _) => k,
         _ => 0,
     };
-    datum_place(data, named)
+    datum_place(uses, named)
 }
 
 /// The place of the datum of a number, and 0 where there is none.
-fn datum_place(data: &[Datum], named: u8) -> Place
-    ensures { result ≡ (lists.datum data.now named).place }
+fn datum_place(uses: &[Datum], named: u8) -> Place
+    ensures { result ≡ (lists.datum uses.now named).place }
 {
-    match data.split_first() {
+    match uses.split_first() {
         None => Place::At(0),
         Some((first, _)) if named == 0 => first.place,
         Some((_, rest)) => datum_place(rest, named - 1),
@@ -193,18 +193,18 @@ fn put_step(code: &mut CodeWriter, step: EventStep, place: Place, over: u8)
 }
 
 /// Writes the code of steps over data.
-pub fn put_steps(code: &mut CodeWriter, data: &[Datum], steps: &[EventStep])
+pub fn put_steps(code: &mut CodeWriter, uses: &[Datum], steps: &[EventStep])
     requires room { length code.old + lists.long steps.now ≤ 128 }
     requires conditions { list_all lists.has_condition steps.now ≡ true }
-    ensures { code.new ≡ code.old ++ lists.code data.now steps.now }
+    ensures { code.new ≡ code.old ++ lists.code uses.now steps.now }
 {
     if let Some((first, rest)) = steps.split_first() {
         put_step(
             code,
             *first,
-            place_in(data, *first),
+            place_in(uses, *first),
             bytes_over(*first, rest),
         );
-        put_steps(code, data, rest);
+        put_steps(code, uses, rest);
     }
 }

@@ -166,7 +166,8 @@ def test_packed_relocations_change_nothing():
     assert call("count", "--blocks", "./packed", "--quiet", "--", "word", status=status)[0] == output
 
 
-@pytest.mark.parametrize("flags", [(), ("-Wl,-z,pack-relative-relocs",)], ids=["plain", "packed"])
+@pytest.mark.parametrize("flags", [(), ("-Wl,-z,pack-relative-relocs",), ("-Wl,--export-dynamic",)],
+                         ids=["plain", "packed", "exporting"])
 def test_blocks_to_which_only_relocations_lead_are_counted(flags):
     """Without its relocations a stripped program has straight lines there, which are one block."""
     run("gcc", *BARE, "-static-pie", *flags, "-o", "words", f"{SOURCES}/relocates.c", f"{SOURCES}/words.s")
@@ -205,6 +206,8 @@ KINDS: list[tuple[str, Callable[[], str], str]] = [
     ("lib.so", lambda: run("gcc", "-shared", "-fPIC", "-o", "lib.so", "some.c"), "is a shared library: name a program"),
     ("loader", lambda: loader("loader"), IS_LOADER),
     ("runs.so", lambda: run("gcc", *BARE, "-shared", "-Wl,-e,main", "-o", "runs.so", "some.c"), IS_LOADER),
+    ("named.so", lambda: run("gcc", *BARE, *"-shared -fvisibility=hidden -Wl,-soname,named -Wl,-e,main".split(), "-o",
+                             "named.so", "some.c"), IS_LOADER),
     ("moved", lambda: run("gcc", "-pie", "-o", "moved", "some.c"), IS_DYNAMIC),
     ("bound", lambda: run("gcc", "-no-pie", "-o", "bound", "some.c"), IS_DYNAMIC),
     ("some.o", lambda: run("gcc", "-c", "-o", "some.o", "some.c"), "is an object file: link it with gcc -static"),

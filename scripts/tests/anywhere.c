@@ -1,7 +1,6 @@
 /* A program that needs no C library. Its status is made of what it computes; with a word behind its name it then writes a byte and waits
    for a signal. */
 static int (*volatile held[2])(int);
-__asm__(".globl anywhere\n .type anywhere, @function\n .set anywhere, 0x1001"); /* nothing of the program's */
 
 static inline __attribute__((always_inline)) void ask(long number, long first, const char *second, long third) {
     __asm__ volatile("syscall" : "+a"(number) : "D"(first), "S"(second), "d"(third) : "rcx", "r11", "memory");

@@ -166,28 +166,31 @@ def test_packed_relocations_change_nothing():
     assert call("count", "--blocks", "./packed", "--quiet", "--", "word", status=status)[0] == output
 
 
-@pytest.mark.parametrize("flags", [(), ("-Wl,-z,pack-relative-relocs",)], ids=["plain", "packed"])
+@pytest.mark.parametrize("flags", [(), ("-Wl,-z,pack-relative-relocs",), ("-Wl,--export-dynamic",)],
+                         ids=["plain", "packed", "exporting"])
 def test_blocks_to_which_only_relocations_lead_are_counted(flags):
     """Without its relocations a stripped program has straight lines there, which are one block."""
     run("gcc", *BARE, "-static-pie", *flags, "-o", "words", f"{SOURCES}/relocates.c", f"{SOURCES}/words.s")
     at = {name: LOW + int(addr, 16) for addr, name in re.findall(r"^([0-9a-f]+) [TD] (\w+)$", run("nm", "words"), re.M)}
     run("strip", "words")
-    assert call("count", "--blocks", "./words", "--base", f"{LOW:x}", status=30)[0] == ""
+    assert call("count", "--blocks", "./words", "--base", f"{LOW:x}", status=31)[0] == ""
     counts = {row.first: row.count for row in Record("words.vak/last.record").rows}
     lines = [at[f"line_{number}"] for number in range(8)]
     assert [counts[line] for line in lines] == [1, 1, 2, 3, 4, 5, 6, 7]
-    assert counts[at["choice"]] == 1 and [counts[at[name] - 6] for name in ("line_0", "line_1", "choice")] == [0, 0, 0]
+    assert [counts[at[name]] for name in ("choice", "other")] == [1, 1]
+    assert [counts[at[name] - 6] for name in ("line_0", "line_1", "choice", "other")] == [0, 0, 0, 0]
     program = Program(f"words.vak/settled-{LOW:x}/words")
     assert struct.unpack("<65Q", program.read(at["first"], 65 * 8)) == (lines[0], *[at["words"]] * 64)
     assert struct.unpack("<14Q", program.read(at["words"], 14 * 8)) == tuple(
         word for number in range(1, 8) for word in (number, lines[number]))
 
 
-def test_only_relocations_of_addresses_of_its_own_are_applied(throws):
+def test_only_relocations_of_addresses_of_its_own_are_applied():
     """Not those of functions that choose for the processor."""
-    told = re.findall(r"^([0-9a-f]+) +[0-9a-f]+ R_X86_64_(\w+) +([0-9a-f]+)$", run("readelf", "-rW", "throws"), re.M)
-    assert {"RELATIVE", "IRELATIVE"} <= {kind for _, kind, _ in told}
-    assert relocated(read_bytes("throws"), LOW) == {
+    run("gcc", *BARE, "-static-pie", "-o", "words", f"{SOURCES}/relocates.c", f"{SOURCES}/words.s")
+    told = re.findall(r"^([0-9a-f]+) +[0-9a-f]+ R_X86_64_(\w+) +([0-9a-f]+)$", run("readelf", "-rW", "words"), re.M)
+    assert {kind for _, kind, _ in told} == {"RELATIVE", "IRELATIVE"}
+    assert relocated(read_bytes("words"), LOW) == {
         LOW + int(addr, 16): LOW + int(addend, 16) for addr, kind, addend in told if kind == "RELATIVE"}
 
 
@@ -205,6 +208,8 @@ KINDS: list[tuple[str, Callable[[], str], str]] = [
     ("lib.so", lambda: run("gcc", "-shared", "-fPIC", "-o", "lib.so", "some.c"), "is a shared library: name a program"),
     ("loader", lambda: loader("loader"), IS_LOADER),
     ("runs.so", lambda: run("gcc", *BARE, "-shared", "-Wl,-e,main", "-o", "runs.so", "some.c"), IS_LOADER),
+    ("named.so", lambda: run("gcc", *BARE, *"-shared -fvisibility=hidden -Wl,-soname,named -Wl,-e,main".split(), "-o",
+                             "named.so", "some.c"), IS_LOADER),
     ("moved", lambda: run("gcc", "-pie", "-o", "moved", "some.c"), IS_DYNAMIC),
     ("bound", lambda: run("gcc", "-no-pie", "-o", "bound", "some.c"), IS_DYNAMIC),
     ("some.o", lambda: run("gcc", "-c", "-o", "some.o", "some.c"), "is an object file: link it with gcc -static"),

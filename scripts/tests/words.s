@@ -14,6 +14,8 @@ run:
     jnz .Lnext
     call *first(%rip)
     call chosen
+    mov taken@GOTPCREL(%rip), %rax
+    call *%rax
     mov executed(%rip), %eax
     pop %rbx
     ret
@@ -36,12 +38,20 @@ unchosen:                           # nor here
 choice:
     lea plain(%rip), %rax
     ret
+    incl executed(%rip)             # nor here
+.globl other
+other:
+    lea plain(%rip), %rax
+    ret
 plain:
     incl executed(%rip)
     ret
 .globl chosen
 .type chosen, @gnu_indirect_function
 .set chosen, choice
+.globl taken
+.type taken, @gnu_indirect_function
+.set taken, other
 .data
 .balign 8
 .globl first, words

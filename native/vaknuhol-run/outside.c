@@ -206,6 +206,16 @@ static void put_outside(const struct space *space, pid_t tid, struct user_regs_s
     }
 }
 
+/* Of a page of the patch's code that can't be executed: the program has mapped other memory there, or has taken it away. */
+static void tell_lost_code(const struct task *it, const siginfo_t *info, unsigned long long stood) {
+    static bool is_told;
+    if (info->si_signo != SIGSEGV || info->si_code <= 0 || (unsigned long long)info->si_addr != stood || !tramp_at(stood) || is_told)
+        return;
+    is_told = true;
+    warnx("warning: process %d has put other memory in the place of its patch, and can't go on at %llx: vaknuhol fit PROGRAM -- ARGUMENTS shows where",
+          it->group, stood);
+}
+
 int before_delivery(const struct task *it, int number) {
     struct user_regs_struct regs;
     siginfo_t info = {0};
@@ -220,6 +230,7 @@ int before_delivery(const struct task *it, int number) {
         return number;
     bool is_read = read_range(it->space, it->tid);
     ptrace(PTRACE_GETSIGINFO, it->tid, 0, &info);
+    tell_lost_code(it, &info, stood);
     bool is_last = is_read && is_crash(it->tid, number), is_own = is_last && is_of_thread(it->tid, &info);
     put_outside(it->space, it->tid, &regs, &info, is_own || (is_fault(&info) && !is_seen(it->tid, number)), is_read);
     if (is_last)

@@ -1,6 +1,7 @@
 """What `vaknuhol fit` sees of a program, and that what it promises of it holds."""
 import os
 import re
+import signal
 import struct
 
 import pytest
@@ -34,6 +35,14 @@ def test_memory_that_is_mapped_where_a_patch_may_lie_is_an_obstacle(programs):
     assert re.findall("(?m)^obstacle: (.*) itself", told) == ["it maps memory at 00020000-00030000"]
     patch("maps_itself", "--symbols", "main", "--count", "--reserve", "00020000-00030000")
     assert record("maps_itself", "count") == "14\n"
+
+
+@pytest.mark.parametrize("words", [("count",), ("count", "--threads"), ("cover",)])
+def test_a_run_that_loses_the_code_of_its_patch_is_told(programs, words):
+    """Its next block is there no more, and the fault is none of the original's."""
+    programs.bring("maps_itself", "maps_itself.c", "-g")
+    printed, told = call(*words, "maps_itself", "--own", status=128 + signal.SIGSEGV)
+    assert not printed and told.count("has put other memory in the place of its patch") == 1, told
 
 
 def test_a_program_that_steps_itself_has_an_obstacle(programs):

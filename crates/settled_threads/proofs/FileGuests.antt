@@ -16,7 +16,8 @@ use Rattle.event_steps.specs.ThreadSteps.{ThreadStep}
 use Rattle.event_steps.proofs.ThreadSteps.{one_thread_next}
 use Rattle.thread_runs.specs.Guest.{Thread, Guest, machine_of, thread_of, Moves}
 use Rattle.thread_laws.specs.Beginning.{BirthItem, IsGrowing}
-use Rattle.settle.specs.Settled.{front_len, used_len, settled, front_image, image_at}
+use Rattle.settle.specs.Lengths.{front_len, used_len}
+use Rattle.settle.specs.Settled.{settled, front_image, image_at}
 use Rattle.settle.specs.Laws.{IsSettleable}
 use Rattle.settle.proofs.MovedImages.{settled_loads}
 use Rattle.settled_runs.specs.Vector.{OwnTable, with_pair, told, pairs_at}

@@ -21,7 +21,8 @@ from collections.abc import Iterator
 from typing import NamedTuple
 
 TOP = os.path.dirname(os.path.dirname(os.path.realpath(__file__)))
-TUNED = {"GLIBC_TUNABLES": "glibc.cpu.hwcaps=-AVX512F,-AVX512VL,-AVX512BW,-AVX512CD,-AVX512DQ",
+# With a comma at its end: glibc 2.36 reads on past a last name, into what follows in the environment, where Valgrind has variables of its own.
+TUNED = {"GLIBC_TUNABLES": "glibc.cpu.hwcaps=-AVX512F,-AVX512VL,-AVX512BW,-AVX512CD,-AVX512DQ,",
          "GODEBUG": "asyncpreemptoff=1"}
 NAMED = re.compile(r"c?fn=\((\d+)\)(?: (.+))?")
 AGAIN = re.compile(r"'\d+$")  # what callgrind adds to the name of a function that was called again meanwhile

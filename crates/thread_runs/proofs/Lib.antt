@@ -25,6 +25,8 @@ pub mod OutsideSteps
 pub mod ThreadEventSteps
 pub mod ThreadRingSteps
 pub mod ThreadListCode
+pub mod SiteEventSteps
+pub mod SiteEventsGoOn
 pub mod RestoredRegisters
 pub mod MarkedEvents
 pub mod RestoredRings

@@ -6,6 +6,7 @@ pub mod Work
 pub mod Guest
 pub mod Threading
 pub mod ThreadLists
+pub mod SiteEvents
 pub mod Watching
 pub mod Premises
 pub mod Alone

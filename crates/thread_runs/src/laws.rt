@@ -2,6 +2,7 @@
 ghost use Rattle.thread_runs.specs.Event.{IsEventStep, EventGoes, IsSavedBack, IsCoverStep, CoverGoes};
 ghost use Rattle.thread_runs.specs.RingEvent.{IsRingStep, RingGoes, AreSavedBack};
 ghost use Rattle.thread_runs.specs.ThreadLists.{AreThreadLists, ThreadEventsRestore, MarksWhereMet, ThreadRingsRestore};
+ghost use Rattle.thread_runs.specs.SiteEvents.{SiteEventsAreLists, SiteStepTold, SiteStepGoes};
 ghost use Rattle.thread_runs.specs.Alone.{EventCountsAlone};
 ghost use Rattle.thread_runs.specs.AloneWithRing.{EventKeepsAlone};
 ghost use Rattle.thread_runs.specs.WorkedConditions.{ConditionsAreWorked};
@@ -45,6 +46,14 @@ pub fn events_as_lists()
     ensures restore { ThreadEventsRestore }
     ensures mark { MarksWhereMet }
     ensures ring { ThreadRingsRestore }
+{}
+
+/// The event of a site, whatever its kind, is its list of steps. Where a thread stands in front of some of them, whatever its registers and memory
+/// are, each step that it makes is that of the list, and there is this step where its operands are held.
+pub fn site_steps()
+    ensures lists { SiteEventsAreLists }
+    ensures told { SiteStepTold }
+    ensures goes { SiteStepGoes }
 {}
 
 /// The event that counts under no condition, of a thread that runs alone, adds one to its counter, and leaves all else as it was.

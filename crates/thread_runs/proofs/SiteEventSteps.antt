@@ -31,7 +31,7 @@ checks_long : (cs : List Comparison) (back : List EventStep) → long (checks cs
 checks_long [] back = omega arith
 checks_long (c ∷ cs) back = let q = checks_long cs back in let s = compare_size c.reg c.value in omega (arith, q, s)
 
-saving_long : (b : Base) (cs : List Comparison) (p i : ℕ) → long (saving_thread_event b cs p i).steps ≡ 12 + checking_len cs + marking_len b + 11
+pub saving_long : (b : Base) (cs : List Comparison) (p i : ℕ) → long (saving_thread_event b cs p i).steps ≡ 12 + checking_len cs + marking_len b + 11
 saving_long b cs p i = let q = checks_long cs (marking_step b true 1 ∷ FromAl ∷ FromAh ∷ Load 0 ∷ []) in let s = mark_size b in omega (arith, q, s)
 
 -- each event is its list
@@ -134,7 +134,7 @@ last_ones ds (suc j) (s ∷ ss) at m a low c =
     record { steps = q.steps; place = q.place; here = omega (arith, q.here); stands = q.stands }
 
 -- a thread in front of steps stands at their code
-at_last : (o : Option Kind) (cs : List Comparison) (p i at : ℕ) (rest : List EventStep) (v : Machine) → IsPlaced o cs p i at → StandsAt o cs p i at rest v
+pub at_last : (o : Option Kind) (cs : List Comparison) (p i at : ℕ) (rest : List EventStep) (v : Machine) → IsPlaced o cs p i at → StandsAt o cs p i at rest v
     → AreSteps Shared (event_list o cs p i).uses rest × (v.rip + long rest < 2 ^ 31) × IsFixed v.mem v.rip (code (event_list o cs p i).uses rest)
 at_last o cs p i at rest v h k =
     let ds = (event_list o cs p i).uses in

@@ -34,6 +34,9 @@ pub mod LoneEvents
 pub mod DisplacedSteps
 pub mod WatchedSteps
 pub mod GivenGuests
+pub mod GoingOut
+pub mod EffectWayOut
+pub mod EventWayOut
 pub mod WayOut
 pub mod PlainGuests
 pub mod ThreadsTheorem

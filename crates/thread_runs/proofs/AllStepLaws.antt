@@ -4,7 +4,7 @@ use Rattle.thread_runs.proofs.AlikeThreadSteps.{alike_thread}
 use Rattle.thread_runs.proofs.RingEventInstructions.{ring_step, ring_goes, saved_both, holds_slots, ring_held}
 use Rattle.thread_runs.specs.StepLaws.{StepLaws}
 use Rattle.thread_runs.proofs.ThreadEventInstructions.{event_step, event_goes, saved_back}
-use Rattle.thread_runs.proofs.CoverStep.{cover_step, cover_goes}
+use Rattle.thread_runs.proofs.SiteEventsGoOn.{site_comes_in, site_goes_on, site_can_go_on}
 use Rattle.thread_runs.proofs.EffectSteps.{effect_step}
 use Rattle.thread_runs.proofs.RelocatedTouches.{holds_slot, saves_held, worked_core, leads_told, not_locked_is, work_touches}
 use Rattle.thread_runs.proofs.WorkTails.{work_long, tail_touches, tail_inside, tail_step}
@@ -15,8 +15,9 @@ step_laws = record {
   alike = alike_thread;
   events = event_step;
   goes = event_goes;
-  cover = cover_step;
-  covers = cover_goes;
+  comes = site_comes_in;
+  goes_on = site_goes_on;
+  can_go_on = site_can_go_on;
   saved = saved_back;
   rings = ring_step;
   ring_goes = ring_goes;

@@ -1,5 +1,5 @@
 -- From each point of an event a thread goes out.
-use Rattle.std.proofs.Common.{◌≡◌, ◌≢◌, inr, ℕ, suc, ◌+◌, ◌*◌, ◌<◌, ◌≤◌, Bool, true, false, ◌&&◌, cond, List, [], ◌∷◌, ◌++◌, length, Some, None, refl, sym, ap, ap₂, ◌∙◌, subst, arith, length-append}
+use Rattle.std.proofs.Common.{◌≡◌, inr, ℕ, suc, ◌+◌, ◌*◌, ◌<◌, ◌≤◌, Bool, true, false, ◌&&◌, cond, List, [], ◌∷◌, ◌++◌, length, Some, None, refl, sym, ap, ap₂, ◌∙◌, subst, arith, length-append}
 use Rattle.std.specs.Option.{is_some}
 use Rattle.std.proofs.lemmas.Bool.{true≢false, false≢true}
 use Rattle.pun_base.specs.declared.action.Base.{Base}
@@ -10,14 +10,14 @@ use Rattle.cpu_state.specs.Fixed.{IsFixed}
 use Rattle.insn_form.specs.Operands.{reg}
 use Rattle.insn_form.specs.Machine.{Machine}
 use Rattle.event_steps.specs.ThreadSteps.{ThreadStepsBy}
-use Rattle.event_steps.proofs.ThreadSteps.{made, lacking_on}
+use Rattle.event_steps.proofs.ThreadSteps.{lacking_on}
 use Rattle.start_entries.specs.Standing.{AreEntries}
 use Rattle.thread_runs.specs.Guest.{Thread, machine_of, thread_of}
 use Rattle.cond_action.specs.Conditions.{compares}
-use Rattle.thread_runs.specs.ThreadCode.{Marks, Keeps, ring_len, is_saving, thread_event, event_len, slot, flag_slot, saved_from, saved_len}
+use Rattle.thread_runs.specs.ThreadCode.{Marks, Keeps, ring_len, is_saving, event_len, slot, flag_slot, saved_from, saved_len}
 use Rattle.thread_runs.specs.RingEvent.{RingPoint, ring_offset, ring_next, is_ringing, RingHolds, RingSaved, InRing, CanKeep}
 use Rattle.thread_runs.specs.RingEvent.RingPoint.{Ring0, Ring1, Ring2, Ring3, Ring4, Ring5, Ring6, Ring7, Ring8, Ring9, Ring10, Ring11, Ring12}
-use Rattle.thread_runs.specs.Event.{Point, offset, checked, following, is_inside, Holds, IsDecided, HasSaved, InEvent, CanMark, AtStore, covered}
+use Rattle.thread_runs.specs.Event.{Point, offset, checked, following, is_inside, Holds, IsDecided, HasSaved, InEvent, CanMark}
 use Rattle.thread_runs.specs.Event.Point.{At0, At1, At2, AtCompare, AtJump, At3, At4, At5, At6, At7}
 use Rattle.thread_runs.specs.Threading.Part.{Save}
 use Rattle.thread_runs.specs.Threading.{Threading, work_at, is_new, part_to, saves, is_saved_by, IsThreadSound}
@@ -27,7 +27,8 @@ use Rattle.thread_runs.specs.StepLaws.{StepLaws}
 use Rattle.thread_runs.proofs.ThreadPlaces.{saving_code_is, offset_first, inside_low, counted_len, point_counted, part_high, event_saves, longer, event_code, event_inside}
 use Rattle.thread_runs.proofs.KeptRelation.{ring_inside}
 use Rattle.thread_runs.proofs.StandingCode.{event_stands, ring_stands}
-use Rattle.thread_runs.proofs.ThreadEventSteps.{stale_stays, good_at, made_event, made_cover}
+use Rattle.thread_runs.proofs.ThreadEventSteps.{stale_stays, good_at, made_event}
+use Rattle.thread_runs.proofs.StoreSteps.{can_store, store_rip, store_core, store_world, made_cover}
 use Rattle.thread_runs.proofs.ThreadRingSteps.{good_at as ring_good, made_ring}
 use Rattle.thread_runs.specs.Relation.{point_at, has_rax}
 use Rattle.thread_runs.proofs.GoingOut.{one_more, wider, after_thread, calm_watches, calm_in}
@@ -179,34 +180,25 @@ module _ (r : Threading) (A : AreEntries r.original r.listed) (S : IsThreadSound
   pub cover_out : W.site.event ≡ Some (Marks Cover) → W.site.when ≡ [] → (w : Watch) (one : Watched) → At W k At0 w one → IsOut W k w 4
   cover_out covers alone w one P =
       let u : Machine = machine_of w.mem one.now in
-      let K = S.sites W.site W.listed in
       let B = P.before in
-      let more = longer r A S L.long W.site W.listed in
-      let low = S.low W.site W.listed Cover covers in
       let len : event_len W.site.event W.site.when ≡ 8 = ap₂ event_len covers alone in
       let none : part_to Save W.site.event W.site.when ≡ 0 = ap₂ (part_to Save) covers alone in
       let here : one.now.rip ≡ W.site.place = omega (arith, P.here, offset_first W.site.event W.site.when) in
-      let E : AtStore r.private W.site.number W.site.place u = record {
-        rip = here;
-        stands = subst (λ (z : List Comparison). IsFixed w.mem W.site.place (thread_event Cover z r.private W.site.number)) alone (event_stands r A S W.site W.listed Cover covers w.mem B.base.other);
-        low = omega (arith, K.low, more, len);
-        room = low;
-      } in
-      let G = L.covers r.private W.site.number W.site.place u E (B.base.room W.site W.listed Cover covers).written in
-      let to : Machine = covered r.private W.site.number W.site.place u in
-      let f = G.0 in
-      let st : ThreadStepsBy f u to = G.1 in
+      let G = can_store r A S L W.own w one B.base W.site W.listed covers alone here P.core in
+      let to = G.0 in
+      let f = G.1.0 in
+      let st : ThreadStepsBy f u to = G.1.1 in
       let from : W.site.place ≤ one.now.rip = omega (arith, here) in
       let below : one.now.rip < work_at W.site = omega (arith, here, len) in
-      let made = made_cover r A S L W.own w one f to st B.base W.site W.listed covers alone here B.at P.core B.world in
+      let made = made_cover r A S L W.own w one B.base W.site W.listed covers alone f to st here P.core B.at B.world in
       let q = calm_in r A S L k W.site W.listed one w.mem to (event_code r A S L.long W.site W.listed one.now.rip from below) (λ e. omega (arith, e, below)) in
       let free = event_saves r A S L.long W.site W.listed one.now.rip from below ∙ part_high Save one.now.rip W.site (omega (arith, here, none)) in
       one_more r k w (watched_after r k w one f to) (log_out W k) (thread_of W.to) W.to.mem 3
       (calm_watches r A S L k W.own w one f to B.there st B.base q (λ i. absurd (true≢false (sym (event_inside r A S L.long W.site W.listed one.now.rip from below) ∙ i))) (λ i. absurd (true≢false (sym i ∙ free))))
       (behind_out (watched_after r k w one f to) (after_thread r w one to) (record {
-        before = still_before r A S L k W w one B f to st made q (λ x a b. stale_stays r A S L W.own w one f to st B.base W.site W.listed from below (omega (arith, here, none)) x ∙ a) refl;
-        here = ap (λ z. W.site.place + z) (sym len);
-        core = P.core ∙ ap (λ (t : Thread). t.core) (sym q.1);
+        before = still_before r A S L k W w one B f to st made q (λ x a b. stale_stays r A S L W.own w one f to st B.base W.site W.listed from below (omega (arith, here, none)) x ∙ a) (store_world r A S L W.own w one B.base W.site W.listed covers alone f to st here P.core);
+        here = store_rip r A S L W.own w one B.base W.site W.listed covers alone f to st here P.core ∙ ap (λ z. W.site.place + z) (sym len);
+        core = store_core r A S L W.own w one B.base W.site W.listed covers alone f to st here P.core ∙ P.core ∙ ap (λ (t : Thread). t.core) (sym q.1);
         decided = tt;
         saved = tt;
       }))

@@ -4,7 +4,6 @@ pub mod AlikeThreadSteps
 pub mod ComparisonCode
 pub mod EventCode
 pub mod ThreadEventInstructions
-pub mod CoverStep
 pub mod RingCode
 pub mod RingEventInstructions
 pub mod LockInc
@@ -23,6 +22,7 @@ pub mod KeptRelation
 pub mod StandingCode
 pub mod OutsideSteps
 pub mod ThreadEventSteps
+pub mod StoreSteps
 pub mod ThreadRingSteps
 pub mod ThreadListCode
 pub mod SiteEventSteps

@@ -27,7 +27,6 @@ use Rattle.thread_runs.specs.ThreadCode.{ring_event, ring_len, reducing}
 use Rattle.thread_runs.specs.Event.Point.{At0, At1, At2, At4, At5, At6}
 use Rattle.thread_runs.specs.RingEvent.{RingPoint, ring_offset, ring_next, is_ringing}
 use Rattle.thread_runs.specs.RingEvent.RingPoint.{Ring0, Ring1, Ring2, Ring3, Ring4, Ring5, Ring6, Ring7, Ring8, Ring9, Ring10, Ring11, Ring12}
-use Rattle.event_steps.proofs.Acting.{base}
 use Rattle.event_steps.proofs.ClaimSteps.{exchanging, sum_by}
 use Rattle.event_steps.proofs.KnownCodeSteps.{IsKnown, known_fixed}
 use Rattle.thread_runs.proofs.ComparisonCode.{below_red_zone}

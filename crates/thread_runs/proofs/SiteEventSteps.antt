@@ -1,6 +1,5 @@
 -- What holds of the list of a site's event, whatever its kind.
-use Rattle.std.proofs.Common.{◌≡◌, inl, inr, ℕ, zero, suc, ◌+◌, ◌*◌, ◌^◌, ◌<◌, ◌≤◌, Bool, true, false, not, eqb, ◌&&◌, List, [], ◌∷◌, ◌++◌, length, drop, take, Option, Some, None, refl, sym, ap, ◌∙◌, subst, arith}
-use Rattle.std.specs.Prelude.{nat_le}
+use Rattle.std.proofs.Common.{◌≡◌, ℕ, zero, suc, ◌+◌, ◌^◌, ◌<◌, ◌≤◌, Bool, true, eqb, List, [], ◌∷◌, ◌++◌, length, drop, Option, Some, None, refl, sym, subst, arith}
 use Rattle.pun_base.specs.Memory.{Bytes}
 use Rattle.pun_base.specs.Actions.{AreComparisons}
 use Rattle.pun_base.specs.declared.action.Base.{Base}
@@ -11,18 +10,18 @@ use Rattle.pun_base.specs.declared.action.Comparison.{Comparison}
 use Rattle.cpu_state.specs.Fixed.{IsFixed}
 use Rattle.insn_form.specs.Machine.{Machine}
 use Rattle.cond_action.specs.Codes.{failing}
-use Rattle.trampoline.specs.EventLists.{mark_at, mark_len, marking_step, cover_event}
+use Rattle.trampoline.specs.EventLists.{marking_step}
 use Rattle.event_steps.specs.declared.step.Datum.{Datum}
 use Rattle.event_steps.specs.declared.step.EventStep.{EventStep}
-use Rattle.event_steps.specs.declared.step.EventStep.TheVariants.{FromAl, FromAh, Load, SkipIf}
+use Rattle.event_steps.specs.declared.step.EventStep.TheVariants.{FromAl, FromAh, Load}
 use Rattle.event_steps.specs.EventSteps.Mode.{Shared}
 use Rattle.event_steps.specs.EventSteps.{size, long, place_in, over, IsStep, HasDatum, AreSteps, code}
 use Rattle.event_steps.specs.DoneSteps.{AreLow}
 use Rattle.event_steps.proofs.ListedCode.{step_told, step_goes, rest_stands}
-use Rattle.thread_runs.specs.ThreadCode.{Kind, Marks, Keeps, marking_len, checking_len, event_len, event_if}
+use Rattle.thread_runs.specs.ThreadCode.{Kind, Marks, Keeps, marking_len, checking_len}
 use Rattle.thread_runs.specs.ThreadLists.{comparing_step, checks, saving_thread_event, thread_ring_list}
 use Rattle.thread_runs.specs.Event.{AreFew}
-use Rattle.thread_runs.specs.SiteEvents.{event_list, IsRoomy, IsPlaced, HasEventCode, SiteEventsAreLists, StandsAt, SiteStepTold, SiteStepGoes}
+use Rattle.thread_runs.specs.SiteEvents.{event_list, IsPlaced, SiteEventsAreLists, StandsAt, SiteStepTold, SiteStepGoes}
 use Rattle.thread_runs.proofs.ComparisonCode.{checking_few}
 use Rattle.thread_runs.proofs.ThreadListCode.{compare_size, mark_size, checks_over, are_thread_lists}
 

@@ -1,5 +1,5 @@
 -- Threads in the event of a site, while others step: they go on by its steps, restore, and mark where the condition holds.
-use Rattle.std.proofs.Common.{◌≡◌, inl, inr, ℕ, zero, suc, ◌+◌, ◌^◌, ◌<◌, ◌≤◌, Bool, true, false, ◌&&◌, List, [], ◌∷◌, ◌++◌, length, length-append, take, drop, Option, Some, None, refl, sym, ap, ap₂, ◌∙◌, subst, arith}
+use Rattle.std.proofs.Common.{◌≡◌, inl, inr, ℕ, zero, suc, ◌+◌, ◌<◌, ◌≤◌, Bool, true, false, ◌&&◌, List, [], ◌∷◌, ◌++◌, length, length-append, take, drop, Option, Some, None, refl, sym, ap, ◌∙◌, subst, arith}
 use Rattle.std.specs.Prelude.{nat_le}
 use Rattle.std.proofs.lemmas.Bool.{cases_lt}
 use Rattle.std.proofs.lemmas.Bool.Decides.{nat_tests}
@@ -20,15 +20,15 @@ use Rattle.event_steps.specs.declared.step.EventStep.TheVariants.{CountUp, Put, 
 use Rattle.event_steps.specs.EventSteps.{size, long, code}
 use Rattle.event_steps.specs.EventSteps.Mode.{Shared}
 use Rattle.event_steps.specs.MadeSteps.{after, skipped}
-use Rattle.event_steps.specs.DoneSteps.{Local, started, done, AreApart, AreFree, FitsIn, StandsBy}
+use Rattle.event_steps.specs.DoneSteps.{Local, started, done, AreApart, FitsIn, StandsBy}
 use Rattle.event_steps.specs.Interleaved.{Reaches, IsIn, IsWell}
 use Rattle.event_steps.proofs.InterleavedSteps.{all_kept, reaches_more, comes_in, can_go_on}
 use Rattle.event_steps.proofs.ListedCode.{step_told, step_leads, same_code}
 use Rattle.event_steps.proofs.LocalSteps.{step_done}
 use Rattle.relocate_insn.proofs.FixedCode.{fixed_on}
-use Rattle.thread_runs.specs.ThreadCode.{Kind, Marks, Keeps, marking_len, checking_len, event_len}
-use Rattle.thread_runs.specs.ThreadLists.{checks, comparing_step, saving_thread_event, thread_ring_list}
-use Rattle.thread_runs.specs.SiteEvents.{event_list, IsPlaced, IsInSite, StandsAt, SiteComesIn, WentOn, SiteGoesOn, SiteCanGoOn, SiteRestores, SiteMarks}
+use Rattle.thread_runs.specs.ThreadCode.{Kind, Marks, Keeps, marking_len, checking_len}
+use Rattle.thread_runs.specs.ThreadLists.{checks, comparing_step, saving_thread_event}
+use Rattle.thread_runs.specs.SiteEvents.{event_list, IsPlaced, IsInSite, StandsAt, SiteComesIn, SiteGoesOn, SiteCanGoOn, SiteRestores, SiteMarks}
 use Rattle.thread_runs.proofs.RestoredRegisters.{all_restore}
 use Rattle.thread_runs.proofs.RestoredRings.{rings_restore}
 use Rattle.thread_runs.proofs.MarkedEvents.{marks_where_met}

@@ -1,5 +1,5 @@
 -- Steps of a thread in an event: each keeps the relation to the original's guest.
-use Rattle.std.proofs.Common.{◌≡◌, ◌≢◌, ◌⊎◌, inl, inr, ℕ, zero, suc, ◌+◌, ◌%◌, ◌^◌, ◌<◌, ◌≤◌, Bool, true, false, not, ◌&&◌, ◌||◌, cond, eqb, List, [], ◌∷◌, ◌++◌, length, Option, Some, None, refl, sym, ap, ap₂, ◌∙◌, subst, arith}
+use Rattle.std.proofs.Common.{◌≡◌, ◌≢◌, ◌⊎◌, inl, inr, ℕ, zero, suc, ◌+◌, ◌%◌, ◌^◌, ◌<◌, ◌≤◌, Bool, true, false, not, ◌&&◌, ◌||◌, cond, eqb, List, [], ◌∷◌, ◌++◌, length, Option, Some, None, refl, sym, ap, ◌∙◌, subst, arith}
 use Rattle.std.specs.Prelude.{Contains}
 use Rattle.std.specs.Option.{is_some}
 use Rattle.std.proofs.lemmas.Bool.{and_parts, and_from, and_left, or_parts, cond-true, cond-false, cases_eq, cases_lt, eqb-true, ne_eqb, true≢false, false≢true, not-true, false_from_ne_true}
@@ -23,9 +23,9 @@ use Rattle.patch_report.proofs.ListPlaces.{some_is}
 use Rattle.start_entries.specs.Standing.{AreEntries}
 use Rattle.image_runs.specs.Listed.{is_listed_byte}
 use Rattle.thread_runs.specs.Guest.{Thread, machine_of, thread_of}
-use Rattle.thread_runs.specs.ThreadCode.{Kind, Marks, saved_from, saved_len, marking_len, compare_len, checking_len, is_saving, saving_len, thread_event, event_len, slot}
+use Rattle.thread_runs.specs.ThreadCode.{Kind, Marks, saved_from, saved_len, marking_len, compare_len, checking_len, is_saving, saving_len, event_len, slot}
 use Rattle.trampoline.specs.EventLists.{mark_at, mark_len}
-use Rattle.thread_runs.specs.Event.{Point, offset, checked, following, is_inside, has_point, Holds, IsDecided, HasSaved, InEvent, marks_with, EventNext, AtStore, covered}
+use Rattle.thread_runs.specs.Event.{Point, offset, checked, following, is_inside, has_point, Holds, IsDecided, HasSaved, InEvent, marks_with, EventNext}
 use Rattle.thread_runs.specs.Event.Point.{At0, At1, At2, AtCompare, AtJump, At3, At4, At5, At6, At7}
 use Rattle.thread_runs.specs.Threading.Part.{Save, Marked}
 use Rattle.thread_runs.specs.Threading.{ThreadSite, Threading, work_at, is_new, is_hidden, part_from, part_to, is_part, in_event, saves, is_met_by, is_counted, is_saved_by, IsThreadSound}
@@ -106,7 +106,7 @@ module _ (r : Threading) (A : AreEntries r.original r.listed) (S : IsThreadSound
     stale_stays a b n x = cond-false (saves r x0) _ _ (event_saves r A S L.long site listed x0 a b ∙ part_high Save x0 site n) ∙ cond-true (in_event r x0) _ _ (event_inside r A S L.long site listed x0 a b)
 
     -- a step to a good point of an event that marks keeps the relation
-    good : r.ring ≡ None → (p : Point) → site.place ≤ x0 → x0 < work_at site → (is_inside p ≡ true → has_point site.event site.when p ≡ true) → to.rip ≡ point_at site p → Holds site.when p c to.core → IsDecided site.when p c → to.world ≡ one.projected.world
+    pub good : r.ring ≡ None → (p : Point) → site.place ≤ x0 → x0 < work_at site → (is_inside p ≡ true → has_point site.event site.when p ≡ true) → to.rip ≡ point_at site p → Holds site.when p c to.core → IsDecided site.when p c → to.world ≡ one.projected.world
         → one.projected.rip ≡ site.entry.addr → Good p → Made r S (stale_next r w one f) M M one w.mem to
     good unringed p a b has rip core decided world at G =
         let code = event_code r A S L.long site listed x0 a b in
@@ -442,48 +442,3 @@ module _ (r : Threading) (A : AreEntries r.original r.listed) (S : IsThreadSound
           let N = L.events b cs r.private site.number site.place p c u to i E (f, steps) in
           good unringed (following cs c p) (omega (arith, e)) (omega (arith, e, l, len)) (all_points (following cs c p)) (N.rip ∙ sym (point_counted site b (following cs c p) has saving)) N.core N.decided (N.world ∙ world) at
           (good_at p i E old N)
-
-    -- ---- an event that covers by one store
-
-    module _ (covers : site.event ≡ Some (Marks Cover)) (alone : site.when ≡ []) where
-      -- the event is the store alone
-      store_len : event_len site.event site.when ≡ 8
-      store_len = ap₂ event_len covers alone
-
-      -- the thread stands at the store
-      pub at_store : x0 ≡ site.place → AtStore r.private site.number site.place u
-      at_store e =
-          let K = S.sites site listed in
-          let more = longer r A S L.long site listed in
-          let low = S.low site listed Cover covers in
-          record {
-            rip = e;
-            stands = subst (λ (z : List Comparison). IsFixed w.mem site.place (thread_event Cover z r.private site.number)) alone (event_stands r A S site listed Cover covers w.mem R.other);
-            low = omega (arith, K.low, more, store_len);
-            room = low;
-          }
-
-      -- the store leaves what is due
-      pub made_cover : x0 ≡ site.place → one.projected.rip ≡ site.entry.addr → one.now.core ≡ one.projected.core → one.now.world ≡ one.projected.world → Made r S (stale_next r w one f) M M one w.mem to
-      made_cover e at core world =
-          let len = store_len in
-          let from : part_from Marked site.event site.when ≡ 8 = ap₂ (part_from Marked) covers alone in
-          let to' : part_to Save site.event site.when ≡ 0 = ap₂ (part_to Save) covers alone in
-          let met : is_met_by site c ≡ true = ap (λ (l : List Comparison). all_hold l c.regs) alone in
-          let N : to ≡ covered r.private site.number site.place u = L.cover r.private site.number site.place u to (at_store e) (f, steps) in
-          let rip : to.rip ≡ site.place + 8 = ap (λ (z : Machine). z.rip) N in
-          let mem : to.mem ≡ put_list w.mem (mark_at Cover r.private site.number) (1 ∷ []) = ap (λ (z : Machine). z.mem) N in
-          let low = S.low site listed Cover covers in
-          let one_more : (n : ℕ) → marked r Cover site w.mem ≡ shown_after Cover n → marked r Cover site to.mem ≡ shown_after Cover (n + 1) = λ n k.
-          ap (λ (z : Bytes). marked r Cover site z) mem
-          ∙ read_back w.mem 2 (mark_at Cover r.private site.number) 1 1 (omega (arith, low)) (omega arith) (R.room site listed Cover covers).written
-          ∙ sym (cond-false (eqb (n + 1) 0) 0 1 (ne_eqb (n + 1) 0 (λ z. omega (arith, z)))) in
-          good (S.rings site listed (Marks Cover) covers) At7 (omega (arith, e)) (omega (arith, e, len)) (λ i. absurd (false≢true i)) (omega (arith, rip, len)) (ap (λ (z : Machine). z.core) N ∙ core) tt (ap (λ (z : Machine). z.world) N ∙ world) at (record {
-            calm = λ x g h. (
-              sym (stale_stays (omega (arith, e)) (omega (arith, e, len)) (omega (arith, e, to')) x) ∙ h,
-              old_away Cover covers (1 ∷ []) refl mem x (or_parts (is_listed_byte r.listed x) (is_new r x) g).1,
-            );
-            numbers = passes Cover covers (1 ∷ []) refl mem met (omega (arith, e)) (omega (arith, e, from)) (omega (arith, rip, from)) (omega (arith, rip, len)) one_more;
-            saved = tt;
-            old = λ h. absurd (false≢true h);
-          })

@@ -37,7 +37,8 @@ use Rattle.thread_runs.proofs.ThreadPlaces.{point_counted, store_alone, store_fi
 use Rattle.thread_runs.proofs.KeptRelation.{kept_by}
 use Rattle.thread_runs.proofs.StandingCode.{fields_of, code_length, work_stands}
 use Rattle.thread_runs.proofs.OutsideSteps.{made_kept, made_displaced, made_second, uncounted, start_uncounted}
-use Rattle.thread_runs.proofs.ThreadEventSteps.{made_event, made_cover}
+use Rattle.thread_runs.proofs.ThreadEventSteps.{made_event}
+use Rattle.thread_runs.proofs.StoreSteps.{made_cover}
 use Rattle.thread_runs.proofs.ThreadRingSteps.{made_ring}
 use Rattle.thread_runs.proofs.RingCode.{ring_low}
 use Rattle.thread_runs.proofs.RingLaw.{ring_shown, ring_after}
@@ -159,8 +160,8 @@ module _ (r : Threading) (A : AreEntries r.original r.listed) (S : IsThreadSound
               let covers : site.event ≡ Some (Marks Cover) = is ∙ ap (λ d. Some (Marks d)) q.0 in
               let first : p ≡ At0 = store_first p (sym (ap₂ (λ o l. has_point o l p) covers q.1) ∙ h) in
               let here : m.one.now.rip ≡ site.place + offset_if site.event site.when At0 = e ∙ ap (point_at site) first in
-              done R.end.mem (made_cover r A S L R.end.mem w m.one m.fields m.to m.steps B site listed covers q.1 (omega (arith, here, offset_first site.event site.when)) at
-              (subst (λ (z : Point). Holds site.when z m.one.projected.core m.one.now.core) first core) world)
+              done R.end.mem (made_cover r A S L R.end.mem w m.one B site listed covers q.1 m.fields m.to m.steps (omega (arith, here, offset_first site.event site.when))
+              (subst (λ (z : Point). Holds site.when z m.one.projected.core m.one.now.core) first core) at world)
 
       by_point : (site : ThreadSite) → Contains r.sites site → (p : Point) → (is_inside p ≡ true → has_point site.event site.when p ≡ true) → m.one.now.rip ≡ point_at site p → m.one.projected.rip ≡ site.entry.addr
           → Holds site.when p m.one.projected.core m.one.now.core → IsDecided site.when p m.one.projected.core → m.one.now.world ≡ m.one.projected.world → HasSaved p m.one.projected.core w.mem

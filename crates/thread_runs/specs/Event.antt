@@ -1,4 +1,4 @@
--- The events of guest threads, instruction by instruction: seven, and two for each comparison, or one store. Theorems cite it.
+-- The events of guest threads that save rax, instruction by instruction: seven, and two for each comparison. Theorems cite it.
 use Rattle.std.specs.Prelude.{◌≡◌, ℕ, ◌+◌, ◌%◌, ◌^◌, ◌<◌, ◌≤◌, Bool, true, false, not, if◌then◌else◌, List, [], ◌∷◌, ◌++◌, length, Option, Some, None}
 use Rattle.pun_base.specs.Memory.{Bytes}
 use Rattle.pun_base.specs.declared.action.Base.{Base}
@@ -18,7 +18,7 @@ use Rattle.insn_form.specs.Machine.{Machine}
 use Rattle.cond_action.specs.Conditions.{compares, all_hold}
 use Rattle.cond_action.specs.Codes.{failing}
 use Rattle.event_steps.specs.ThreadSteps.{ThreadStep}
-use Rattle.thread_runs.specs.ThreadCode.{Kind, Marks, Keeps, marking_len, compare_len, checking_len, saving_event, saving_len, thread_event, slot}
+use Rattle.thread_runs.specs.ThreadCode.{Kind, Marks, Keeps, marking_len, compare_len, checking_len, saving_event, saving_len, slot}
 use Rattle.trampoline.specs.EventLists.{mark_at, mark_len}
 use Rattle.event_steps.specs.SavedInAx.{IsGivingBack}
 
@@ -201,22 +201,3 @@ EventGoes = (b : Base) (cs : List Comparison) (p i at : ℕ) (k : Point) (c : Co
 -- Once rax is saved, the saved bytes hold it.
 abbrev pub IsSavedBack : Type 0
 IsSavedBack = (c : Core) (m : Bytes) → IsProcessorCore c → lacking 2 m (slot c) 8 ≡ None → number_at (put_list m (slot c) (bytes_of 8 (reg c rax))) (slot c) 8 ≡ reg c rax
-
--- a thread at the event of site i, which covers by one store and whose code stands at an address
-pub record AtStore (p i at : ℕ) (v : Machine) : Type 0 where
-  pub rip : v.rip ≡ at
-  pub stands : IsFixed v.mem at (thread_event Cover [] p i)
-  pub low : at + 8 < 2 ^ 31
-  pub room : mark_at Cover p i + 1 ≤ 0x7FFF0000
-
--- v after the store: site i's byte is 1, and nothing else has changed
-abbrev pub covered : ℕ → ℕ → ℕ → Machine → Machine
-covered p i at v = record { core = v.core; rip = at + 8; mem = put_list v.mem (mark_at Cover p i) (1 ∷ []); world = v.world }
-
--- The step that a thread makes at an event that covers by one store is this store.
-abbrev pub IsCoverStep : Type 0
-IsCoverStep = (p i at : ℕ) (v w : Machine) → AtStore p i at v → ThreadStep v w → w ≡ covered p i at v
-
--- Where the site's byte can be written, a thread has this step.
-abbrev pub CoverGoes : Type 0
-CoverGoes = (p i at : ℕ) (v : Machine) → AtStore p i at v → lacking 2 v.mem (mark_at Cover p i) 1 ≡ None → ThreadStep v (covered p i at v)

@@ -19,7 +19,8 @@ use Rattle.event_steps.specs.ThreadSteps.{is_locked_inc, is_locked_xadd, thread_
 use Rattle.insn_form.specs.Alike.{IsAlike, GoesAlike, writes_at, still}
 use Rattle.thread_runs.specs.ThreadCode.{thread_work, slot, flag_slot}
 use Rattle.trampoline.specs.Atomic.{thread_len}
-use Rattle.thread_runs.specs.Event.{Point, Holds, InEvent, IsEventStep, EventGoes, IsSavedBack, IsCoverStep, CoverGoes}
+use Rattle.thread_runs.specs.Event.{Point, Holds, InEvent, IsEventStep, EventGoes, IsSavedBack}
+use Rattle.thread_runs.specs.SiteEvents.{SiteComesIn, SiteGoesOn, SiteCanGoOn}
 use Rattle.thread_runs.specs.Event.Point.{At0}
 use Rattle.thread_runs.specs.RingEvent.{RingPoint, RingHolds, InRing, IsRingStep, RingGoes, AreSavedBack}
 use Rattle.thread_runs.specs.RingEvent.RingPoint.{Ring0, Ring3}
@@ -106,8 +107,9 @@ pub record StepLaws : Type 0 where
   pub alike : IsAlikeThread
   pub events : IsEventStep
   pub goes : EventGoes
-  pub cover : IsCoverStep
-  pub covers : CoverGoes
+  pub comes : SiteComesIn
+  pub goes_on : SiteGoesOn
+  pub can_go_on : SiteCanGoOn
   pub saved : IsSavedBack
   pub rings : IsRingStep
   pub ring_goes : RingGoes

@@ -1,5 +1,5 @@
 //! What holds of runs of several threads, and of single steps of theirs.
-ghost use Rattle.thread_runs.specs.Event.{IsEventStep, EventGoes, IsSavedBack, IsCoverStep, CoverGoes};
+ghost use Rattle.thread_runs.specs.Event.{IsEventStep, EventGoes, IsSavedBack};
 ghost use Rattle.thread_runs.specs.RingEvent.{IsRingStep, RingGoes, AreSavedBack};
 ghost use Rattle.thread_runs.specs.ThreadLists.{AreThreadLists, ThreadEventsRestore, MarksWhereMet, ThreadRingsRestore};
 ghost use Rattle.thread_runs.specs.SiteEvents.{SiteEventsAreLists, SiteStepTold, SiteStepGoes, SiteComesIn, SiteGoesOn, SiteCanGoOn, SiteRestores, SiteMarks};
@@ -30,13 +30,6 @@ pub fn ring_steps()
     ensures step { IsRingStep }
     ensures goes { RingGoes }
     ensures saved { AreSavedBack }
-{}
-
-/// The step of an event that covers under no condition makes the site's byte 1 and changes nothing else, and where that byte
-/// can be written there is this step.
-pub fn cover_steps()
-    ensures step { IsCoverStep }
-    ensures goes { CoverGoes }
 {}
 
 /// Events are lists of steps, with their code. Whatever other threads do in between, they restore registers and flags, mark where the condition

@@ -27,6 +27,7 @@ pub mod ThreadRingSteps
 pub mod ThreadListCode
 pub mod SiteEventSteps
 pub mod SiteEventsGoOn
+pub mod SiteEventWrites
 pub mod RestoredRegisters
 pub mod MarkedEvents
 pub mod RestoredRings

@@ -69,10 +69,10 @@ saving_puts : (b : Base) (cs : List Comparison) (p i : ℕ) → PutNone (saving_
 saving_puts Cover cs p i = (refl, (refl, (refl, checks_put cs _ (refl, (refl, (refl, (refl, tt)))))))
 saving_puts Count cs p i = (refl, (refl, (refl, checks_put cs _ (refl, (refl, (refl, (refl, tt)))))))
 
-no_step : (s : EventStep) (rest : List EventStep) → s ∷ rest ≡ [] → ⊥
+pub no_step : (s : EventStep) (rest : List EventStep) → s ∷ rest ≡ [] → ⊥
 no_step s rest e = absurd cc
 
-same_head : (s t : EventStep) (ss ts : List EventStep) → s ∷ ss ≡ t ∷ ts → s ≡ t
+pub same_head : (s t : EventStep) (ss ts : List EventStep) → s ∷ ss ≡ t ∷ ts → s ≡ t
 same_head s t ss ts e = cc
 
 puts_at : (j : ℕ) (ss : List EventStep) (s : EventStep) (rest : List EventStep) → s ∷ rest ≡ drop j ss → PutNone ss → is_put s ≡ false
@@ -191,7 +191,7 @@ end_long (suc j) (s ∷ ss) back = end_long j ss back
 le_true : (n m : ℕ) → n ≤ m → nat_le n m ≡ true
 le_true n m h = grind (arith, nat_tests)
 
-le_false : (n m : ℕ) → m < n → nat_le n m ≡ false
+pub le_false : (n m : ℕ) → m < n → nat_le n m ≡ false
 le_false n m h = grind (arith, nat_tests)
 
 -- so whether the step that marks is behind is told by the address

@@ -1,11 +1,14 @@
 -- The event of a patched site as a list of steps, whatever its kind, and what each step of it does. Theorems cite it.
 -- p is the first address of the private range, i the number of the site, at the first address of the event's code.
-use Rattle.std.specs.Prelude.{◌≡◌, ℕ, ◌+◌, ◌^◌, ◌<◌, ◌≤◌, nat_le, true, ◌&&◌, List, [], ◌∷◌, drop, Option, Some, None}
+use Rattle.std.specs.Prelude.{◌≡◌, ◌⊎◌, ℕ, ◌+◌, ◌^◌, ◌<◌, ◌≤◌, nat_le, true, false, ◌&&◌, List, [], ◌∷◌, drop, Option, Some, None}
+use Rattle.pun_base.specs.Memory.{Bytes}
 use Rattle.pun_base.specs.declared.action.Base.{Base}
 use Rattle.pun_base.specs.declared.action.Base.TheVariants.{Cover, Count}
 use Rattle.pun_base.specs.declared.action.Comparison.{Comparison}
 use Rattle.cpu_state.specs.declared.state.Core.{Core}
+use Rattle.cpu_state.specs.Bytes.{put_list, bytes_of}
 use Rattle.cpu_state.specs.Fixed.{IsFixed}
+use Rattle.insn_form.specs.Operands.{reg, rax}
 use Rattle.cpu_state.specs.Processor.{IsProcessorCore}
 use Rattle.insn_form.specs.Machine.{Machine}
 use Rattle.cond_action.specs.Conditions.{all_hold}
@@ -14,12 +17,12 @@ use Rattle.event_steps.specs.ThreadSteps.{ThreadStep}
 use Rattle.event_steps.specs.declared.step.EventStep.{EventStep}
 use Rattle.event_steps.specs.EventSteps.{long, code}
 use Rattle.event_steps.specs.MadeSteps.{after, Can, skipped}
-use Rattle.event_steps.specs.DoneSteps.{done, AreApart, AreFree, mem_done}
+use Rattle.event_steps.specs.DoneSteps.{Local, done, is_marking, AreApart, AreFree, mem_done}
 use Rattle.event_steps.specs.Interleaved.{Listed, IsIn}
 use Rattle.event_steps.specs.Interleaved.Killed.{Nothing}
-use Rattle.thread_runs.specs.ThreadCode.{Kind, Marks, Keeps, is_ring_length, slot_at, event_len, event_if}
+use Rattle.thread_runs.specs.ThreadCode.{Kind, Marks, Keeps, is_ring_length, slot_at, slot, is_saving, event_len, event_if}
 use Rattle.thread_runs.specs.ThreadLists.{saving_thread_event, thread_ring_list}
-use Rattle.thread_runs.specs.Event.{AreFew}
+use Rattle.thread_runs.specs.Event.{AreFew, marks_with}
 use Rattle.thread_runs.specs.Threading.{part_from}
 use Rattle.thread_runs.specs.Threading.Part.{Marked}
 
@@ -101,3 +104,23 @@ SiteRestores = (o : Option Kind) (cs : List Comparison) (p i at : ℕ) (c : Core
 abbrev pub SiteMarks : Type 0
 SiteMarks = (b : Base) (cs : List Comparison) (p i at : ℕ) (c : Core) (rest : List EventStep) (v : Machine) → IsProcessorCore c → IsPlaced (Some (Marks b)) cs p i at
     → (h : IsInSite (Some (Marks b)) cs p i at c rest v) → h.now.marked ≡ (all_hold cs c.regs && nat_le (at + part_from Marked (Some (Marks b)) cs) v.rip)
+
+-- what a step of an event that marks does to memory: nothing; or it saves rax, in front of all other steps; or it marks, once
+pub record LeavesAll (b : Base) (cs : List Comparison) (p i : ℕ) (c : Core) (s : EventStep) (l : Local) (m : Bytes) : Type 0 where
+  pub calm : is_marking s ≡ false
+  pub mem : mem_done (event_list (Some (Marks b)) cs p i).uses c s l m ≡ m
+
+pub record SavesRax (b : Base) (cs : List Comparison) (p i at : ℕ) (c : Core) (s : EventStep) (l : Local) (v : Machine) : Type 0 where
+  pub saving : is_saving (Some (Marks b)) cs ≡ true
+  pub first : v.rip ≡ at
+  pub calm : is_marking s ≡ false
+  pub mem : mem_done (event_list (Some (Marks b)) cs p i).uses c s l v.mem ≡ put_list v.mem (slot c) (bytes_of 8 (reg c rax))
+
+pub record MarksOnce (b : Base) (cs : List Comparison) (p i : ℕ) (c : Core) (s : EventStep) (l : Local) (m : Bytes) : Type 0 where
+  pub marks : is_marking s ≡ true
+  pub once : l.marked ≡ false
+  pub mem : mem_done (event_list (Some (Marks b)) cs p i).uses c s l m ≡ put_list m (mark_at b p i) (marks_with b (mark_at b p i) m)
+
+abbrev pub SiteWrites : Type 0
+SiteWrites = (b : Base) (cs : List Comparison) (p i at : ℕ) (c : Core) (s : EventStep) (rest : List EventStep) (v : Machine) → IsProcessorCore c → IsPlaced (Some (Marks b)) cs p i at
+    → (h : IsInSite (Some (Marks b)) cs p i at c (s ∷ rest) v) → LeavesAll b cs p i c s h.now v.mem ⊎ SavesRax b cs p i at c s h.now v ⊎ MarksOnce b cs p i c s h.now v.mem

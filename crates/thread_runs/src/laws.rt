@@ -2,7 +2,7 @@
 ghost use Rattle.thread_runs.specs.Event.{IsEventStep, EventGoes, IsSavedBack};
 ghost use Rattle.thread_runs.specs.RingEvent.{IsRingStep, RingGoes, AreSavedBack};
 ghost use Rattle.thread_runs.specs.ThreadLists.{AreThreadLists, ThreadEventsRestore, MarksWhereMet, ThreadRingsRestore};
-ghost use Rattle.thread_runs.specs.SiteEvents.{SiteEventsAreLists, SiteStepTold, SiteStepGoes, SiteComesIn, SiteGoesOn, SiteCanGoOn, SiteRestores, SiteMarks};
+ghost use Rattle.thread_runs.specs.SiteEvents.{SiteEventsAreLists, SiteStepTold, SiteStepGoes, SiteComesIn, SiteGoesOn, SiteCanGoOn, SiteRestores, SiteMarks, SiteWrites};
 ghost use Rattle.thread_runs.specs.Alone.{EventCountsAlone};
 ghost use Rattle.thread_runs.specs.AloneWithRing.{EventKeepsAlone};
 ghost use Rattle.thread_runs.specs.WorkedConditions.{ConditionsAreWorked};
@@ -50,13 +50,14 @@ pub fn site_steps()
 {}
 
 /// While others step, a thread in the event of a site goes on by its steps, restores registers and flags, and has marked exactly where the condition
-/// holds and the step that marks is behind it.
+/// holds and the step that marks is behind it. In an event that marks, a step saves rax, in front of all others, or marks, once, or leaves memory.
 pub fn threads_in_sites()
     ensures comes { SiteComesIn }
     ensures goes { SiteGoesOn }
     ensures can { SiteCanGoOn }
     ensures restore { SiteRestores }
     ensures mark { SiteMarks }
+    ensures writes { SiteWrites }
 {}
 
 /// The event that counts under no condition, of a thread that runs alone, adds one to its counter, and leaves all else as it was.

@@ -25,8 +25,9 @@ use Rattle.thread_runs.specs.ThreadCode.{slot}
 use Rattle.thread_runs.specs.Event.{marks_with}
 use Rattle.thread_runs.specs.ThreadLists.{eight_below, comparing_step, checks, saving_thread_event}
 use Rattle.thread_runs.specs.SiteEvents.{LeavesAll, SavesRax, MarksOnce, SiteWrites}
+use Rattle.thread_runs.proofs.RestoredRings.{same_head}
 use Rattle.thread_runs.proofs.MarkedEvents.{marks_where_met}
-use Rattle.thread_runs.proofs.SiteEventsGoOn.{ends_with, is_put, no_step, same_head, le_false}
+use Rattle.thread_runs.proofs.SiteEventsGoOn.{ends_with, is_put, no_step, le_false}
 
 -- a step that writes nothing and doesn't mark, or the one that marks, with three behind it
 abbrev IsCalm : EventStep → Type 0

@@ -30,8 +30,8 @@ use Rattle.thread_runs.specs.ThreadCode.{Kind, Marks, Keeps, marking_len, checki
 use Rattle.thread_runs.specs.ThreadLists.{checks, comparing_step, saving_thread_event}
 use Rattle.thread_runs.specs.SiteEvents.{event_list, IsPlaced, IsInSite, StandsAt, SiteComesIn, SiteGoesOn, SiteCanGoOn, SiteRestores, SiteMarks}
 use Rattle.thread_runs.proofs.RestoredRegisters.{all_restore}
-use Rattle.thread_runs.proofs.RestoredRings.{rings_restore}
-use Rattle.thread_runs.proofs.MarkedEvents.{marks_where_met}
+use Rattle.thread_runs.proofs.RestoredRings.{same_head, rings_restore}
+use Rattle.thread_runs.proofs.MarkedEvents.{behind, marks_where_met}
 use Rattle.thread_runs.proofs.SiteEventSteps.{are_lists, saving_long, site_steps, site_low, at_last}
 
 -- what is left is the end of the steps
@@ -71,9 +71,6 @@ saving_puts Count cs p i = (refl, (refl, (refl, checks_put cs _ (refl, (refl, (r
 
 pub no_step : (s : EventStep) (rest : List EventStep) → s ∷ rest ≡ [] → ⊥
 no_step s rest e = absurd cc
-
-pub same_head : (s t : EventStep) (ss ts : List EventStep) → s ∷ ss ≡ t ∷ ts → s ≡ t
-same_head s t ss ts e = cc
 
 puts_at : (j : ℕ) (ss : List EventStep) (s : EventStep) (rest : List EventStep) → s ∷ rest ≡ drop j ss → PutNone ss → is_put s ≡ false
 puts_at zero [] s rest e h = absurd (no_step s rest e)
@@ -188,9 +185,6 @@ end_long zero (s ∷ ss) back =
     ((λ h. absurd (omega (arith, h, l))), (λ h. omega (arith, b, z)))
 end_long (suc j) (s ∷ ss) back = end_long j ss back
 
-le_true : (n m : ℕ) → n ≤ m → nat_le n m ≡ true
-le_true n m h = grind (arith, nat_tests)
-
 pub le_false : (n m : ℕ) → m < n → nat_le n m ≡ false
 le_false n m h = grind (arith, nat_tests)
 
@@ -205,7 +199,7 @@ behind_mark b cs p i at rip rest j e here =
     let q = end_long j front back in
     elim (cases_lt 3 (length rest)) [
       | inl more ↦ (let z = q.1 (let y = ap length e' in omega (arith, more, y)) in let y = ap long e' in le_false (length rest) 3 more ∙ sym (le_false _ rip (omega (arith, here, y, z))))
-      | inr few ↦ (let z = q.0 (let y = ap length e' in omega (arith, few, y)) in let y = ap long e' in le_true (length rest) 3 few ∙ sym (le_true _ rip (omega (arith, here, y, z))))
+      | inr few ↦ (let z = q.0 (let y = ap length e' in omega (arith, few, y)) in let y = ap long e' in behind (length rest) 3 few ∙ sym (behind _ rip (omega (arith, here, y, z))))
     ]
 
 saving_marked : (b : Base) (cs : List Comparison) (p i at : ℕ) (c : Core) (rest : List EventStep) (v : Machine) → IsProcessorCore c → AreComparisons cs
@@ -223,6 +217,6 @@ site_marks Cover [] p i at c rest v q k h = by_way h.came
   where
     by_way : Reaches (cover_event p i).uses 0 (cover_event p i).steps rest (started c h.began) h.now → h.now.marked ≡ nat_le (at + 8) v.rip
     by_way (inl g) = g.1.1 ∙ sym (le_false (at + 8) v.rip (let r = h.rip in let e = ap long g.0 in omega (arith, r, e)))
-    by_way (inr g) = g.2.1.1 ∙ sym (le_true (at + 8) v.rip (let r = h.rip in let e = ap long g.2.0 in omega (arith, r, e)))
+    by_way (inr g) = g.2.1.1 ∙ sym (behind (at + 8) v.rip (let r = h.rip in let e = ap long g.2.0 in omega (arith, r, e)))
 site_marks Cover (x ∷ xs) p i at c rest v q k h = saving_marked Cover (x ∷ xs) p i at c rest v q k.few.asked h
 site_marks Count cs p i at c rest v q k h = saving_marked Count cs p i at c rest v q k.few.asked h

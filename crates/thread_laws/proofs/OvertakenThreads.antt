@@ -28,7 +28,7 @@ use Rattle.thread_runs.proofs.WatchedSteps.{started}
 use Rattle.thread_runs.proofs.WatchedRelation.{Ground, Related, base_of}
 use Rattle.thread_runs.proofs.GoingOut.{GoesOut, tail_out}
 use Rattle.thread_runs.proofs.EffectWayOut.{Leaving}
-use Rattle.thread_runs.proofs.WayOut.{event_goes, ring_goes, second_goes, all_stand, runs_same}
+use Rattle.thread_runs.proofs.WayOut.{event_goes, second_goes, all_stand, runs_same}
 use Rattle.thread_runs.proofs.ThreadsTheorem.{begun, along}
 use Rattle.thread_laws.specs.Overtaken.{IsBefore, CanGoOn, GetsOutFrom, LeavesBehind, LeavesTrampoline, OvertakenGetOut, OvertakenThreadsGetOut}
 use Rattle.thread_laws.proofs.WaitingThreads.{shown_at_last}
@@ -110,12 +110,9 @@ module _ (r : Threading) (A : AreEntries r.original r.listed) (S : IsThreadSound
   before (inl x) C =
       let s = x.site in let l = x.listed in let t = x.there in
       done C s l t (second_goes r A S step_laws k (leaving C s l t) e ground x.jumps x.here t x.core x.world)
-  before (inr (inl x)) C =
+  before (inr x) C =
       let s = x.site in let l = x.listed in let t = x.there in
-      done C s l t (event_goes r A S step_laws k (leaving C s l t) e ground x.point x.inside x.here t x.core x.decided x.world x.saved)
-  before (inr (inr x)) C =
-      let s = x.site in let l = x.listed in let t = x.there in
-      done C s l t (ring_goes r A S step_laws k (leaving C s l t) e ground x.slots x.keeps x.point x.inside x.here t x.core x.world x.saved)
+      done C s l t (event_goes r A S step_laws k (leaving C s l t) e ground x.rest x.here t x.world x.stands)
 
   -- one behind it
   behind : BehindEffect r w.mem one.now one.projected → LeavesBehind r k w one R.end

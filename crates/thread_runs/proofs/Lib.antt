@@ -21,9 +21,12 @@ pub mod RingLaw
 pub mod KeptRelation
 pub mod StandingCode
 pub mod OutsideSteps
+pub mod SiteStands
+pub mod SiteSteps
 pub mod ThreadEventSteps
-pub mod StoreSteps
+pub mod RingClaims
 pub mod ThreadRingSteps
+pub mod MadeEvents
 pub mod ThreadListCode
 pub mod SiteEventSteps
 pub mod SiteEventsGoOn

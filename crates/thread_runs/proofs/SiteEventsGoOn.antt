@@ -79,7 +79,7 @@ puts_at zero (t ∷ ss) s rest e h = ap is_put (same_head s t rest ss e) ∙ h.0
 puts_at (suc j) (t ∷ ss) s rest e h = puts_at j ss s rest e h.1
 
 -- an event's steps find their place in its data
-site_fits : (o : Option Kind) (cs : List Comparison) (p i at : ℕ) (c : Core) (s : EventStep) (rest : List EventStep) (v : Machine) → IsProcessorCore c → IsPlaced o cs p i at
+pub site_fits : (o : Option Kind) (cs : List Comparison) (p i at : ℕ) (c : Core) (s : EventStep) (rest : List EventStep) (v : Machine) → IsProcessorCore c → IsPlaced o cs p i at
     → (h : IsInSite o cs p i at c (s ∷ rest) v) → FitsIn (event_list o cs p i).uses s h.now
 site_fits (Some (Keeps n)) cs p i at c s rest v q k h = (rings_restore n p i k.room.0).1 c h.began s rest h.now q h.came
 site_fits (Some (Marks Cover)) [] p i at c s rest v q k h =
@@ -161,12 +161,12 @@ site_restores (Some (Keeps n)) cs p i at c v q k h = h.beside.core ∙ (rings_re
 site_restores None cs p i at c v q k h = h.beside.core ∙ h.came.1.0
 
 -- each step has a byte
-size_some : (s : EventStep) → 0 < size s
+pub size_some : (s : EventStep) → 0 < size s
 size_some (CountUp true k) = omega arith
 size_some (CountUp false k) = omega arith
 size_some s = omega arith
 
-drop_long : (j : ℕ) (ss : List EventStep) → (long (drop j ss) ≤ long ss) × (length (drop j ss) ≤ length ss)
+pub drop_long : (j : ℕ) (ss : List EventStep) → (long (drop j ss) ≤ long ss) × (length (drop j ss) ≤ length ss)
 drop_long zero [] = (omega arith, omega arith)
 drop_long (suc j) [] = (omega arith, omega arith)
 drop_long zero (s ∷ ss) = (omega arith, omega arith)

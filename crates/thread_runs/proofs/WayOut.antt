@@ -1,5 +1,5 @@
 -- Scheduled alone, a thread gets through a trampoline.
-use Rattle.std.proofs.Common.{◌≡◌, ◌⊎◌, inl, inr, ℕ, suc, ◌+◌, ◌*◌, Bool, true, false, not, ◌&&◌, cond, eqb, List, [], ◌∷◌, ◌++◌, length, Option, Some, None, Ok, refl, sym, ap, ap₂, ◌∙◌, subst, arith}
+use Rattle.std.proofs.Common.{◌≡◌, ◌⊎◌, inl, inr, ℕ, suc, ◌+◌, ◌*◌, ◌≤◌, Bool, true, false, not, ◌&&◌, cond, eqb, List, [], ◌∷◌, ◌++◌, length, Option, Some, None, Ok, refl, sym, ap, ap₂, ◌∙◌, subst, arith}
 use Rattle.std.specs.Prelude.{Contains, slice_get, slice_set}
 use Rattle.std.proofs.lemmas.Bool.{and_parts, and_from, and_left, and_right, not_from_false, not_from_true, cond-true, eq-eqb, false≢true, true≢false}
 use Rattle.pun_base.specs.Memory.{Bytes}
@@ -28,11 +28,8 @@ use Rattle.image_runs.specs.Listed.{is_start}
 use Rattle.thread_runs.specs.Guest.{Thread, Guest, machine_of, thread_of}
 use Rattle.thread_runs.specs.GuestDeliveries.{GuestItem, Goes, Takes, given, LeadsBy, IsInterleavedWith}
 use Rattle.thread_runs.specs.ThreadCode.{Kind, Marks, Keeps, is_saving, saved_from, saved_len}
-use Rattle.thread_runs.specs.RingEvent.{RingPoint, ring_offset, is_ringing, RingHolds, RingSaved}
-use Rattle.thread_runs.specs.Event.{Point, is_inside, has_point, Holds, IsDecided, HasSaved}
-use Rattle.thread_runs.specs.Event.Point.{At0, At7}
 use Rattle.thread_runs.specs.Threading.Part.{Save}
-use Rattle.thread_runs.specs.Threading.{ThreadSite, Threading, is_new, is_hidden, is_site, is_kept, is_keeping, saves_at, is_saved_by, ByTwoJumps, IsThreadSound}
+use Rattle.thread_runs.specs.Threading.{ThreadSite, Threading, is_new, is_hidden, is_site, is_kept, is_keeping, work_at, saves_at, is_saved_by, ByTwoJumps, IsThreadSound}
 use Rattle.thread_runs.specs.Watching.{Watched, Watch, projection, stale_after, watched_after, is_effect}
 use Rattle.thread_runs.specs.Premises.{IsQuietAt, StandAtStarts, reads_nothing_of}
 use Rattle.thread_runs.specs.Theorem.{when_at, further_at, CanGo, GetsOut}
@@ -40,45 +37,39 @@ use Rattle.thread_runs.specs.StepLaws.{StepLaws}
 use Rattle.patch_report.proofs.ListPlaces.{some_is, any_at, contains_at, place_of, all_from}
 use Rattle.sound_images.proofs.LoadedCode.{jump_acts}
 use Rattle.thread_runs.proofs.ListUpdates.{set_here}
-use Rattle.thread_runs.proofs.ThreadPlaces.{when_here, further_here, store_alone, store_first, offset_first, plain_len, part_never, start_old, start_no_site, site_of, effect_kept, effect_never}
+use Rattle.thread_runs.proofs.ThreadPlaces.{when_here, further_here, part_never, start_old, start_no_site, site_of, effect_kept, effect_never}
 use Rattle.thread_runs.proofs.StandingCode.{fields_of, site_stands, own_at}
 use Rattle.thread_runs.proofs.OutsideSteps.{jump_reads, calm_projection, stale_is, made_displaced, made_second}
 use Rattle.thread_runs.proofs.WatchedSteps.{phase_outside}
-use Rattle.thread_runs.specs.Relation.{offset_if, point_at, Outside}
+use Rattle.thread_runs.specs.Relation.{Outside, AtEnds, IsAmid, AtEvent}
+use Rattle.event_steps.specs.declared.step.EventStep.{EventStep}
+use Rattle.event_steps.specs.EventSteps.{long}
+use Rattle.thread_runs.specs.SiteEvents.{event_list}
+use Rattle.thread_runs.proofs.SiteEventsGoOn.{drop_long, in_front}
+use Rattle.thread_runs.proofs.SiteStands.{steps_few, site_comes, stands_done, stands_in}
 use Rattle.thread_runs.proofs.WatchedRelation.{Ground, Related, base_of, Made, stale_next}
 use Rattle.thread_runs.proofs.GoingOut.{GoesOut, one_more, wider, after_thread, watches, calm_watches}
 use Rattle.thread_runs.proofs.EffectWayOut.{Leaving, log_out, IsOut, Before, Near, still_before, effect_out}
-use Rattle.thread_runs.proofs.EventWayOut.{At, behind_out, event_whole, point_out, cover_out, ring_whole, ring_point_out}
+use Rattle.thread_runs.proofs.EventWayOut.{At, steps_out}
 
 module _ (r : Threading) (A : AreEntries r.original r.listed) (S : IsThreadSound r) (L : StepLaws) (k : ℕ) where
   module _ (W : Leaving r A S) where
-    -- before the trampoline the thread is at a point of it, where the point's address is the thread's
-    entered : (p : Point) (w : Watch) (one : Watched) (x : ℕ) → Near W k x w one → x ≡ point_at W.site p → Holds W.site.when p one.projected.core one.now.core → IsDecided W.site.when p one.projected.core
-        → HasSaved p one.projected.core w.mem → At W k p w one
-    entered p w one x P e core decided saved = record { before = P.before; here = P.here ∙ e; core = core; decided = decided; saved = saved }
-
     -- how many steps there are from the first address of the trampoline on at most
     abbrev come_most : ℕ
     come_most = 10 + 2 * length W.site.when + cond (is_keeping W.site.event) 5 0
 
+    -- from where it stands in the event
+    event_out : (rest : List EventStep) (w : Watch) (one : Watched) → At W k rest w one → length rest ≤ length (event_list W.site.event W.site.when r.private W.site.number).steps → IsOut W k w come_most
+    event_out rest w one P l =
+        let z = steps_few W.site.event W.site.when r.private W.site.number in
+        wider r k w _ _ _ (3 + length rest) come_most (omega (arith, l, z)) (steps_out r A S L k W (length rest) rest (omega arith) w one P)
+
     -- from the first address of the trampoline, with an event or without
     come_out : (w : Watch) (one : Watched) → Near W k W.site.place w one → IsOut W k w come_most
-    come_out w one P = by_event W.site.event (is_saving W.site.event W.site.when) refl refl
-      where
-        first : W.site.place ≡ W.site.place + offset_if W.site.event W.site.when At0
-        first = omega (arith, offset_first W.site.event W.site.when)
-
-        by_event : (o : Option Kind) (s : Bool) → W.site.event ≡ o → is_saving W.site.event W.site.when ≡ s → IsOut W k w come_most
-        by_event (Some (Keeps n)) s e z =
-            let five : ◌≡◌ {A = ℕ} (cond (is_keeping W.site.event) 5 0) 5 = ap (λ o. cond (is_keeping o) 5 0) e in
-            let at = P.here in
-            wider r k w _ _ _ 15 come_most (omega (arith, five)) (ring_whole r A S L k W n e w one (record { before = P.before; here = omega (arith, at); core = P.core; saved = tt }))
-        by_event (Some (Marks b)) true e z =
-            wider r k w _ _ _ (suc (suc (suc (7 + 2 * length W.site.when)))) come_most (omega arith) (event_whole r A S L k W b e z w one (entered At0 w one W.site.place P first P.core tt tt))
-        by_event (Some (Marks b)) false e z =
-            let q = store_alone b W.site.when (sym (ap (λ o. is_saving o W.site.when) e) ∙ z) in
-            wider r k w _ _ _ 4 come_most (omega arith) (cover_out r A S L k W (e ∙ ap (λ d. Some (Marks d)) q.0) q.1 w one (entered At0 w one W.site.place P first P.core tt tt))
-        by_event None s e z = wider r k w _ _ _ 3 come_most (omega arith) (effect_out r A S L k W w one (record { before = P.before; here = P.here ∙ omega (arith, plain_len W.site e); core = P.core }))
+    come_out w one P = event_out (event_list W.site.event W.site.when r.private W.site.number).steps w one (record {
+      before = P.before;
+      is = site_comes r A S L.long W.site W.listed one.projected.core L.comes W.site.event refl (machine_of w.mem one.now) P.before.base.other P.here P.core;
+    }) (omega arith)
 
     -- one direct jump outside the trampolines, and then the rest
     jump_out : (n x target : ℕ) → JumpsTo r.patched x target → is_new r x ≡ false → is_kept r x ≡ false → (w : Watch) (one : Watched) → Near W k x w one
@@ -117,40 +108,25 @@ module _ (r : Threading) (A : AreEntries r.original r.listed) (S : IsThreadSound
     here_before : slice_get W.watch.threads k ≡ Some W.one → Ground r S W.own W.watch.stale W.watch.mem W.one → W.one.projected.rip ≡ W.site.entry.addr → W.one.now.world ≡ W.one.projected.world → Before W k W.watch W.one
     here_before e B at world = record { there = e; base = B; log = refl; perms = λ x. refl; staler = λ x a b. a; projected = refl; at = at; world = world }
 
-    -- from a point of an event that marks
-    marked_out : (p : Point) → is_inside p ≡ true → has_point W.site.event W.site.when p ≡ true → (w : Watch) (one : Watched) → At W k p w one → IsOut W k w come_most
-    marked_out p i h w one P = by_event W.site.event (is_saving W.site.event W.site.when) refl refl
-      where
-        by_event : (o : Option Kind) (s : Bool) → W.site.event ≡ o → is_saving W.site.event W.site.when ≡ s → IsOut W k w come_most
-        by_event (Some (Keeps n)) s e z = absurd (false≢true (sym (ap (λ o. has_point o W.site.when p) e) ∙ h))
-        by_event (Some (Marks b)) true e z = wider r k w _ _ _ (suc (suc (suc (7 + 2 * length W.site.when)))) come_most (omega arith) (point_out r A S L k W b e z p i w one P)
-        by_event (Some (Marks b)) false e z =
-            let q = store_alone b W.site.when (sym (ap (λ o. is_saving o W.site.when) e) ∙ z) in
-            let covers : W.site.event ≡ Some (Marks Cover) = e ∙ ap (λ d. Some (Marks d)) q.0 in
-            let first = store_first p (sym (ap₂ (λ o cs. has_point o cs p) covers q.1) ∙ h) in
-            wider r k w _ _ _ 4 come_most (omega arith) (cover_out r A S L k W covers q.1 w one (subst (λ z. At W k z w one) first P))
-        by_event None s e z = absurd (false≢true (sym (ap (λ o. has_point o W.site.when p) e) ∙ h))
-
-    -- from a point, or where the relocated code begins
-    any_out : (p : Point) → (is_inside p ≡ true → has_point W.site.event W.site.when p ≡ true) → (w : Watch) (one : Watched) → At W k p w one → IsOut W k w come_most
-    any_out At7 i w one P = wider r k w _ _ _ 3 come_most (omega arith) (behind_out r A S L k W w one P)
-    any_out p i w one P = marked_out p refl (i refl) w one P
-
     -- a thread that stands in an event, or where relocated code begins, goes out
-    pub event_goes : slice_get W.watch.threads k ≡ Some W.one → Ground r S W.own W.watch.stale W.watch.mem W.one → (p : Point) → (is_inside p ≡ true → has_point W.site.event W.site.when p ≡ true) → W.one.now.rip ≡ point_at W.site p
-        → W.one.projected.rip ≡ W.site.entry.addr → Holds W.site.when p W.one.projected.core W.one.now.core → IsDecided W.site.when p W.one.projected.core → W.one.now.world ≡ W.one.projected.world → HasSaved p W.one.projected.core W.watch.mem
+    pub event_goes : slice_get W.watch.threads k ≡ Some W.one → Ground r S W.own W.watch.stale W.watch.mem W.one → (rest : List EventStep) → W.one.now.rip + long rest ≡ work_at W.site → W.one.projected.rip ≡ W.site.entry.addr
+        → W.one.now.world ≡ W.one.projected.world → AtEnds r W.site rest W.one.now W.one.projected ⊎ IsAmid r W.watch.mem W.site rest W.one.now W.one.projected
         → IsOut W k W.watch (12 + 2 * length W.site.when + cond (is_keeping W.site.event) 5 0)
-    event_goes e B p i here at core decided world saved = wider r k W.watch _ _ _ come_most (12 + 2 * length W.site.when + cond (is_keeping W.site.event) 5 0) (omega arith)
-        (any_out p i W.watch W.one (record { before = here_before e B at world; here = here; core = core; decided = decided; saved = saved }))
+    event_goes e B left here at world stands = wider r k W.watch _ _ _ come_most (12 + 2 * length W.site.when + cond (is_keeping W.site.event) 5 0) (omega arith) (by_left left refl)
+      where
+        q : AtEvent r W.watch.mem W.one.now W.one.projected
+        q = record { site = W.site; listed = W.listed; rest = left; here = here; there = at; world = world; stands = stands }
 
-    -- so does one in an event that keeps a ring
-    pub ring_goes : slice_get W.watch.threads k ≡ Some W.one → Ground r S W.own W.watch.stale W.watch.mem W.one → (n : ℕ) → W.site.event ≡ Some (Keeps n) → (p : RingPoint) → is_ringing p ≡ true → W.one.now.rip ≡ W.site.place + ring_offset p
-        → W.one.projected.rip ≡ W.site.entry.addr → RingHolds n p W.one.projected.core W.one.now.core → W.one.now.world ≡ W.one.projected.world → RingSaved p W.one.projected.core W.watch.mem
-        → IsOut W k W.watch (12 + 2 * length W.site.when + cond (is_keeping W.site.event) 5 0)
-    ring_goes e B n keeps p i here at core world saved =
-        let five : ◌≡◌ {A = ℕ} (cond (is_keeping W.site.event) 5 0) 5 = ap (λ o. cond (is_keeping o) 5 0) keeps in
-        wider r k W.watch _ _ _ 15 (12 + 2 * length W.site.when + cond (is_keeping W.site.event) 5 0) (omega (arith, five))
-        (ring_point_out r A S L k W n keeps p i W.watch W.one (record { before = here_before e B at world; here = here; core = core; saved = saved }))
+        by_left : (rest : List EventStep) → left ≡ rest → IsOut W k W.watch come_most
+        by_left [] e' =
+            let d = stands_done r A S L.long W.watch.mem W.one.now W.one.projected q L.restores B.kept.processor e' in
+            wider r k W.watch _ _ _ 3 come_most (omega arith) (effect_out r A S L k W W.watch W.one (record { before = here_before e B at world; here = d.0; core = d.1 }))
+        by_left (s ∷ rest) e' =
+            let is = stands_in r A S L.long W.watch.mem W.one.now W.one.projected q L.comes B.other s rest e' in
+            let f = in_front W.site.event W.site.when r.private W.site.number W.site.place W.one.projected.core (s ∷ rest) (machine_of W.watch.mem W.one.now) is in
+            let d = (drop_long f.passed (event_list W.site.event W.site.when r.private W.site.number).steps).1 in
+            let z = ap length f.left in
+            event_out (s ∷ rest) W.watch W.one (record { before = here_before e B at world; is = is }) (omega (arith, d, z))
 
     -- and one at the second of two jumps
     pub second_goes : slice_get W.watch.threads k ≡ Some W.one → Ground r S W.own W.watch.stale W.watch.mem W.one → (j : ByTwoJumps r W.site.entry.addr W.site.place) → W.one.now.rip ≡ j.second → W.one.projected.rip ≡ W.site.entry.addr

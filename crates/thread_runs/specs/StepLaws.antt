@@ -19,10 +19,10 @@ use Rattle.event_steps.specs.ThreadSteps.{is_locked_inc, is_locked_xadd, thread_
 use Rattle.insn_form.specs.Alike.{IsAlike, GoesAlike, writes_at, still}
 use Rattle.thread_runs.specs.ThreadCode.{thread_work, slot, flag_slot}
 use Rattle.trampoline.specs.Atomic.{thread_len}
-use Rattle.thread_runs.specs.Event.{Point, Holds, InEvent, IsEventStep, EventGoes, IsSavedBack}
-use Rattle.thread_runs.specs.SiteEvents.{SiteComesIn, SiteGoesOn, SiteCanGoOn}
+use Rattle.thread_runs.specs.Event.{Point, Holds, InEvent}
+use Rattle.thread_runs.specs.SiteEvents.{SiteComesIn, SiteGoesOn, SiteCanGoOn, SiteRestores, SiteMarks, SiteWrites}
 use Rattle.thread_runs.specs.Event.Point.{At0}
-use Rattle.thread_runs.specs.RingEvent.{RingPoint, RingHolds, InRing, IsRingStep, RingGoes, AreSavedBack}
+use Rattle.thread_runs.specs.RingEvent.{RingPoint, RingHolds, InRing}
 use Rattle.thread_runs.specs.RingEvent.RingPoint.{Ring0, Ring3}
 use Rattle.thread_runs.specs.Work.{Tail, left, is_syscall, InTail, IsWork, AtWork, Worked, IsEffectStep, IsTailStep}
 use Rattle.thread_runs.specs.Watching.{leads_to}
@@ -105,19 +105,12 @@ NotLocked = (f : Fields) (op : Op) → insn_of f ≡ Exact op → (is_locked_inc
 -- all the facts of single steps
 pub record StepLaws : Type 0 where
   pub alike : IsAlikeThread
-  pub events : IsEventStep
-  pub goes : EventGoes
   pub comes : SiteComesIn
   pub goes_on : SiteGoesOn
   pub can_go_on : SiteCanGoOn
-  pub saved : IsSavedBack
-  pub rings : IsRingStep
-  pub ring_goes : RingGoes
-  pub ring_saved : AreSavedBack
-  pub ring_slots : HoldsSlots
-  pub ring_held : RingSavesHeld
-  pub held : SavesHeld
-  pub slots : HoldsSlot
+  pub restores : SiteRestores
+  pub marks : SiteMarks
+  pub writes : SiteWrites
   pub effects : IsEffectStep
   pub tails : IsTailStep
   pub touches : WorkTouches

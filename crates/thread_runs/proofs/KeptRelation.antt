@@ -43,7 +43,7 @@ use Rattle.insn_form.specs.Alike.{AreAlike}
 use Rattle.image_runs.specs.Listed.{is_start}
 use Rattle.patch_report.proofs.ListPlaces.{some_is, any_at, place_of}
 use Rattle.event_steps.proofs.ByteRanges.{range_first, range_rest}
-use Rattle.thread_runs.proofs.RingEventInstructions.{flags_then_rax}
+use Rattle.thread_runs.proofs.SavedBytes.{flags_then_rax}
 use Rattle.thread_runs.proofs.ListUpdates.{set_here, set_away, map_set, map_same, get_map, count_set, count_more}
 use Rattle.thread_runs.proofs.WatchedRelation.{ThreadKept, HasRoom, shown_after, marked, HasRing, RingKept, Related, Changes, Made, stale_next}
 use Rattle.event_steps.proofs.ThreadSteps.{keeps_code, keeps_perms, lacking_on}

@@ -2,10 +2,7 @@ pub mod ThreadTrampolines
 pub mod ListUpdates
 pub mod AlikeThreadSteps
 pub mod ComparisonCode
-pub mod EventCode
-pub mod ThreadEventInstructions
-pub mod RingCode
-pub mod RingEventInstructions
+pub mod SavedBytes
 pub mod LockInc
 pub mod KnownPieces
 pub mod WorkCopies

@@ -22,7 +22,7 @@ use Rattle.event_steps.specs.WholeEvents.{FitAll, Leaves}
 use Rattle.thread_runs.specs.Threading.{is_saved}
 use Rattle.thread_runs.specs.AloneWithRing.{CanKeepAlone, EventKeepsAlone}
 use Rattle.event_steps.proofs.ByteRanges.{range_first, range_rest, put_elsewhere}
-use Rattle.thread_runs.proofs.RingEventInstructions.{flags_then_rax, saved_two, rax_apart, length_is, length_few}
+use Rattle.thread_runs.proofs.SavedBytes.{flags_then_rax, saved_two, rax_apart, length_is, length_few}
 use Rattle.thread_runs.specs.Alone.{EventCountsAlone}
 use Rattle.thread_runs.proofs.ThreadListCode.{are_thread_lists}
 use Rattle.thread_runs.proofs.RestoredRings.{put_fits, few_slots, rings_restore}

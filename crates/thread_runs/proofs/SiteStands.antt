@@ -27,7 +27,7 @@ use Rattle.thread_runs.specs.Threading.{ThreadSite, Threading, is_new, is_keepin
 use Rattle.thread_runs.specs.Relation.{AtEnds, IsAmid, AtEvent}
 use Rattle.thread_runs.specs.SiteEvents.{event_list, IsRoomy, IsPlaced, IsInSite, SiteComesIn, SiteRestores}
 use Rattle.thread_runs.specs.StepLaws.{WorkLong}
-use Rattle.thread_runs.proofs.RingEventInstructions.{flags_then_rax, saved_two, rax_apart}
+use Rattle.thread_runs.proofs.SavedBytes.{flags_then_rax, saved_two, rax_apart}
 use Rattle.thread_runs.proofs.LoneEvents.{slots_free}
 use Rattle.thread_runs.proofs.ThreadPlaces.{longer, in_code, part_is, part_true, part_only}
 use Rattle.thread_runs.proofs.StandingCode.{event_stands, mark_new, ring_new, one_in}

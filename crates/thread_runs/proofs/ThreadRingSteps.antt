@@ -34,7 +34,7 @@ use Rattle.thread_runs.specs.Ring.{claimed_at}
 use Rattle.thread_runs.specs.SiteEvents.{event_list, IsInSite, WentOn}
 use Rattle.thread_runs.specs.StepLaws.{StepLaws}
 use Rattle.thread_runs.proofs.ThreadPlaces.{part_true, claiming_only, filling_only}
-use Rattle.thread_runs.proofs.RingEventInstructions.{length_is, length_few}
+use Rattle.thread_runs.proofs.SavedBytes.{length_is, length_few}
 use Rattle.thread_runs.proofs.LoneEvents.{slots_many}
 use Rattle.thread_runs.proofs.KeptRelation.{rax_saved, flags_saved}
 use Rattle.thread_runs.proofs.StandingCode.{ring_new, one_in, position_kept, slot_kept}

@@ -1,7 +1,6 @@
 pub mod ThreadCode
 pub mod Building
 pub mod Event
-pub mod RingEvent
 pub mod Work
 pub mod Guest
 pub mod Threading

@@ -1,6 +1,4 @@
 //! What holds of runs of several threads, and of single steps of theirs.
-ghost use Rattle.thread_runs.specs.Event.{IsEventStep, EventGoes, IsSavedBack};
-ghost use Rattle.thread_runs.specs.RingEvent.{IsRingStep, RingGoes, AreSavedBack};
 ghost use Rattle.thread_runs.specs.ThreadLists.{AreThreadLists, ThreadEventsRestore, MarksWhereMet, ThreadRingsRestore};
 ghost use Rattle.thread_runs.specs.SiteEvents.{SiteEventsAreLists, SiteStepTold, SiteStepGoes, SiteComesIn, SiteGoesOn, SiteCanGoOn, SiteRestores, SiteMarks, SiteWrites};
 ghost use Rattle.thread_runs.specs.Alone.{EventCountsAlone};
@@ -14,23 +12,7 @@ ghost use Rattle.thread_runs.specs.TheoremWithDeliveries.{ThreadsAreFollowedWith
 ghost use Rattle.thread_runs.specs.LockedSpelling.{LockedIsSpelled, LockIsUntested, XaddIsSpelled};
 ghost use Rattle.thread_runs.specs.EachRun.{EachRunIsWatched};
 ghost use Rattle.thread_runs.specs.Running.{RunsOneWay};
-ghost use Rattle.thread_runs.specs.StepLaws.{WorkTouches, WorkLong, HoldsSlot, SavesHeld, HoldsSlots, RingSavesHeld, TailTouches, TailInside, WorkedCore, LeadsTold, NotLocked, StepLaws};
-
-/// In an event that saves rax, under a condition or under none, each step does what its instruction does, and
-/// where the saved bytes and what is marked can be read and written there is such a step.
-pub fn event_steps()
-    ensures step { IsEventStep }
-    ensures goes { EventGoes }
-    ensures saved { IsSavedBack }
-{}
-
-/// In an event that keeps a ring each step does what its instruction does, LOCK XADD as one step, and where the saved bytes, the position
-/// and the slots can be read and written there is such a step.
-pub fn ring_steps()
-    ensures step { IsRingStep }
-    ensures goes { RingGoes }
-    ensures saved { AreSavedBack }
-{}
+ghost use Rattle.thread_runs.specs.StepLaws.{WorkTouches, WorkLong, TailTouches, TailInside, WorkedCore, LeadsTold, NotLocked, StepLaws};
 
 /// Events are lists of steps, with their code. Whatever other threads do in between, they restore registers and flags, mark where the condition
 /// holds, and put the number into a slot that there is.
@@ -97,10 +79,6 @@ pub fn tail_steps()
 
 /// What relocated code reads and writes, where it stands, and further small facts of single steps.
 pub fn further_laws()
-    ensures slots { HoldsSlot }
-    ensures held { SavesHeld }
-    ensures ring_slots { HoldsSlots }
-    ensures ring_held { RingSavesHeld }
     ensures core { WorkedCore }
     ensures leads { LeadsTold }
     ensures not_locked { NotLocked }

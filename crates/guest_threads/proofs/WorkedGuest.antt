@@ -28,7 +28,12 @@ use Rattle.sound_images.specs.Reports.{row_lines}
 use Rattle.sound_images.proofs.WorkedImage.{inside, between, spread_out}
 use Rattle.patch_report.proofs.ListPlaces.{some_is}
 use Rattle.site_turns.proofs.CodeSizes.{one_standing}
-use Rattle.thread_runs.specs.Event.Point.{At0, At1, At2, At3, At4, At5, At6}
+use Rattle.event_steps.specs.declared.step.EventStep.{EventStep}
+use Rattle.event_steps.specs.declared.step.EventStep.TheVariants.{CountUp, Store, Load, IntoAh, IntoAl, FromAl, FromAh}
+use Rattle.event_steps.specs.EventSteps.{place_in, fields_of, IsStep}
+use Rattle.event_steps.specs.EventSteps.Mode.{Shared}
+use Rattle.event_steps.proofs.SingleSteps.{is_step}
+use Rattle.thread_runs.specs.ThreadLists.{saving_thread_event}
 use Rattle.pun_base.specs.declared.action.Action.TheVariants.{Count}
 use Rattle.pun_base.specs.declared.action.Base.TheVariants as base
 use Rattle.guest_threads.specs.FromTurns.{site_of}
@@ -43,10 +48,16 @@ use Rattle.guest_threads.specs.WorkedFile.{row_text, row_entry, row_value, row_t
 use Rattle.guest_threads.specs.WorkedGuest.{stack, start_flags, counted_flags, added_flags, core_with, thread_with, guest_on, waiting, schedule, started, ThreadsMeet, entered, DeliveryMeets, IsThreadsReal}
 use Rattle.thread_runs.specs.GuestDeliveries.{Goes, Takes}
 use Rattle.thread_runs.specs.WatchedDeliveries.{WatchWith, watched_given, IsGiven}
-use Rattle.thread_runs.proofs.EventCode.{fields_at, spelled_at}
 use Rattle.thread_runs.proofs.PlainGuests.{plain, plain_run, run_then}
 use Rattle.guest_threads.proofs.WorkedFile.{itself_is, itself_stands, original_path, entries_are_row, listed_are, row_is_threaded}
 use Rattle.guest_threads.proofs.WorkedImage.{row_image, patched_path, entry_is, none_at_stacks}
+
+-- a step of the event that counts, and that it is an instruction
+abbrev step_fields : EventStep → Fields
+step_fields s = fields_of s (place_in (saving_thread_event base.Count [] 0x20000 0).uses s) 0
+
+step_spelled : (s : EventStep) → IsStep Shared (place_in (saving_thread_event base.Count [] 0x20000 0).uses s) s → IsInstruction (step_fields s)
+step_spelled s h = is_step Shared s (place_in (saving_thread_event base.Count [] 0x20000 0).uses s) 0 h
 
 -- thread k of two
 abbrev picked : ℕ → List Watched → Watched
@@ -116,40 +127,40 @@ abbrev w1 : Watch
 w1 = behind 0 w0 (jump_fields (rel_bytes 0x401005 0x2401005)) (running 0x7 0x601000 start_flags 0x2401005) (waiting 0x602000) mem0
 
 abbrev w2 : Watch
-w2 = behind 0 w1 (fields_at base.Count At0 0x20040) (running 0x7 0x601000 start_flags 0x240100d) (waiting 0x602000) mem1
+w2 = behind 0 w1 (step_fields (Store 0)) (running 0x7 0x601000 start_flags 0x240100d) (waiting 0x602000) mem1
 
 abbrev w3 : Watch
-w3 = behind 0 w2 (fields_at base.Count At1 0x20040) (running 0x4307 0x601000 start_flags 0x240100e) (waiting 0x602000) mem1
+w3 = behind 0 w2 (step_fields IntoAh) (running 0x4307 0x601000 start_flags 0x240100e) (waiting 0x602000) mem1
 
 abbrev w4 : Watch
-w4 = behind 0 w3 (fields_at base.Count At2 0x20040) (running 0x4301 0x601000 start_flags 0x2401011) (waiting 0x602000) mem1
+w4 = behind 0 w3 (step_fields IntoAl) (running 0x4301 0x601000 start_flags 0x2401011) (waiting 0x602000) mem1
 
 abbrev w5 : Watch
-w5 = behind 0 w4 (fields_at base.Count At3 0x20040) (running 0x4301 0x601000 counted_flags 0x240101a) (waiting 0x602000) mem2
+w5 = behind 0 w4 (step_fields (CountUp true 1)) (running 0x4301 0x601000 counted_flags 0x240101a) (waiting 0x602000) mem2
 
 abbrev w6 : Watch
 w6 = behind 1 w5 (jump_fields (rel_bytes 0x401005 0x2401005)) (running 0x4301 0x601000 counted_flags 0x240101a) (running 0x7 0x602000 start_flags 0x2401005) mem2
 
 abbrev w7 : Watch
-w7 = behind 1 w6 (fields_at base.Count At0 0x20040) (running 0x4301 0x601000 counted_flags 0x240101a) (running 0x7 0x602000 start_flags 0x240100d) mem3
+w7 = behind 1 w6 (step_fields (Store 0)) (running 0x4301 0x601000 counted_flags 0x240101a) (running 0x7 0x602000 start_flags 0x240100d) mem3
 
 abbrev w8 : Watch
-w8 = behind 1 w7 (fields_at base.Count At1 0x20040) (running 0x4301 0x601000 counted_flags 0x240101a) (running 0x4307 0x602000 start_flags 0x240100e) mem3
+w8 = behind 1 w7 (step_fields IntoAh) (running 0x4301 0x601000 counted_flags 0x240101a) (running 0x4307 0x602000 start_flags 0x240100e) mem3
 
 abbrev w9 : Watch
-w9 = behind 1 w8 (fields_at base.Count At2 0x20040) (running 0x4301 0x601000 counted_flags 0x240101a) (running 0x4301 0x602000 start_flags 0x2401011) mem3
+w9 = behind 1 w8 (step_fields IntoAl) (running 0x4301 0x601000 counted_flags 0x240101a) (running 0x4301 0x602000 start_flags 0x2401011) mem3
 
 abbrev w10 : Watch
-w10 = behind 1 w9 (fields_at base.Count At3 0x20040) (running 0x4301 0x601000 counted_flags 0x240101a) (running 0x4301 0x602000 counted_flags 0x240101a) mem4
+w10 = behind 1 w9 (step_fields (CountUp true 1)) (running 0x4301 0x601000 counted_flags 0x240101a) (running 0x4301 0x602000 counted_flags 0x240101a) mem4
 
 abbrev w11 : Watch
-w11 = behind 1 w10 (fields_at base.Count At4 0x20040) (running 0x4301 0x601000 counted_flags 0x240101a) (running 0x4380 0x602000 added_flags 0x240101c) mem4
+w11 = behind 1 w10 (step_fields FromAl) (running 0x4301 0x601000 counted_flags 0x240101a) (running 0x4380 0x602000 added_flags 0x240101c) mem4
 
 abbrev w12 : Watch
-w12 = behind 1 w11 (fields_at base.Count At5 0x20040) (running 0x4301 0x601000 counted_flags 0x240101a) (running 0x4380 0x602000 start_flags 0x240101d) mem4
+w12 = behind 1 w11 (step_fields FromAh) (running 0x4301 0x601000 counted_flags 0x240101a) (running 0x4380 0x602000 start_flags 0x240101d) mem4
 
 abbrev w13 : Watch
-w13 = behind 1 w12 (fields_at base.Count At6 0x20040) (running 0x4301 0x601000 counted_flags 0x240101a) (running 0x7 0x602000 start_flags 0x2401025) mem4
+w13 = behind 1 w12 (step_fields (Load 0)) (running 0x4301 0x601000 counted_flags 0x240101a) (running 0x7 0x602000 start_flags 0x2401025) mem4
 
 abbrev w14 : Watch
 w14 = record (behind 1 w13 (jump_fields (rel_bytes 0x240102a 0x401000)) (running 0x4301 0x601000 counted_flags 0x240101a) (waiting 0x602000) mem4) { log = record { thread = 1; at = 0x401000; core = core_with 7 0x602000 start_flags } ∷ [] }
@@ -199,8 +210,8 @@ step0 =
 step1 : Proper 0 w1 w2
 unfolding template filled effect total carries overflows signed is_even ones is_met
 step1 =
-    made 0 w1 w2 (fields_at base.Count At0 0x20040) refl refl
-    (record { at = record { spelled = spelled_at base.Count At0 0x20040 tt; here = (refl, refl, (refl, refl, (refl, refl, (refl, refl, (refl, refl, (refl, refl, (refl, refl, (refl, refl, tt)))))))) }; acts = refl }) refl
+    made 0 w1 w2 (step_fields (Store 0)) refl refl
+    (record { at = record { spelled = step_spelled (Store 0) tt; here = (refl, refl, (refl, refl, (refl, refl, (refl, refl, (refl, refl, (refl, refl, (refl, refl, (refl, refl, tt)))))))) }; acts = refl }) refl
     (λ h. absurd (false≢true h)) (refl, (refl, tt)) (λ h. absurd (true≢false h)) (λ h. refl)
     (λ n h. absurd (n refl)) (λ n h. absurd (false≢true h))
 
@@ -208,8 +219,8 @@ step1 =
 step2 : Proper 0 w2 w3
 unfolding template filled effect total carries overflows signed is_even ones is_met
 step2 =
-    made 0 w2 w3 (fields_at base.Count At1 0x20040) refl refl
-    (record { at = record { spelled = spelled_at base.Count At1 0x20040 tt; here = (refl, refl, tt) }; acts = refl }) refl
+    made 0 w2 w3 (step_fields IntoAh) refl refl
+    (record { at = record { spelled = step_spelled IntoAh tt; here = (refl, refl, tt) }; acts = refl }) refl
     (λ h. absurd (false≢true h)) (refl, (refl, tt)) (λ h. absurd (true≢false h)) (λ h. absurd (false≢true h))
     (λ n h. absurd (n refl)) (λ n h. absurd (false≢true h))
 
@@ -217,8 +228,8 @@ step2 =
 step3 : Proper 0 w3 w4
 unfolding template filled effect total carries overflows signed is_even ones is_met
 step3 =
-    made 0 w3 w4 (fields_at base.Count At2 0x20040) refl refl
-    (record { at = record { spelled = spelled_at base.Count At2 0x20040 tt; here = (refl, refl, (refl, refl, (refl, refl, tt))) }; acts = refl }) refl
+    made 0 w3 w4 (step_fields IntoAl) refl refl
+    (record { at = record { spelled = step_spelled IntoAl tt; here = (refl, refl, (refl, refl, (refl, refl, tt))) }; acts = refl }) refl
     (λ h. absurd (false≢true h)) (refl, (refl, tt)) (λ h. absurd (true≢false h)) (λ h. absurd (false≢true h))
     (λ n h. absurd (n refl)) (λ n h. absurd (false≢true h))
 
@@ -226,8 +237,8 @@ step3 =
 step4 : Proper 0 w4 w5
 unfolding template filled effect total carries overflows signed is_even ones is_met
 step4 =
-    made 0 w4 w5 (fields_at base.Count At3 0x20040) refl refl
-    (record { at = record { spelled = spelled_at base.Count At3 0x20040 tt; here = (refl, refl, (refl, refl, (refl, refl, (refl, refl, (refl, refl, (refl, refl, (refl, refl, (refl, refl, (refl, refl, tt))))))))) }; acts = refl }) refl
+    made 0 w4 w5 (step_fields (CountUp true 1)) refl refl
+    (record { at = record { spelled = step_spelled (CountUp true 1) tt; here = (refl, refl, (refl, refl, (refl, refl, (refl, refl, (refl, refl, (refl, refl, (refl, refl, (refl, refl, (refl, refl, tt))))))))) }; acts = refl }) refl
     (λ h. absurd (false≢true h)) (refl, (refl, tt)) (λ h. absurd (true≢false h)) (λ h. absurd (false≢true h))
     (λ n h. absurd (n refl)) (λ n h. absurd (false≢true h))
 
@@ -244,8 +255,8 @@ step5 =
 step6 : Proper 1 w6 w7
 unfolding template filled effect total carries overflows signed is_even ones is_met
 step6 =
-    made 1 w6 w7 (fields_at base.Count At0 0x20040) refl refl
-    (record { at = record { spelled = spelled_at base.Count At0 0x20040 tt; here = (refl, refl, (refl, refl, (refl, refl, (refl, refl, (refl, refl, (refl, refl, (refl, refl, (refl, refl, tt)))))))) }; acts = refl }) refl
+    made 1 w6 w7 (step_fields (Store 0)) refl refl
+    (record { at = record { spelled = step_spelled (Store 0) tt; here = (refl, refl, (refl, refl, (refl, refl, (refl, refl, (refl, refl, (refl, refl, (refl, refl, (refl, refl, tt)))))))) }; acts = refl }) refl
     (λ h. absurd (false≢true h)) (refl, (refl, tt)) (λ h. absurd (true≢false h)) (λ h. refl)
     (λ n h. refl) (λ n h. absurd (n refl))
 
@@ -253,8 +264,8 @@ step6 =
 step7 : Proper 1 w7 w8
 unfolding template filled effect total carries overflows signed is_even ones is_met
 step7 =
-    made 1 w7 w8 (fields_at base.Count At1 0x20040) refl refl
-    (record { at = record { spelled = spelled_at base.Count At1 0x20040 tt; here = (refl, refl, tt) }; acts = refl }) refl
+    made 1 w7 w8 (step_fields IntoAh) refl refl
+    (record { at = record { spelled = step_spelled IntoAh tt; here = (refl, refl, tt) }; acts = refl }) refl
     (λ h. absurd (false≢true h)) (refl, (refl, tt)) (λ h. absurd (true≢false h)) (λ h. absurd (false≢true h))
     (λ n h. refl) (λ n h. absurd (n refl))
 
@@ -262,8 +273,8 @@ step7 =
 step8 : Proper 1 w8 w9
 unfolding template filled effect total carries overflows signed is_even ones is_met
 step8 =
-    made 1 w8 w9 (fields_at base.Count At2 0x20040) refl refl
-    (record { at = record { spelled = spelled_at base.Count At2 0x20040 tt; here = (refl, refl, (refl, refl, (refl, refl, tt))) }; acts = refl }) refl
+    made 1 w8 w9 (step_fields IntoAl) refl refl
+    (record { at = record { spelled = step_spelled IntoAl tt; here = (refl, refl, (refl, refl, (refl, refl, tt))) }; acts = refl }) refl
     (λ h. absurd (false≢true h)) (refl, (refl, tt)) (λ h. absurd (true≢false h)) (λ h. absurd (false≢true h))
     (λ n h. refl) (λ n h. absurd (n refl))
 
@@ -271,8 +282,8 @@ step8 =
 step9 : Proper 1 w9 w10
 unfolding template filled effect total carries overflows signed is_even ones is_met
 step9 =
-    made 1 w9 w10 (fields_at base.Count At3 0x20040) refl refl
-    (record { at = record { spelled = spelled_at base.Count At3 0x20040 tt; here = (refl, refl, (refl, refl, (refl, refl, (refl, refl, (refl, refl, (refl, refl, (refl, refl, (refl, refl, (refl, refl, tt))))))))) }; acts = refl }) refl
+    made 1 w9 w10 (step_fields (CountUp true 1)) refl refl
+    (record { at = record { spelled = step_spelled (CountUp true 1) tt; here = (refl, refl, (refl, refl, (refl, refl, (refl, refl, (refl, refl, (refl, refl, (refl, refl, (refl, refl, (refl, refl, tt))))))))) }; acts = refl }) refl
     (λ h. absurd (false≢true h)) (refl, (refl, tt)) (λ h. absurd (true≢false h)) (λ h. absurd (false≢true h))
     (λ n h. refl) (λ n h. absurd (n refl))
 
@@ -280,8 +291,8 @@ step9 =
 step10 : Proper 1 w10 w11
 unfolding template filled effect total carries overflows signed is_even ones is_met
 step10 =
-    made 1 w10 w11 (fields_at base.Count At4 0x20040) refl refl
-    (record { at = record { spelled = spelled_at base.Count At4 0x20040 tt; here = (refl, refl, (refl, refl, tt)) }; acts = refl }) refl
+    made 1 w10 w11 (step_fields FromAl) refl refl
+    (record { at = record { spelled = step_spelled FromAl tt; here = (refl, refl, (refl, refl, tt)) }; acts = refl }) refl
     (λ h. absurd (false≢true h)) (refl, (refl, tt)) (λ h. absurd (true≢false h)) (λ h. absurd (false≢true h))
     (λ n h. refl) (λ n h. absurd (n refl))
 
@@ -289,8 +300,8 @@ step10 =
 step11 : Proper 1 w11 w12
 unfolding template filled effect total carries overflows signed is_even ones is_met
 step11 =
-    made 1 w11 w12 (fields_at base.Count At5 0x20040) refl refl
-    (record { at = record { spelled = spelled_at base.Count At5 0x20040 tt; here = (refl, refl, tt) }; acts = refl }) refl
+    made 1 w11 w12 (step_fields FromAh) refl refl
+    (record { at = record { spelled = step_spelled FromAh tt; here = (refl, refl, tt) }; acts = refl }) refl
     (λ h. absurd (false≢true h)) (refl, (refl, tt)) (λ h. absurd (true≢false h)) (λ h. absurd (false≢true h))
     (λ n h. refl) (λ n h. absurd (n refl))
 
@@ -298,8 +309,8 @@ step11 =
 step12 : Proper 1 w12 w13
 unfolding template filled effect total carries overflows signed is_even ones is_met
 step12 =
-    made 1 w12 w13 (fields_at base.Count At6 0x20040) refl refl
-    (record { at = record { spelled = spelled_at base.Count At6 0x20040 tt; here = (refl, refl, (refl, refl, (refl, refl, (refl, refl, (refl, refl, (refl, refl, (refl, refl, (refl, refl, tt)))))))) }; acts = refl }) refl
+    made 1 w12 w13 (step_fields (Load 0)) refl refl
+    (record { at = record { spelled = step_spelled (Load 0) tt; here = (refl, refl, (refl, refl, (refl, refl, (refl, refl, (refl, refl, (refl, refl, (refl, refl, (refl, refl, tt)))))))) }; acts = refl }) refl
     (λ h. absurd (false≢true h)) (refl, (refl, tt)) (λ h. absurd (true≢false h)) (λ h. absurd (false≢true h))
     (λ n h. refl) (λ n h. absurd (n refl))
 

@@ -26,7 +26,9 @@ use Rattle.thread_runs.proofs.ThreadPlaces.{when_here, further_here}
 use Rattle.thread_runs.proofs.StandingCode.{fields_of, site_stands}
 use Rattle.thread_runs.proofs.WatchedSteps.{started}
 use Rattle.thread_runs.proofs.WatchedRelation.{Ground, Related, base_of}
-use Rattle.thread_runs.proofs.WayOut.{GoesOut, tail_out, event_goes, ring_goes, second_goes, all_stand, runs_same}
+use Rattle.thread_runs.proofs.GoingOut.{GoesOut, tail_out}
+use Rattle.thread_runs.proofs.EffectWayOut.{Leaving}
+use Rattle.thread_runs.proofs.WayOut.{event_goes, second_goes, all_stand, runs_same}
 use Rattle.thread_runs.proofs.ThreadsTheorem.{begun, along}
 use Rattle.thread_laws.specs.Overtaken.{IsBefore, CanGoOn, GetsOutFrom, LeavesBehind, LeavesTrampoline, OvertakenGetOut, OvertakenThreadsGetOut}
 use Rattle.thread_laws.proofs.WaitingThreads.{shown_at_last}
@@ -84,20 +86,33 @@ module _ (r : Threading) (A : AreEntries r.original r.listed) (S : IsThreadSound
         let b = g.bound in
         record { few = g.few; bound = omega (arith, b, z, further); states = g.states; run = g.run; proper = g.proper stand; there = g.there; outside = C.ends; memory = g.memory; effect = g.effect }
 
+  -- what is known of a thread that is to go out from a site
+  abbrev leaving : (C : CanGoOn r w one R.end) (site : ThreadSite) → Contains r.sites site → one.projected.rip ≡ site.entry.addr → Leaving r A S
+  leaving C s l t = record {
+    site = s;
+    listed = l;
+    own = R.end.mem;
+    watch = w;
+    one = one;
+    to = C.to;
+    steps = (C.fields, C.steps);
+    quiet = C.quiet;
+    ends = C.ends;
+    read = λ h. C.read (saves_there C s l t h);
+    written = λ h. C.written (saves_there C s l t h);
+    old = λ h. C.old (saves_there C s l t h);
+    unread = unread C s l t;
+    fresh = fresh C s l t;
+  }
+
   -- a thread in front of its effect step
   before : IsBefore r w.mem one → (C : CanGoOn r w one R.end) → GetsOutFrom r k w one C.to
   before (inl x) C =
       let s = x.site in let l = x.listed in let t = x.there in
-      done C s l t (second_goes r A S step_laws k s l R.end.mem w one C.to (C.fields, C.steps) C.quiet C.ends (λ h. C.read (saves_there C s l t h)) (λ h. C.written (saves_there C s l t h))
-      (λ h. C.old (saves_there C s l t h)) (unread C s l t) (fresh C s l t) e ground x.jumps x.here t x.core x.world)
-  before (inr (inl x)) C =
+      done C s l t (second_goes r A S step_laws k (leaving C s l t) e ground x.jumps x.here t x.core x.world)
+  before (inr x) C =
       let s = x.site in let l = x.listed in let t = x.there in
-      done C s l t (event_goes r A S step_laws k s l R.end.mem w one C.to (C.fields, C.steps) C.quiet C.ends (λ h. C.read (saves_there C s l t h)) (λ h. C.written (saves_there C s l t h))
-      (λ h. C.old (saves_there C s l t h)) (unread C s l t) (fresh C s l t) e ground x.point x.inside x.here t x.core x.decided x.world x.saved)
-  before (inr (inr x)) C =
-      let s = x.site in let l = x.listed in let t = x.there in
-      done C s l t (ring_goes r A S step_laws k s l R.end.mem w one C.to (C.fields, C.steps) C.quiet C.ends (λ h. C.read (saves_there C s l t h)) (λ h. C.written (saves_there C s l t h))
-      (λ h. C.old (saves_there C s l t h)) (unread C s l t) (fresh C s l t) e ground x.slots x.keeps x.point x.inside x.here t x.core x.world x.saved)
+      done C s l t (event_goes r A S step_laws k (leaving C s l t) e ground x.rest x.here t x.world x.stands)
 
   -- one behind it
   behind : BehindEffect r w.mem one.now one.projected → LeavesBehind r k w one R.end

@@ -12,7 +12,7 @@ use Rattle.thread_runs.specs.ThreadCode.{saved_from, saved_len}
 use Rattle.thread_runs.specs.Threading.{Threading, is_new, is_hidden, saves_at, is_saved_by, IsThreadSound}
 use Rattle.thread_runs.specs.Watching.{Watched, Watch}
 use Rattle.thread_runs.specs.Premises.{IsQuietAt, IsProperRun, reads_nothing_of}
-use Rattle.thread_runs.specs.Relation.{AtSecond, AtEvent, AtRing, BehindEffect}
+use Rattle.thread_runs.specs.Relation.{AtSecond, AtEvent, BehindEffect}
 use Rattle.thread_runs.specs.Theorem.{AreStartGuests, last_watch, IsWatched, LeaveSaved, when_at, further_at}
 use Rattle.thread_runs.specs.GuestDeliveries.{GuestItem}
 use Rattle.thread_runs.specs.WatchedDeliveries.{WatchWith, watch_with, IsProperRunWith, last_with}
@@ -22,7 +22,7 @@ use Rattle.thread_laws.specs.ThreadsBegin.{IsGrowingFollowed}
 
 -- a thread inside a trampoline, or at the second of two jumps to it, in front of its effect step
 abbrev pub IsBefore : Threading → Bytes → Watched → Type 0
-IsBefore r m one = AtSecond r one.now one.projected ⊎ (AtEvent r m one.now one.projected ⊎ AtRing r m one.now one.projected)
+IsBefore r m one = AtSecond r one.now one.projected ⊎ AtEvent r m one.now one.projected
 
 -- Such a thread can go on: the original's thread, its projection, has a step that is quiet and leads to a listed start, and reads no stale
 -- byte. If the site's event saves rax, the saved bytes can be read and written, aren't new, and aren't read by the instruction.

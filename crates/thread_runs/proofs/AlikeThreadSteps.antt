@@ -1,5 +1,5 @@
 -- Where one of two states that are alike has a step of a thread, the other has it too.
-use Rattle.std.proofs.Common.{◌≡◌, ℕ, Ok, inl, refl, sym, ap, ◌∙◌, subst}
+use Rattle.std.proofs.Common.{◌≡◌, Ok, inl, refl, sym, ap, ◌∙◌, subst}
 use Rattle.insn_form.specs.Step.{next_after}
 use Rattle.event_steps.specs.ThreadSteps.{is_locked_xadd, thread_task, thread_act}
 use Rattle.thread_runs.specs.StepLaws.{IsAlikeThread}

@@ -1,30 +1,23 @@
 -- All laws of single steps, as one record.
 use Rattle.event_steps.proofs.Acting.{acting_alike}
 use Rattle.thread_runs.proofs.AlikeThreadSteps.{alike_thread}
-use Rattle.thread_runs.proofs.RingEventInstructions.{ring_step, ring_goes, saved_both, holds_slots, ring_held}
 use Rattle.thread_runs.specs.StepLaws.{StepLaws}
-use Rattle.thread_runs.proofs.ThreadEventInstructions.{event_step, event_goes, saved_back}
-use Rattle.thread_runs.proofs.CoverStep.{cover_step, cover_goes}
+use Rattle.thread_runs.proofs.SiteEventsGoOn.{site_comes_in, site_goes_on, site_can_go_on, site_restores, site_marks}
+use Rattle.thread_runs.proofs.SiteEventWrites.{site_writes}
 use Rattle.thread_runs.proofs.EffectSteps.{effect_step}
-use Rattle.thread_runs.proofs.RelocatedTouches.{holds_slot, saves_held, worked_core, leads_told, not_locked_is, work_touches}
+use Rattle.thread_runs.proofs.RelocatedTouches.{worked_core, leads_told, not_locked_is, work_touches}
 use Rattle.thread_runs.proofs.WorkTails.{work_long, tail_touches, tail_inside, tail_step}
 
 -- all laws of single steps hold
 pub step_laws : StepLaws
 step_laws = record {
   alike = alike_thread;
-  events = event_step;
-  goes = event_goes;
-  cover = cover_step;
-  covers = cover_goes;
-  saved = saved_back;
-  rings = ring_step;
-  ring_goes = ring_goes;
-  ring_saved = saved_both;
-  ring_slots = holds_slots;
-  ring_held = ring_held;
-  held = saves_held;
-  slots = holds_slot;
+  comes = site_comes_in;
+  goes_on = site_goes_on;
+  can_go_on = site_can_go_on;
+  restores = site_restores;
+  marks = site_marks;
+  writes = site_writes;
   effects = effect_step;
   tails = tail_step;
   touches = work_touches;

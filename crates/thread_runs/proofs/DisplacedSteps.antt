@@ -1,7 +1,7 @@
 -- The effect step of a displaced instruction, and the trampoline's steps after it, keep the relation.
 use Rattle.std.proofs.Common.{◌≡◌, inl, inr, ℕ, ◌+◌, ◌<◌, ◌≤◌, Bool, true, false, not, ◌&&◌, cond, eqb, List, [], ◌∷◌, ◌++◌, length, Option, Some, Ok, refl, sym, ap, ap₂, ◌∙◌, subst, arith}
 use Rattle.std.specs.Prelude.{Contains}
-use Rattle.std.proofs.lemmas.Bool.{and_parts, and_left, and_right, or_right, cond-true, cond-false, eqb-true, eq-eqb, false_from_ne_true}
+use Rattle.std.proofs.lemmas.Bool.{and_parts, and_left, and_right, or_right, cond-true, cond-false, eqb-true, eq-eqb, false_from_ne_true, false≢true}
 use Rattle.std.proofs.lemmas.List.{append-nil}
 use Rattle.pun_base.specs.Memory.{Bytes}
 use Rattle.pun_base.specs.declared.action.Base.{Base}
@@ -37,8 +37,13 @@ use Rattle.thread_runs.proofs.ThreadPlaces.{part_only, kept_not, no_site, site_h
 use Rattle.event_steps.proofs.ThreadSteps.{keeps_code}
 use Rattle.thread_runs.proofs.StandingCode.{fields_of, site_stands, work_stands, code_length, mark_kept, position_kept, slot_kept}
 use Rattle.thread_runs.proofs.OutsideSteps.{alike_on, none_more, uncounted, none_even, calm_projection, start_uncounted}
-use Rattle.thread_runs.proofs.ThreadEventSteps.{same_test}
 use Rattle.thread_runs.proofs.WatchedRelation.{Phase, ThreadKept, marked, position_in, slot_in, Ground, Made}
+
+-- tests that imply each other are equal
+same_test : (b c : Bool) → (b ≡ true → c ≡ true) → (c ≡ true → b ≡ true) → b ≡ c
+same_test true c f g = sym (f refl)
+same_test false true f g = absurd (false≢true (g refl))
+same_test false false f g = refl
 
 module _ (r : Threading) (A : AreEntries r.original r.listed) (S : IsThreadSound r) (L : StepLaws) where
   module _ (site : ThreadSite) (listed : Contains r.sites site) where

@@ -97,7 +97,7 @@ module _ (r : Threading) (A : AreEntries r.original r.listed) (S : IsThreadSound
         (some_is one' other (sym (set_here w.threads k one one' D.there) ∙ subst (λ (z : ℕ). slice_get v.threads z ≡ Some other) q e))
         (record { processor = D.fits.core; words = kept.words; start = D.fits.there; phase = inl (record { same = ap (given d) same; start = D.fits.there }) })
     | inr n ↦ (let g = sym (set_away w.threads k j one' n) ∙ e in
-        other_kept r S L.slots L.ring_slots w.mem v.mem other (λ t z s. put_all_keeps (is_saved_by r other.now.core) w.mem d.writes z (D.apart j other n g t) s) (R.each j other g))
+        other_kept r S w.mem v.mem other (written_code w.mem w.mem d.writes D.fits.held (λ x i j. refl)) (λ t z s. put_all_keeps (is_saved_by r other.now.core) w.mem d.writes z (D.apart j other n g t) s) (R.each j other g))
   ]
 
   -- what each event marks

@@ -1,13 +1,16 @@
 -- A step of one thread keeps the relation between the watched guest and the original's.
-use Rattle.std.proofs.Common.{◌≡◌, ◌≢◌, inl, inr, ℕ, ◌+◌, ◌%◌, ◌^◌, ◌<◌, Bool, true, false, List, [], ◌∷◌, ◌++◌, map, Option, Some, None, refl, sym, ap, ap₂, ◌∙◌, subst, arith}
+use Rattle.std.proofs.Common.{◌≡◌, ◌⊎◌, inl, inr, ℕ, ◌+◌, ◌-◌, ◌^◌, Bool, true, false, List, [], ◌∷◌, ◌++◌, map, Option, Some, None, refl, sym, ap, ap₂, ◌∙◌, subst, arith}
 use Rattle.std.specs.Prelude.{Contains, count_by, slice_get, slice_set}
-use Rattle.std.proofs.lemmas.Bool.{cond-true, cond-false, cases_eq, and_parts}
+use Rattle.std.proofs.lemmas.Bool.{cond-true, cond-false, cases_eq, and_parts, true≢false, false≢true}
 use Rattle.pun_base.specs.Memory.{Bytes}
 use Rattle.pun_base.specs.declared.action.Base.{Base}
+use Rattle.pun_base.specs.declared.action.Base.TheVariants.{Cover, Count}
+use Rattle.pun_base.specs.declared.action.Comparison.{Comparison}
 use Rattle.length_decode.specs.Spelling.{Fields}
 use Rattle.cpu_state.specs.declared.state.Core.{Core}
-use Rattle.cpu_state.specs.Bytes.{lacking, number_at}
+use Rattle.cpu_state.specs.Bytes.{advanced, lacking}
 use Rattle.insn_form.specs.Machine.{Machine}
+use Rattle.insn_form.specs.Operands.{reg, rsp}
 use Rattle.insn_form.specs.Step.{next_after}
 use Rattle.insn_form.specs.Touched.{reads_none, writes_none}
 use Rattle.insn_form.specs.Laws.{Keeps as KeepsBytes}
@@ -19,29 +22,29 @@ use Rattle.start_entries.specs.declared.entry.StartEntry.{StartEntry}
 use Rattle.thread_runs.specs.Guest.{Thread, Guest, machine_of, thread_of, Moves, last_guest}
 use Rattle.thread_runs.specs.GuestDeliveries.{GuestItem, Goes, LeadsBy, IsInterleavedWith}
 use Rattle.thread_runs.specs.WatchedDeliveries.{made_after}
-use Rattle.thread_runs.specs.ThreadCode.{Marks, Keeps, position_at, slot_at, ring_len, slot, flag_slot, saved_from, saved_len}
-use Rattle.trampoline.specs.EventLists.{mark_at, mark_len}
-use Rattle.thread_runs.specs.RingEvent.{RingPoint, ring_offset, is_ringing, RingSaved}
-use Rattle.thread_runs.specs.RingEvent.RingPoint.{Ring0, Ring1, Ring2, Ring3, Ring4, Ring5, Ring6, Ring7, Ring8, Ring9, Ring10, Ring11, Ring12}
-use Rattle.thread_runs.specs.Event.{Point, is_inside, has_point, IsDecided, HasSaved}
-use Rattle.thread_runs.specs.Event.Point.{At0, At7}
-use Rattle.thread_runs.specs.Relation.{offset_if, point_at, has_rax}
+use Rattle.thread_runs.specs.ThreadCode.{Kind, Marks, Keeps, position_at, slot_at, slot, flag_slot, saved_from, saved_len}
+use Rattle.thread_runs.specs.ThreadLists.{eight_below, thread_ring_list}
+use Rattle.trampoline.specs.EventLists.{mark_at, mark_len, marked_datum, cover_event}
+use Rattle.thread_runs.specs.Relation.{AtEnds, IsAmid}
 use Rattle.thread_runs.specs.Work.{Tail, InTail}
 use Rattle.thread_runs.specs.Work.Tail.{Out, Back, Jump, Ecx}
 use Rattle.thread_runs.specs.Threading.Part.{Saved}
-use Rattle.thread_runs.specs.Threading.{ThreadSite, Threading, part_to, is_part, has_saved, is_saved_by, IsThreadSound, is_hidden}
+use Rattle.thread_runs.specs.Threading.{ThreadSite, Threading, is_part, has_saved, is_saved_by, IsThreadSound, is_hidden}
 use Rattle.event_steps.specs.DoneSteps.{is_one_of}
+use Rattle.event_steps.specs.declared.step.Datum.{Datum}
+use Rattle.event_steps.specs.declared.step.EventStep.{EventStep}
+use Rattle.event_steps.specs.Interleaved.{is_own_place, IsOwn}
+use Rattle.event_steps.proofs.InterleavedSteps.{stays_in}
 use Rattle.thread_runs.specs.Watching.{Watched, Watch, EffectStep, is_effect, projection, watched_after}
 use Rattle.thread_runs.specs.Premises.{touches_none, LeavesSaved}
-use Rattle.thread_runs.specs.StepLaws.{HoldsSlot, HoldsSlots}
+use Rattle.thread_runs.specs.SiteEvents.{event_list}
 use Rattle.thread_runs.specs.Theorem.{is_recorded, has_marked}
 use Rattle.insn_form.specs.Alike.{AreAlike}
 use Rattle.image_runs.specs.Listed.{is_start}
 use Rattle.patch_report.proofs.ListPlaces.{some_is, any_at, place_of}
-use Rattle.event_steps.proofs.ByteRanges.{number_on, range_first, range_rest}
-use Rattle.thread_runs.proofs.RingEventInstructions.{flags_then_rax}
+use Rattle.event_steps.proofs.ByteRanges.{range_first, range_rest}
+use Rattle.thread_runs.proofs.SavedBytes.{flags_then_rax}
 use Rattle.thread_runs.proofs.ListUpdates.{set_here, set_away, map_set, map_same, get_map, count_set, count_more}
-use Rattle.thread_runs.proofs.ThreadPlaces.{part_true, point_inside, point_saved}
 use Rattle.thread_runs.proofs.WatchedRelation.{ThreadKept, HasRoom, shown_after, marked, HasRing, RingKept, Related, Changes, Made, stale_next}
 use Rattle.event_steps.proofs.ThreadSteps.{keeps_code, keeps_perms, lacking_on}
 
@@ -98,127 +101,65 @@ pub flags_saved : (o : Option ℕ) (n : ℕ) (c : Core) (x : ℕ) → o ≡ Some
 flags_saved None n c x e h = absurd cc
 flags_saved (Some m) n c x e h = range_first (flag_slot c) 8 8 x h
 
--- between saves and restores what is saved stays where its bytes do
-pub ring_saved_on : (m w : Bytes) (p : RingPoint) (c : Core) → (p ≢ Ring0 → number_at w (slot c) 8 ≡ number_at m (slot c) 8) → (p ≢ Ring0 → number_at w (flag_slot c) 8 ≡ number_at m (flag_slot c) 8) → RingSaved p c m → RingSaved p c w
-ring_saved_on m w Ring0 c a b h = tt
-ring_saved_on m w Ring12 c a b h = tt
-ring_saved_on m w Ring4 c a b h = (a (λ e. absurd cc) ∙ h.0, b (λ e. absurd cc) ∙ h.1)
-ring_saved_on m w Ring5 c a b h = (a (λ e. absurd cc) ∙ h.0, b (λ e. absurd cc) ∙ h.1)
-ring_saved_on m w Ring6 c a b h = (a (λ e. absurd cc) ∙ h.0, b (λ e. absurd cc) ∙ h.1)
-ring_saved_on m w Ring7 c a b h = (a (λ e. absurd cc) ∙ h.0, b (λ e. absurd cc) ∙ h.1)
-ring_saved_on m w Ring8 c a b h = (a (λ e. absurd cc) ∙ h.0, b (λ e. absurd cc) ∙ h.1)
-ring_saved_on m w Ring1 c a b h = a (λ e. absurd cc) ∙ h
-ring_saved_on m w Ring2 c a b h = a (λ e. absurd cc) ∙ h
-ring_saved_on m w Ring3 c a b h = a (λ e. absurd cc) ∙ h
-ring_saved_on m w Ring9 c a b h = a (λ e. absurd cc) ∙ h
-ring_saved_on m w Ring10 c a b h = a (λ e. absurd cc) ∙ h
-ring_saved_on m w Ring11 c a b h = a (λ e. absurd cc) ∙ h
+-- with the same rsp they are the same
+pub same_saved : (o : Option ℕ) (l d c : Core) → d ≡ l → reg l rsp ≡ reg c rsp → saved_from o d ≡ saved_from o c
+same_saved None l d c e h = ap slot e ∙ ap (λ z. advanced z (2 ^ 64 - 136)) h
+same_saved (Some n) l d c e h = ap flag_slot e ∙ ap (λ z. advanced z (2 ^ 64 - 144)) h
 
--- a point behind the first lies after the event's first byte
-pub ring_late : (p : RingPoint) → p ≢ Ring0 → 0 < ring_offset p
-ring_late Ring0 h = absurd (h refl)
-ring_late Ring1 h = omega arith
-ring_late Ring2 h = omega arith
-ring_late Ring3 h = omega arith
-ring_late Ring4 h = omega arith
-ring_late Ring5 h = omega arith
-ring_late Ring6 h = omega arith
-ring_late Ring7 h = omega arith
-ring_late Ring8 h = omega arith
-ring_late Ring9 h = omega arith
-ring_late Ring10 h = omega arith
-ring_late Ring11 h = omega arith
-ring_late Ring12 h = omega arith
+-- what a site's event saves in are saved bytes
+own_saved : (r : Threading) (S : IsThreadSound r) (s : ThreadSite) → Contains r.sites s → (c : Core) (x : ℕ) → IsOwn (event_list s.event s.when r.private s.number).uses c x → is_one_of (saved_from r.ring c) (saved_len r.ring) x ≡ true
+own_saved r S s listed c x = by_event s.event s.when refl
+  where
+    of_rax : (d : Datum) → is_own_place d.place ≡ false → IsOwn (eight_below 136 ∷ d ∷ []) c x → is_one_of (saved_from r.ring c) (saved_len r.ring) x ≡ true
+    of_rax d e (inl h) = rax_saved r.ring c x h.1
+    of_rax d e (inr (inl h)) = absurd (true≢false (sym h.0 ∙ e))
+    of_rax d e (inr (inr h)) = absurd h
 
--- each point inside the event lies before its end
-pub ring_inside : (p : RingPoint) → is_ringing p ≡ true → ring_offset p < ring_len
-ring_inside Ring12 h = absurd cc
-ring_inside Ring0 h = omega arith
-ring_inside Ring1 h = omega arith
-ring_inside Ring2 h = omega arith
-ring_inside Ring3 h = omega arith
-ring_inside Ring4 h = omega arith
-ring_inside Ring5 h = omega arith
-ring_inside Ring6 h = omega arith
-ring_inside Ring7 h = omega arith
-ring_inside Ring8 h = omega arith
-ring_inside Ring9 h = omega arith
-ring_inside Ring10 h = omega arith
-ring_inside Ring11 h = omega arith
+    of_ring : (n : ℕ) → r.ring ≡ Some n → IsOwn (thread_ring_list n r.private s.number).uses c x → is_one_of (saved_from r.ring c) (saved_len r.ring) x ≡ true
+    of_ring n e (inl h) = rax_saved r.ring c x h.1
+    of_ring n e (inr (inl h)) = flags_saved r.ring n c x e h.1
+    of_ring n e (inr (inr (inl h))) = absurd (false≢true h.0)
+    of_ring n e (inr (inr (inr (inl h)))) = absurd (false≢true h.0)
+    of_ring n e (inr (inr (inr (inr h)))) = absurd h
 
-module _ (r : Threading) (S : IsThreadSound r) (H : HoldsSlot) (H' : HoldsSlots) where
-  -- the saved bytes of another thread hold rax where they stay
-  saved_on : (m w : Bytes) (p : Point) (c : Core) → (has_rax p ≡ true → number_at w (slot c) 8 ≡ number_at m (slot c) 8) → HasSaved p c m → HasSaved p c w
-  saved_on m w At0 c h k = tt
-  saved_on m w At7 c h k = tt
-  saved_on m w p c h k = h refl ∙ k
+    of_cover : IsOwn (cover_event r.private s.number).uses c x → is_one_of (saved_from r.ring c) (saved_len r.ring) x ≡ true
+    of_cover (inl h) = absurd (false≢true h.0)
+    of_cover (inr h) = absurd h
 
-  -- where the bytes that another thread has saved stay, so does all that is kept of it
-  pub other_kept : (m w : Bytes) (one : Watched) → (has_saved r one.now.rip ≡ true → (x : ℕ) → is_saved_by r one.now.core x ≡ true → w x ≡ m x) → ThreadKept r S m one → ThreadKept r S w one
-  other_kept m w one h k = record {
+    by_event : (o : Option Kind) (cs : List Comparison) → s.event ≡ o → IsOwn (event_list o cs r.private s.number).uses c x → is_one_of (saved_from r.ring c) (saved_len r.ring) x ≡ true
+    by_event None cs e h = absurd h
+    by_event (Some (Keeps n)) cs e h = of_ring n (S.rings s listed (Keeps n) e) h
+    by_event (Some (Marks Cover)) [] e h = of_cover h
+    by_event (Some (Marks Cover)) (k ∷ cs) e h = of_rax (marked_datum Cover r.private s.number) refl h
+    by_event (Some (Marks Count)) cs e h = of_rax (marked_datum Count r.private s.number) refl h
+
+module _ (r : Threading) (S : IsThreadSound r) where
+  -- where the bytes that another thread has saved stay, as code does, so does all that is kept of it
+  pub other_kept : (m w : Bytes) (one : Watched) → SameCode m w → (has_saved r one.now.rip ≡ true → (x : ℕ) → is_saved_by r one.now.core x ≡ true → w x ≡ m x) → ThreadKept r S m one → ThreadKept r S w one
+  other_kept m w one code h k = record {
     processor = k.processor;
     words = k.words;
     start = k.start;
     phase = elim k.phase [
       | inl q ↦ inl q
       | inr (inl q) ↦ inr (inl q)
-      | inr (inr (inl (inr q))) ↦ inr (inr (inl (inr (record {
-        site = q.site;
-        listed = q.listed;
-        slots = q.slots;
-        keeps = q.keeps;
-        point = q.point;
-        inside = q.inside;
-        here = q.here;
-        there = q.there;
-        core = q.core;
-        world = q.world;
-        old = q.old;
-        saved = (let ring = S.rings q.site q.listed (Keeps q.slots) q.keeps in
-            let same : flag_slot one.now.core ≡ flag_slot one.projected.core = H' q.slots q.point one.projected.core one.now.core k.processor q.core in
-            let rax = sym (flags_then_rax one.now.core) ∙ ap (λ z. (z + 8) % 2 ^ 64) same ∙ flags_then_rax one.projected.core in
-            let at : q.point ≢ Ring0 → has_saved r one.now.rip ≡ true = λ late. ring_there q.site q.listed q.slots q.keeps q.point late q.inside q.here in
-            ring_saved_on m w q.point one.projected.core
-            (λ late. subst (λ (z : ℕ). number_at w z 8 ≡ number_at m z 8) rax (number_on m w (slot one.now.core) 8 (λ x e. h (at late) x (rax_saved r.ring one.now.core x e))))
-            (λ late. subst (λ (z : ℕ). number_at w z 8 ≡ number_at m z 8) same (number_on m w (flag_slot one.now.core) 8 (λ x e. h (at late) x (flags_saved r.ring q.slots one.now.core x ring e)))) q.saved);
-      }))))
-      | inr (inr (inl (inl q))) ↦ inr (inr (inl (inl (record {
-        site = q.site;
-        listed = q.listed;
-        point = q.point;
-        inside = q.inside;
-        here = q.here;
-        there = q.there;
-        core = q.core;
-        decided = q.decided;
-        world = q.world;
-        old = q.old;
-        saved = saved_on m w q.point one.projected.core (λ n.
-            let same : slot one.now.core ≡ slot one.projected.core = H q.site.when q.point one.projected.core one.now.core k.processor q.core in
-            subst (λ (z : ℕ). number_at w z 8 ≡ number_at m z 8) same (number_on m w (slot one.now.core) 8 (λ x e.
-            h (inside q.site q.listed q.point one.projected.core (q.inside (rax_inside q.point n)) q.decided n q.here) x (rax_saved r.ring one.now.core x e)))) q.saved;
-      }))))
+      | inr (inr (inl q)) ↦ inr (inr (inl (record { site = q.site; listed = q.listed; rest = q.rest; here = q.here; there = q.there; world = q.world; stands = still q.site q.listed q.rest q.stands })))
       | inr (inr (inr q)) ↦ inr (inr (inr (record { site = q.site; listed = q.listed; tail = q.tail; more = q.more; there = tail_on m w one.now (S.sites q.site q.listed).fields _ _ q.tail _ _ q.there; world = q.world })))
     ];
   }
     where
-      ring_there : (s : ThreadSite) → Contains r.sites s → (n : ℕ) → s.event ≡ Some (Keeps n) → (p : RingPoint) → p ≢ Ring0 → is_ringing p ≡ true → one.now.rip ≡ s.place + ring_offset p → has_saved r one.now.rip ≡ true
-      ring_there s c n e p late i here =
-          let to : part_to Saved s.event s.when ≡ ring_len = ap (λ o. part_to Saved o s.when) e in
-          let z = place_of r.sites s c in
-          any_at (is_part Saved one.now.rip) r.sites z.0 s z.1 (part_true Saved one.now.rip s (omega (arith, here, ring_late p late)) (omega (arith, here, to, ring_inside p i)))
-
-      rax_inside : (p : Point) → has_rax p ≡ true → is_inside p ≡ true
-      rax_inside At7 h = h
-      rax_inside p h = refl
-
-      inside : (s : ThreadSite) → Contains r.sites s → (p : Point) (c : Core) → has_point s.event s.when p ≡ true → IsDecided s.when p c → has_rax p ≡ true → one.now.rip ≡ point_at s p
-          → has_saved r one.now.rip ≡ true
-      inside s c p d k i n here =
-          let e : one.now.rip ≡ s.place + offset_if s.event s.when p = here ∙ point_inside s p (rax_inside p n) in
-          let q = point_saved s.event s.when p d k n i in
-          let z = place_of r.sites s c in
-          any_at (is_part Saved one.now.rip) r.sites z.0 s z.1 (part_true Saved one.now.rip s (omega (arith, e, q.0)) (omega (arith, e, q.1)))
+      still : (s : ThreadSite) → Contains r.sites s → (rest : List EventStep) → AtEnds r s rest one.now one.projected ⊎ IsAmid r m s rest one.now one.projected → AtEnds r s rest one.now one.projected ⊎ IsAmid r w s rest one.now one.projected
+      still s c rest (inl e) = inl e
+      still s c rest (inr a) =
+          let i = place_of r.sites s c in
+          let there : has_saved r one.now.rip ≡ true = any_at (is_part Saved one.now.rip) r.sites i.0 s i.1 a.saved in
+          let same = same_saved r.ring (a.is).now.core one.now.core one.projected.core a.is.beside.core a.is.beside.stack in
+          inr (record {
+            is = stays_in (event_list s.event s.when r.private s.number) s.place one.projected.core rest (machine_of m one.now) (machine_of w one.now) a.is refl refl code
+                (λ x o. h there x (ap (λ z. is_one_of z (saved_len r.ring) x) same ∙ own_saved r S s c one.projected.core x o));
+            saved = a.saved;
+            old = a.old;
+          })
 
   -- the whole relation after a step
   module _ (a : Guest) (made : List GuestItem) (w : Watch) (k : ℕ) (one : Watched) (there : slice_get w.threads k ≡ Some one) (f : Fields) (to : Machine)
@@ -236,7 +177,7 @@ module _ (r : Threading) (S : IsThreadSound r) (H : HoldsSlot) (H' : HoldsSlots)
       | inl same ↦ subst (λ (z : Watched). ThreadKept r S to.mem z)
           (some_is one' other (sym (set_here w.threads k one one' there) ∙ subst (λ (z : ℕ). slice_get v.threads z ≡ Some other) same e)) kept
       | inr n ↦ (let g = sym (set_away w.threads k j one' n) ∙ e in
-          other_kept w.mem to.mem other (λ h. untouched (is_saved_by r other.now.core) f (machine_of w.mem one.now) to steps (free j other n g h)) (R.each j other g))
+          other_kept w.mem to.mem other (keeps_code w.mem f (machine_of w.mem one.now) to steps (λ x i j. refl)) (λ h. untouched (is_saved_by r other.now.core) f (machine_of w.mem one.now) to steps (free j other n g h)) (R.each j other g))
     ]
 
     -- what each event marks in v

@@ -22,7 +22,7 @@ use Rattle.event_steps.specs.WholeEvents.{FitAll, Leaves}
 use Rattle.thread_runs.specs.Threading.{is_saved}
 use Rattle.thread_runs.specs.AloneWithRing.{CanKeepAlone, EventKeepsAlone}
 use Rattle.event_steps.proofs.ByteRanges.{range_first, range_rest, put_elsewhere}
-use Rattle.thread_runs.proofs.RingEventInstructions.{flags_then_rax, saved_two, rax_apart, length_is, length_few}
+use Rattle.thread_runs.proofs.SavedBytes.{flags_then_rax, saved_two, rax_apart, length_is, length_few}
 use Rattle.thread_runs.specs.Alone.{EventCountsAlone}
 use Rattle.thread_runs.proofs.ThreadListCode.{are_thread_lists}
 use Rattle.thread_runs.proofs.RestoredRings.{put_fits, few_slots, rings_restore}
@@ -115,7 +115,7 @@ slots_out p (suc n) x low h =
     (join_out (p + 68) (4 * n) 4 x (omega (arith, low)) (slots_out p n x (omega (arith, low)) (λ j l. h j (omega (arith, l)))) (subst (λ a. is_one_of a 4 x ≡ false) w (h n (omega arith))))
 
 -- slots that can be written are an array that can be
-slots_free : (p n : ℕ) (m : Bytes) → p + 68 + 4 * n ≤ 0x7FFF0000 → ((j : ℕ) → j < n → lacking 2 m (slot_at p j) 4 ≡ None) → lacking 2 m (p + 68) (4 * n) ≡ None
+pub slots_free : (p n : ℕ) (m : Bytes) → p + 68 + 4 * n ≤ 0x7FFF0000 → ((j : ℕ) → j < n → lacking 2 m (slot_at p j) 4 ≡ None) → lacking 2 m (p + 68) (4 * n) ≡ None
 slots_free p zero m low h = refl
 slots_free p (suc n) m low h =
     let z : 4 * n + 4 ≡ 4 * suc n = omega arith in
@@ -132,7 +132,7 @@ reduced_to : (t : Bool) (y n x : ℕ) (d : Core) → length d.regs ≡ 16 → re
 reduced_to true y n x d l e k = get_or-set_same d.regs 0 (reg d rax % 2 ^ 16) 0 (omega (arith, l)) ∙ ap (λ z. z % 2 ^ 16) e ∙ (let z : x % 2 ^ 32 % 2 ^ 16 ≡ x % 65536 = omega arith in z) ∙ ap (λ z. x % z) (sym k)
 reduced_to false y n x d l e k = get_or-set_same d.regs 0 (reg d rax % 2 ^ 8) 0 (omega (arith, l)) ∙ ap (λ z. z % 2 ^ 8) e ∙ (let z : x % 2 ^ 32 % 2 ^ 8 ≡ x % 256 = omega arith in z) ∙ ap (λ z. x % z) (sym k)
 
-slots_many : (n : ℕ) → (eqb n 256 ≡ true) × (n ≡ 256) ⊎ (eqb n 256 ≡ false) × (n ≡ 65536) → n ≡ (if not (eqb n 256) then 65536 else 256)
+pub slots_many : (n : ℕ) → (eqb n 256 ≡ true) × (n ≡ 256) ⊎ (eqb n 256 ≡ false) × (n ≡ 65536) → n ≡ (if not (eqb n 256) then 65536 else 256)
 slots_many n (inl q) = q.1 ∙ ap (λ t. if not t then 65536 else 256) (sym q.0)
 slots_many n (inr q) = q.1 ∙ ap (λ t. if not t then 65536 else 256) (sym q.0)
 

@@ -58,7 +58,7 @@ quiet ds zero (s ∷ ss) rest l l' q (inr h) = quiet ds (skipped s h.0.core) ss 
 before : (b : Bool) (n m : ℕ) → m < n → (b && nat_le n m) ≡ false
 before b n m h = and_right b (nat_le n m) (let e : nat_le n m ≡ false = grind (arith, nat_tests) in e)
 
-behind : (n m : ℕ) → n ≤ m → nat_le n m ≡ true
+pub behind : (n m : ℕ) → n ≤ m → nat_le n m ≡ true
 behind n m h = grind (arith, nat_tests)
 
 -- checks that compare in some way

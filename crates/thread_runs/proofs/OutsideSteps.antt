@@ -24,7 +24,6 @@ use Rattle.insn_form.specs.Touched.{reads_avoid, writes_none, writes_avoid}
 use Rattle.insn_form.specs.Processor.{IsProcessorState}
 use Rattle.event_steps.specs.ThreadSteps.{is_locked_xadd, thread_task, thread_act, ThreadStepsBy, ThreadStep}
 use Rattle.thread_runs.specs.ThreadCode.{Kind, Marks, Keeps}
-use Rattle.thread_runs.specs.RingEvent.RingPoint.{Ring0}
 use Rattle.thread_runs.specs.Ring.{ringing_at, claimed_at}
 use Rattle.insn_form.specs.Alike.{AreAlike, IsAlike, writes_at, still}
 use Rattle.insn_form.proofs.UniqueSteps.{one_instruction, same_ok}
@@ -35,8 +34,6 @@ use Rattle.relocate_insn.proofs.PieceSteps.{gone_to}
 use Rattle.start_entries.specs.Standing.{AreEntries}
 use Rattle.image_runs.specs.Listed.{is_start, is_listed_byte}
 use Rattle.thread_runs.specs.Guest.{Thread, machine_of, thread_of}
-use Rattle.thread_runs.specs.Event.{Point, is_inside, has_point, Holds, IsDecided, HasSaved}
-use Rattle.thread_runs.specs.Event.Point.{At0, At7}
 use Rattle.thread_runs.specs.Threading.Part.{Whole, Save, Marked, Unfilled}
 use Rattle.thread_runs.specs.Threading.{ThreadSite, Threading, is_new, is_hidden, is_site, is_kept, in_event, saves, is_keeping, is_part, is_met_by, is_counted, is_unfilled, relocated_at, ByTwoJumps, IsThreadSound}
 use Rattle.thread_runs.specs.Watching.{Watched, Watch, is_effect, behind, projection, stale_after}
@@ -44,10 +41,12 @@ use Rattle.thread_runs.specs.Premises.{IsQuietAt, reads_nothing_of}
 use Rattle.thread_runs.specs.StepLaws.{StepLaws}
 use Rattle.patch_report.proofs.ListPlaces.{any_at, place_of}
 use Rattle.sound_images.proofs.LoadedCode.{jump_acts}
-use Rattle.thread_runs.proofs.ThreadPlaces.{start_old, part_never, start_no_site, site_of, effect_kept, effect_never, old_uncounted, part_in, place_in, plain_len, mark_late, offset_first, point_first, part_is, part_only, part_low, claimed_here, old_unclaimed, old_unclaiming, old_unfilling, ringing_none}
+use Rattle.thread_runs.proofs.ThreadPlaces.{start_old, part_never, start_no_site, site_of, effect_kept, effect_never, old_uncounted, part_in, place_in, mark_late, part_is, part_only, part_low, claimed_here, old_unclaimed, old_unclaiming, old_unfilling, ringing_none}
 use Rattle.thread_runs.proofs.StandingCode.{own_at, mark_kept, position_kept, slot_kept}
 use Rattle.start_entries.specs.Leading.{JumpsTo}
-use Rattle.thread_runs.specs.Relation.{point_at, has_rax, Outside, AtSecond}
+use Rattle.thread_runs.specs.Relation.{Outside, AtSecond}
+use Rattle.thread_runs.specs.SiteEvents.{event_list}
+use Rattle.thread_runs.proofs.SiteEventSteps.{are_lists}
 use Rattle.thread_runs.proofs.WatchedRelation.{Phase, ThreadKept, shown_after, marked, Ground, RingMoves, Made}
 
 -- memories that are alike are so by each set that has the same stale bytes
@@ -115,45 +114,20 @@ module _ (r : Threading) (A : AreEntries r.original r.listed) (S : IsThreadSound
         claimed_here r A S L.long site h x c ∙ cond-false (is_keeping site.event && is_part Marked x site) _ _ (and_right (is_keeping site.event) (is_part Marked x site) (place_uncounted x site h e site h)),
       )
 
-  -- a thread that comes to a site's trampoline, with its projection at the site, is at the first point
+  -- a thread that comes to a site's trampoline, with its projection at the site, is in front of all steps of its event
   pub come : (site : ThreadSite) → Contains r.sites site → (m : Bytes) (now projected : Thread) → now.rip ≡ site.place → projected.rip ≡ site.entry.addr → now.core ≡ projected.core
       → now.world ≡ projected.world → Phase r S m now projected
-  come site h m now projected here there core world = by_event site.event refl
-    where
-      -- the phase at a point at which the thread has the registers and flags of its projection
-      standing : (point : Point) → (is_inside point ≡ true → has_point site.event site.when point ≡ true) → now.rip ≡ point_at site point → Holds site.when point projected.core now.core
-          → IsDecided site.when point projected.core → HasSaved point projected.core m → has_rax point ≡ false → Phase r S m now projected
-      standing point inside place holds decided saved free = inr (inr (inl (inl (record {
+  come site h m now projected here there core world =
+      let l = (are_lists site.event site.when r.private site.number).len in
+      inr (inr (inl (record {
         site = site;
         listed = h;
-        point = point;
-        inside = inside;
-        here = place;
+        rest = (event_list site.event site.when r.private site.number).steps;
+        here = omega (arith, here, l);
         there = there;
-        core = holds;
-        decided = decided;
         world = world;
-        saved = saved;
-        old = λ e. absurd (false≢true (sym free ∙ e));
-      }))))
-
-      by_event : (o : Option Kind) → site.event ≡ o → Phase r S m now projected
-      by_event (Some (Marks b)) e = standing At0 (λ i. ap (λ (z : Option Kind). has_point z site.when At0) e ∙ point_first b site.when) (omega (arith, here, offset_first site.event site.when)) core tt tt refl
-      by_event (Some (Keeps n)) e = inr (inr (inl (inr (record {
-        site = site;
-        listed = h;
-        slots = n;
-        keeps = e;
-        point = Ring0;
-        inside = refl;
-        here = omega (arith, here);
-        there = there;
-        core = core;
-        world = world;
-        saved = tt;
-        old = inl refl;
-      }))))
-      by_event None e = standing At7 (λ i. absurd (false≢true i)) (omega (arith, here, plain_len site e)) core tt tt refl
+        stands = inl (record { whole = inl refl; core = core });
+      })))
 
   module _ (M : Bytes) (w : Watch) (one : Watched) (f : Fields) (to : Machine)
       (steps : ThreadStepsBy f (machine_of w.mem one.now) to) (R : Ground r S M w.stale w.mem one) (old : is_new r one.now.rip ≡ false) where

@@ -4,7 +4,6 @@ use Rattle.std.proofs.lemmas.Bool.{ltb-true}
 use Rattle.cpu_state.specs.declared.state.Core.{Core}
 use Rattle.cpu_state.specs.declared.world.Entry.{Entry}
 use Rattle.cpu_state.specs.declared.world.Question.{Question}
-use Rattle.cpu_state.specs.Bytes.{lacking}
 use Rattle.cpu_state.specs.Fixed.{IsFixed}
 use Rattle.pun_base.specs.Memory.{Bytes}
 use Rattle.length_decode.specs.Forms.{near_branch}
@@ -43,32 +42,16 @@ use Rattle.relocate_insn.proofs.FixedCode.{next_address, fixed_front}
 use Rattle.relocate_insn.proofs.RelocatedLengths.{copy_length}
 use Rattle.relocate_insn.proofs.PieceSteps.{is_at, next_is, jump_fields, push_fields}
 use Rattle.relocate_insn.proofs.BranchRuns.{branch_insn}
-use Rattle.trampoline.specs.EventLists.{mark_at}
 use Rattle.thread_runs.specs.ThreadCode.{jump_reg, thread_relocated}
-use Rattle.thread_runs.specs.Event.Point.{At0}
 use Rattle.thread_runs.specs.Work.{IsWork}
 use Rattle.thread_runs.specs.Watching.{leads_to}
 use Rattle.thread_runs.specs.Premises.{reads_nothing_of}
-use Rattle.thread_runs.specs.StepLaws.{writes_of, WorkTouches, HoldsSlot, SavesHeld, WorkedCore, LeadsTold, NotLocked}
+use Rattle.thread_runs.specs.StepLaws.{writes_of, WorkTouches, WorkedCore, LeadsTold, NotLocked}
 use Rattle.event_steps.proofs.KnownCodeSteps.{IsKnown, known_fixed, known_told}
-use Rattle.thread_runs.proofs.EventCode.{op_at, fields_at, known_at}
-use Rattle.thread_runs.proofs.ComparisonCode.{slot_place}
-use Rattle.thread_runs.proofs.ThreadEventInstructions.{slot_of, rsp_of}
 use Rattle.thread_runs.proofs.LockInc.{same_thread, thread_insn, not_locked, locked, locked_is, locked_task, xadd_is, xadd_task, Reading, Incs, Adds, Plain, reading}
 use Rattle.event_steps.proofs.ClaimSteps.{exchanging}
 use Rattle.thread_runs.proofs.KnownPieces.{jump_op, known_jump, push_op, known_push}
 use Rattle.thread_runs.proofs.EffectSteps.{rip_low, atomic, has_length, relocated_stands, relocated_low}
-
--- no event changes rsp
-pub holds_slot : HoldsSlot
-holds_slot cs k c d p h = slot_of c d (rsp_of cs k c d h)
-
--- the eight bytes of a thread that could save rax can be written
-pub saves_held : SavesHeld
-unfolding effect
-saves_held b cs p i place' c v w h st =
-    let q = known_told v (fields_at b At0 (mark_at b p i)) (place' + 8) (op_at b At0 (mark_at b p i) (place' + 8)) (known_at b cs p i place' At0 c v refl h) w st in
-    sym (ap (λ z. lacking 2 v.mem z 8) (slot_place v.core ∙ slot_of c v.core (rsp_of cs At0 c v.core h.core))) ∙ q.0.write
 
 -- after the effect step registers and flags are the original's, but for rcx after a SYSCALL
 pub worked_core : WorkedCore

@@ -26,7 +26,7 @@ use Rattle.trampoline.specs.EventLists.{four_at, slots_at}
 use Rattle.event_steps.specs.Interleaved.{AreKept, Meanwhile, Reaches}
 use Rattle.thread_runs.proofs.RestoredRegisters.{past, saves_in_ax, gives_back}
 
-same_head : (s t : EventStep) (ss ts : List EventStep) → s ∷ ss ≡ t ∷ ts → s ≡ t
+pub same_head : (s t : EventStep) (ss ts : List EventStep) → s ∷ ss ≡ t ∷ ts → s ≡ t
 same_head s t ss ts e = cc
 
 -- places of numbers are different

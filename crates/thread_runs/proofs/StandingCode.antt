@@ -17,7 +17,7 @@ use Rattle.start_entries.specs.Standing.{AreEntries}
 use Rattle.image_runs.specs.Listed.{is_start, is_known_start}
 use Rattle.sound_images.proofs.LoadedCode.{stands_fixed, fixed_at}
 use Rattle.sound_images.proofs.RelatedStates.{allowed_some}
-use Rattle.thread_runs.specs.ThreadCode.{Kind, Marks, Keeps, position_at, slot_at, ring_event, thread_event, event_len, event_if, thread_work, code_if}
+use Rattle.thread_runs.specs.ThreadCode.{Kind, Marks, position_at, slot_at, event_len, event_if, thread_work, code_if}
 use Rattle.trampoline.specs.EventLists.{mark_at, mark_len}
 use Rattle.trampoline.specs.Atomic.{thread_len}
 use Rattle.thread_runs.specs.Work.{IsWork}
@@ -80,13 +80,8 @@ module _ (r : Threading) (A : AreEntries r.original r.listed) (S : IsThreadSound
       stands_fixed r.original s.entry.addr (spelling k.fields) (omega (arith, i.low, k.len)) (λ x l g. (i.executed x l (omega (arith, k.len, g))).1) k.stands
 
   -- the event of a site stands at its trampoline's place in each memory that has the patched image's code
-  pub event_stands : (s : ThreadSite) (h : Contains r.sites s) (b : Base) → s.event ≡ Some (Marks b) → (m : Bytes) → SameCode r.patched m → IsFixed m s.place (thread_event b s.when r.private s.number)
-  event_stands s h b e m c = subst (λ (z : Option Kind). IsFixed m s.place (event_if z s.when r.private s.number)) e
-      (fixed_front m s.place (event_if s.event s.when r.private s.number) (thread_work (fields_of s h) (next_of s) (work_at s)) (fixed_on r.patched m s.place (code_if s.event s.when r.private s.number (fields_of s h) (next_of s) s.place) c (S.sites s h).code))
-
-  -- so does that of a site that keeps a ring
-  pub ring_stands : (s : ThreadSite) (h : Contains r.sites s) (n : ℕ) → s.event ≡ Some (Keeps n) → (m : Bytes) → SameCode r.patched m → IsFixed m s.place (ring_event n r.private s.number)
-  ring_stands s h n e m c = subst (λ (z : Option Kind). IsFixed m s.place (event_if z s.when r.private s.number)) e
+  pub event_stands : (s : ThreadSite) (h : Contains r.sites s) (o : Option Kind) → s.event ≡ o → (m : Bytes) → SameCode r.patched m → IsFixed m s.place (event_if o s.when r.private s.number)
+  event_stands s h o e m c = subst (λ (z : Option Kind). IsFixed m s.place (event_if z s.when r.private s.number)) e
       (fixed_front m s.place (event_if s.event s.when r.private s.number) (thread_work (fields_of s h) (next_of s) (work_at s)) (fixed_on r.patched m s.place (code_if s.event s.when r.private s.number (fields_of s h) (next_of s) s.place) c (S.sites s h).code))
 
   -- the trampoline of a site has the event's bytes and those of the relocated code

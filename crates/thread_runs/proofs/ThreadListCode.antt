@@ -21,16 +21,16 @@ compare_is : (r n d : ℕ) (ds : List Datum) → spelling (fields_of (comparing_
 compare_is zero n d ds = refl
 compare_is (suc r) n d ds = refl
 
-compare_size : (r n : ℕ) → size (comparing_step r n) ≡ compare_len r
+pub compare_size : (r n : ℕ) → size (comparing_step r n) ≡ compare_len r
 compare_size zero n = refl
 compare_size (suc r) n = refl
 
-mark_size : (b : Base) → size (marking_step b true 1) ≡ marking_len b
+pub mark_size : (b : Base) → size (marking_step b true 1) ≡ marking_len b
 mark_size base.Cover = refl
 mark_size base.Count = refl
 
 -- comparisons jump over those behind them and the step that marks
-checks_over : (b : Base) (cs : List Comparison) (back : List EventStep) → long (take (2 * length cs + 1) (checks cs ++ (marking_step b true 1 ∷ back))) ≡ checking_len cs + marking_len b
+pub checks_over : (b : Base) (cs : List Comparison) (back : List EventStep) → long (take (2 * length cs + 1) (checks cs ++ (marking_step b true 1 ∷ back))) ≡ checking_len cs + marking_len b
 checks_over b [] back = let q = mark_size b in omega (arith, q)
 checks_over b (c ∷ cs) back =
     let n : 2 * suc (length cs) + 1 ≡ suc (suc (2 * length cs + 1)) = omega arith in

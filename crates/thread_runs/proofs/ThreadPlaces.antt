@@ -13,17 +13,13 @@ use Rattle.cpu_state.specs.declared.state.Core.{Core}
 use Rattle.start_entries.specs.declared.entry.StartEntry.{StartEntry}
 use Rattle.start_entries.specs.Standing.{AreEntries}
 use Rattle.image_runs.specs.Listed.{is_start}
-use Rattle.thread_runs.specs.ThreadCode.{Kind, Marks, Keeps, ring_len, is_saving, saving_event, saving_len, thread_event, event_len, event_if, thread_work, code_if}
+use Rattle.thread_runs.specs.ThreadCode.{Kind, Marks, Keeps, ring_len, is_saving, event_len, event_if, thread_work, code_if}
 use Rattle.thread_runs.specs.Threading.{ThreadSite, Threading, next_of, work_at, is_new, is_site, is_kept, is_keeping, Part, part_from, part_to, is_part, site_if, relocated_at, claims_at, fills_at, claiming_at, is_filling, is_unfilled, in_event, saves, is_code_of, IsThreadSound}
 use Rattle.thread_runs.specs.Threading.Part.{Whole, Save, Saved, Marked, Unfilled}
 use Rattle.thread_runs.specs.Watching.{is_effect, is_there}
 use Rattle.thread_runs.specs.StepLaws.{WorkLong}
 use Rattle.thread_runs.specs.Ring.{ringing_at, claimed_at}
 use Rattle.thread_runs.specs.Theorem.{when_at, further_at}
-use Rattle.thread_runs.specs.Event.{Point, offset, is_inside, has_point, IsDecided}
-use Rattle.thread_runs.specs.Event.Point.{At0, At1, At2, AtCompare, AtJump, At3, At4, At5, At6, At7}
-use Rattle.thread_runs.specs.Relation.{offset_if, point_at, has_rax}
-use Rattle.thread_runs.proofs.EventCode.{insn_some, ends_low}
 use Rattle.thread_runs.proofs.ThreadTrampolines.{event_long}
 use Rattle.patch_report.proofs.ListPlaces.{found, any_at, contains_at, place_of, some_is}
 use Rattle.sound_images.proofs.RelatedStates.{allowed_some}
@@ -191,117 +187,6 @@ pub mark_some : (e : Option Kind) (cs : List Comparison) (k : Kind) → e ≡ So
 mark_some (Some d) cs k h = omega arith
 mark_some None cs k h = absurd cc
 
--- an event that saves rax has the bytes that it is said
-pub saving_size : (b : Base) (cs : List Comparison) → is_saving (Some (Marks b)) cs ≡ true → event_len (Some (Marks b)) cs ≡ saving_len b cs
-saving_size Cover [] h = absurd (false≢true h)
-saving_size Cover (c ∷ cs) h = refl
-saving_size Count cs h = refl
-
--- and its instructions
-pub saving_code_is : (b : Base) (cs : List Comparison) (p i : ℕ) → is_saving (Some (Marks b)) cs ≡ true → thread_event b cs p i ≡ saving_event b cs p i
-saving_code_is Cover [] p i h = absurd (false≢true h)
-saving_code_is Cover (c ∷ cs) p i h = refl
-saving_code_is Count cs p i h = refl
-
--- what is after its mark begins at the fourth point of those that it always has
-pub saving_mark : (b : Base) (cs : List Comparison) → is_saving (Some (Marks b)) cs ≡ true → part_from Marked (Some (Marks b)) cs ≡ offset b cs At4
-saving_mark Cover [] h = absurd (false≢true h)
-saving_mark Cover (c ∷ cs) h = refl
-saving_mark Count cs h = refl
-
--- it has each point
-pub saving_points : (b : Base) (cs : List Comparison) (k : Point) → is_saving (Some (Marks b)) cs ≡ true → has_point (Some (Marks b)) cs k ≡ is_inside k
-saving_points Cover [] k h = absurd (false≢true h)
-saving_points Cover (c ∷ cs) k h = refl
-saving_points Count cs k h = refl
-
--- an event that doesn't save rax, though there is one, covers under no condition
-pub store_alone : (b : Base) (cs : List Comparison) → is_saving (Some (Marks b)) cs ≡ false → (b ≡ Cover) × (cs ≡ [])
-store_alone Cover [] h = (refl, refl)
-store_alone Cover (c ∷ cs) h = absurd (true≢false h)
-store_alone Count cs h = absurd (true≢false h)
-
--- the event of a site that saves rax has the bytes that it is said
-pub counted_len : (s : ThreadSite) (b : Base) → s.event ≡ Some (Marks b) → is_saving s.event s.when ≡ true → event_len s.event s.when ≡ saving_len b s.when
-counted_len s b e h = ap (λ o. event_len o s.when) e ∙ saving_size b s.when (sym (ap (λ o. is_saving o s.when) e) ∙ h)
-
--- a site without an event has no code before its relocated code
-pub plain_len : (s : ThreadSite) → s.event ≡ None → event_len s.event s.when ≡ 0
-plain_len s e = ap (λ o. event_len o s.when) e
-
--- a point inside the event lies as many bytes after the place as it is said
-pub point_inside : (s : ThreadSite) (k : Point) → is_inside k ≡ true → point_at s k ≡ s.place + offset_if s.event s.when k
-point_inside s k i = cond-true (is_inside k) (s.place + offset_if s.event s.when k) (work_at s) i
-
--- so does each point of a site whose event saves rax
-pub point_counted : (s : ThreadSite) (b : Base) (k : Point) → s.event ≡ Some (Marks b) → is_saving s.event s.when ≡ true → point_at s k ≡ s.place + offset b s.when k
-point_counted s b At7 e h = ap (λ z. s.place + z) (counted_len s b e h)
-point_counted s b At0 e h = ap (λ o. s.place + offset_if o s.when At0) e
-point_counted s b At1 e h = ap (λ o. s.place + offset_if o s.when At1) e
-point_counted s b At2 e h = ap (λ o. s.place + offset_if o s.when At2) e
-point_counted s b (AtCompare ds k es) e h = ap (λ o. s.place + offset_if o s.when (AtCompare ds k es)) e
-point_counted s b (AtJump ds k es) e h = ap (λ o. s.place + offset_if o s.when (AtJump ds k es)) e
-point_counted s b At3 e h = ap (λ o. s.place + offset_if o s.when At3) e
-point_counted s b At4 e h = ap (λ o. s.place + offset_if o s.when At4) e
-point_counted s b At5 e h = ap (λ o. s.place + offset_if o s.when At5) e
-point_counted s b At6 e h = ap (λ o. s.place + offset_if o s.when At6) e
-
--- each point inside an event that saves rax lies in it
-pub inside_low : (b : Base) (cs : List Comparison) (k : Point) (c : Core) → is_inside k ≡ true → IsDecided cs k c → offset b cs k < saving_len b cs
-inside_low b cs k c i d = let n = ends_low b cs k c i d in let m = insn_some b k in omega (arith, n, m)
-
--- past its first point only an event that saves rax has points
-pub point_saving : (e : Option Kind) (cs : List Comparison) (k : Point) → has_point e cs k ≡ true → has_rax k ≡ true → is_saving e cs ≡ true
-point_saving None cs k h n = absurd (false≢true h)
-point_saving (Some (Keeps m)) cs k h n = absurd (false≢true h)
-point_saving (Some (Marks Cover)) [] At0 h n = absurd (false≢true n)
-point_saving (Some (Marks Cover)) [] k h n = absurd (false≢true h)
-point_saving (Some (Marks Cover)) (c ∷ cs) k h n = refl
-point_saving (Some (Marks Count)) cs k h n = refl
-
--- each of them lies after the first byte
-rax_late : (b : Base) (cs : List Comparison) (k : Point) → has_rax k ≡ true → 0 < offset b cs k
-rax_late b cs At0 h = absurd (false≢true h)
-rax_late b cs At7 h = absurd (false≢true h)
-rax_late b cs At1 h = omega arith
-rax_late b cs k h = omega arith
-
--- and so between the save of rax and its restore
-pub point_saved : (e : Option Kind) (cs : List Comparison) (k : Point) (c : Core) → has_point e cs k ≡ true → has_rax k ≡ true → IsDecided cs k c
-    → (part_from Saved e cs ≤ offset_if e cs k) × (offset_if e cs k < part_to Saved e cs)
-point_saved None cs k c h n d = absurd (false≢true h)
-point_saved (Some (Keeps m)) cs k c h n d = absurd (false≢true h)
-point_saved (Some (Marks Cover)) [] At0 c h n d = absurd (false≢true n)
-point_saved (Some (Marks Cover)) [] k c h n d = absurd (false≢true h)
-point_saved (Some (Marks Cover)) (x ∷ xs) k c h n d = (rax_late Cover (x ∷ xs) k n, inside_low Cover (x ∷ xs) k c h d)
-point_saved (Some (Marks Count)) cs k c h n d = (rax_late Count cs k n, inside_low Count cs k c h d)
-
--- a point that an event has lies in its code
-pub point_low : (e : Option Kind) (cs : List Comparison) (k : Point) (c : Core) → has_point e cs k ≡ true → IsDecided cs k c → offset_if e cs k < event_len e cs
-point_low None cs k c h d = absurd (false≢true h)
-point_low (Some (Keeps m)) cs k c h d = absurd (false≢true h)
-point_low (Some (Marks Cover)) [] At0 c h d = omega arith
-point_low (Some (Marks Cover)) [] k c h d = absurd (false≢true h)
-point_low (Some (Marks Cover)) (x ∷ xs) k c h d = inside_low Cover (x ∷ xs) k c h d
-point_low (Some (Marks Count)) cs k c h d = inside_low Count cs k c h d
-
--- which is its first byte
-pub offset_first : (e : Option Kind) (cs : List Comparison) → offset_if e cs At0 ≡ 0
-offset_first None cs = refl
-offset_first (Some (Marks b)) cs = refl
-offset_first (Some (Keeps n)) cs = refl
-
--- an event that covers by one store has no other
-pub store_first : (k : Point) → has_point (Some (Marks Cover)) [] k ≡ true → k ≡ At0
-store_first At0 h = refl
-store_first k h = absurd (false≢true h)
-
--- each event has a first point
-pub point_first : (b : Base) (cs : List Comparison) → has_point (Some (Marks b)) cs At0 ≡ true
-point_first Cover [] = refl
-point_first Cover (c ∷ cs) = refl
-point_first Count cs = refl
-
 -- an address from the relocated code on is in no part of the event that ends with it
 pub part_past : (p : Part) (x : ℕ) (s : ThreadSite) → part_to p s.event s.when ≤ event_len s.event s.when → work_at s ≤ x → is_part p x s ≡ false
 part_past p x s b h = part_high p x s (omega (arith, b, h))
@@ -339,15 +224,6 @@ module _ (r : Threading) (A : AreEntries r.original r.listed) (S : IsThreadSound
   -- the first address of a site's relocated code is one of its code
   pub work_in : (s : ThreadSite) (h : Contains r.sites s) (x : ℕ) → x ≡ work_at s → is_code_of r s (S.sites s h) x
   work_in s h x e = (omega (arith, e), omega (arith, e, longer s h))
-
-  -- each point of a site's trampoline is one of its code
-  pub point_in : (s : ThreadSite) (h : Contains r.sites s) (p : Point) (c : Core) (x : ℕ) → (is_inside p ≡ true → has_point s.event s.when p ≡ true) → IsDecided s.when p c → x ≡ point_at s p
-      → is_code_of r s (S.sites s h) x
-  point_in s h p c x has d e = by_test (is_inside p) refl
-    where
-      by_test : (b : Bool) → is_inside p ≡ b → is_code_of r s (S.sites s h) x
-      by_test true i = let l = point_low s.event s.when p c (has i) d in let z = e ∙ point_inside s p i in in_code s h x (omega (arith, z)) (omega (arith, z, l))
-      by_test false i = work_in s h x (e ∙ cond-false (is_inside p) (s.place + offset_if s.event s.when p) (work_at s) i)
 
   -- each address of a site's code is new
   pub code_new : (s : ThreadSite) (h : Contains r.sites s) (x : ℕ) → is_code_of r s (S.sites s h) x → is_new r x ≡ true

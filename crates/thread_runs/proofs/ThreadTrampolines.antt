@@ -24,7 +24,6 @@ use Rattle.trampoline.proofs.TrampolineBytes.{back_long}
 use Rattle.thread_runs.specs.ThreadCode.{Kind, Marks, Keeps, thread_relocated, call_reg_code, thread_event, checking_len, restoring_code, marking_code, marking_len, checking_code, saving_event, saving_len, event_len, event_if}
 use Rattle.thread_runs.specs.Building.{call_register, some_register, work_by, when_of, size_if}
 use Rattle.thread_runs.proofs.ComparisonCode.{checking_few, checking_long}
-use Rattle.thread_runs.proofs.EventCode.{mark_bytes}
 use Rattle.thread_runs.proofs.WorkSize.{call_long}
 
 -- the code after an event, as it is written, is the work of the definition
@@ -72,6 +71,11 @@ work_long b cs (Exact (Call (Rel z))) len addr next to r work goes h g d = let q
 work_long b cs (Exact op) len addr next to r work goes h g d = let q : r ≡ None = cc in plain b cs (Exact op) len addr next to r work goes q g d
 work_long b cs (Asked form) len addr next to r work goes h g d = let q : r ≡ None = cc in plain b cs (Asked form) len addr next to r work goes q g d
 work_long b cs Ending len addr next to r work goes h g d = let q : r ≡ None = cc in plain b cs Ending len addr next to r work goes q g d
+
+-- the instruction that marks has as many bytes as it is said
+mark_bytes : (b : Base) (p i : ℕ) → length (marking_code b p i) ≡ marking_len b
+mark_bytes Cover p i = refl
+mark_bytes Count p i = refl
 
 -- an event that saves rax has as many bytes as it is said
 saving_long : (b : Base) (cs : List Comparison) (p i : ℕ) → length (saving_event b cs p i) ≡ saving_len b cs

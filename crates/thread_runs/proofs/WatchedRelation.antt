@@ -24,7 +24,7 @@ use Rattle.thread_runs.specs.Threading.{ThreadSite, Threading, next_of, work_at,
 use Rattle.thread_runs.specs.Watching.{Watched, Claim, Fill, Watch, last_claim, is_effect, projection, stale_after}
 use Rattle.thread_runs.specs.Ring.{claimed_by, ringing_at, kept_by, claimed_at, last_fill, shown_by, is_filled, IsBetween}
 use Rattle.thread_runs.specs.Theorem.{is_recorded, has_marked}
-use Rattle.thread_runs.specs.Relation.{Outside, AtSecond, AtEvent, AtRing}
+use Rattle.thread_runs.specs.Relation.{Outside, AtSecond, AtEvent}
 
 -- fills in their order, each of a claim that was made before it, of so many claims in all
 abbrev pub AreSorted : ℕ → List Fill → Type 0
@@ -42,7 +42,7 @@ pub record OnWay (r : Threading) (S : IsThreadSound r) (m : Bytes) (now projecte
 
 -- where a thread stands: outside and as its projection, at a second jump, in an event or at the relocated code, or after its effect step
 abbrev pub Phase : (r : Threading) → IsThreadSound r → Bytes → Thread → Thread → Type 0
-Phase r S m now projected = Outside r now projected ⊎ AtSecond r now projected ⊎ (AtEvent r m now projected ⊎ AtRing r m now projected) ⊎ OnWay r S m now projected
+Phase r S m now projected = Outside r now projected ⊎ AtSecond r now projected ⊎ AtEvent r m now projected ⊎ OnWay r S m now projected
 
 -- what each step keeps of one thread: its projection is a processor's state at a listed start, and it stands in one of the phases
 pub record ThreadKept (r : Threading) (S : IsThreadSound r) (m : Bytes) (one : Watched) : Type 0 where

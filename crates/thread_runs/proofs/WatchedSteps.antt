@@ -15,14 +15,12 @@ use Rattle.start_entries.specs.declared.entry.StartEntry.{StartEntry}
 use Rattle.start_entries.specs.Standing.{AreEntries}
 use Rattle.image_runs.specs.Listed.{is_start, is_listed_byte}
 use Rattle.thread_runs.specs.Guest.{Thread, Guest, machine_of, thread_of}
-use Rattle.thread_runs.specs.ThreadCode.{Kind, Marks, Keeps, position_at, slot_at, ring_len, is_saving, slot, saved_from, saved_len}
+use Rattle.thread_runs.specs.ThreadCode.{Marks, Keeps, position_at, slot_at, ring_len}
 use Rattle.trampoline.specs.EventLists.{mark_at, mark_len}
-use Rattle.thread_runs.specs.Event.{Point, is_inside, has_point, Holds, IsDecided, HasSaved}
-use Rattle.thread_runs.specs.Event.Point.{At0, At7}
 use Rattle.thread_runs.specs.Threading.{ThreadSite, Threading, next_of, work_at, is_new, is_hidden, is_site, is_kept, relocated_at, is_code_of, IsThreadSound}
 use Rattle.thread_runs.specs.Watching.{Watched, Claim, Watch, watch_of, projection, stale_after, watched_after, Watches}
 use Rattle.thread_runs.specs.Premises.{StandAtStarts, IsProper}
-use Rattle.thread_runs.specs.Relation.{offset_if, has_rax, point_at, Outside, AtSecond, AtEvent, AtRing, BehindEffect, IsBeside}
+use Rattle.thread_runs.specs.Relation.{Outside, AtSecond, AtEvent, BehindEffect, IsBeside}
 use Rattle.thread_runs.specs.Theorem.{AreStartGuests, is_recorded, has_marked, AreCounted, AreCovered}
 use Rattle.thread_runs.specs.Ring.{AreKept}
 use Rattle.thread_runs.specs.GuestDeliveries.{GuestItem}
@@ -33,13 +31,13 @@ use Rattle.patch_report.proofs.ListPlaces.{any_at, place_of, some_is, all_in, al
 use Rattle.sound_images.proofs.RelatedStates.{allowed_some}
 use Rattle.sound_images.proofs.StartPairs.{held_first}
 use Rattle.thread_runs.proofs.ListUpdates.{set_here}
-use Rattle.thread_runs.proofs.ThreadPlaces.{point_counted, store_alone, store_first, offset_first, any_none, effect_kept, effect_there, kept_not, site_here, work_in, point_in, start_old, code_unlisted, ring_in, old_unclaimed}
+use Rattle.thread_runs.proofs.ThreadPlaces.{any_none, effect_kept, effect_there, kept_not, site_here, work_in, start_old, code_unlisted, ring_in, old_unclaimed}
 use Rattle.thread_runs.proofs.KeptRelation.{kept_by}
 use Rattle.thread_runs.proofs.StandingCode.{fields_of, code_length, work_stands}
 use Rattle.thread_runs.proofs.OutsideSteps.{made_kept, made_displaced, made_second, uncounted, start_uncounted}
-use Rattle.thread_runs.proofs.ThreadEventSteps.{made_event, made_cover}
-use Rattle.thread_runs.proofs.ThreadRingSteps.{made_ring}
-use Rattle.thread_runs.proofs.RingCode.{ring_low}
+use Rattle.event_steps.specs.declared.step.EventStep.{EventStep}
+use Rattle.thread_runs.proofs.SiteStands.{stands_code, stands_done, stands_in, stands_free}
+use Rattle.thread_runs.proofs.MadeEvents.{made_event}
 use Rattle.thread_runs.proofs.RingLaw.{ring_shown, ring_after}
 use Rattle.thread_runs.proofs.DisplacedSteps.{made_tail, reads_too, at_work, effect_told, made_effect}
 use Rattle.thread_runs.proofs.WatchedRelation.{OnWay, Phase, ThreadKept, HasRoom, shown_after, Ground, Related, base_of, Made}
@@ -133,7 +131,7 @@ module _ (r : Threading) (A : AreEntries r.original r.listed) (S : IsThreadSound
           (k, set_here w.threads k m.one (record { now = thread_of m.to; projected = projection r m.one w.mem m.to }) m.there)
 
       done : (m' : Bytes) → Made r S (stale_after r w.stale m.one m.fields (machine_of w.mem m.one.now)) R.end.mem m' m.one w.mem m.to → Related r S a (made_after r k m.one made) (watched_after r k w m.one m.fields m.to)
-      done m' M = kept_by r S L.slots L.ring_slots a made w k m.one m.there m.fields m.to m.steps R m' P.apart
+      done m' M = kept_by r S a made w k m.one m.there m.fields m.to m.steps R m' P.apart
           (λ n e. ring_after r A S L.long n k w m.one m.fields m.to m.there (S.ring n e).size (R.rings n e) (M.ring n e)) stand M
 
       outside : Outside r m.one.now m.one.projected → (b : Bool) → is_site r m.one.now.rip ≡ b → Related r S a (made_after r k m.one made) (watched_after r k w m.one m.fields m.to)
@@ -143,45 +141,24 @@ module _ (r : Threading) (A : AreEntries r.original r.listed) (S : IsThreadSound
           let q = made_kept r A S L R.end.mem w m.one m.fields m.to m.steps B (start_old r A S L.long m.one.now.rip o.start) o is (P.quiet (effect_kept r A S L.long m.one.now.rip is)) P.fresh stand in
           done q.0 q.1
 
-      event : (site : ThreadSite) → Contains r.sites site → (p : Point) → has_point site.event site.when p ≡ true → is_inside p ≡ true → m.one.now.rip ≡ point_at site p → m.one.projected.rip ≡ site.entry.addr
-          → Holds site.when p m.one.projected.core m.one.now.core → IsDecided site.when p m.one.projected.core → m.one.now.world ≡ m.one.projected.world → HasSaved p m.one.projected.core w.mem
-          → (has_rax p ≡ true → avoids (is_new r) (slot m.one.projected.core) 8 ≡ true) → Related r S a (made_after r k m.one made) (watched_after r k w m.one m.fields m.to)
-      event site listed p h i e at core decided world saved old = by_event site.event (is_saving site.event site.when) refl refl
-        where
-          by_event : (o : Option Kind) (s : Bool) → site.event ≡ o → is_saving site.event site.when ≡ s → Related r S a (made_after r k m.one made) (watched_after r k w m.one m.fields m.to)
-          by_event None s is z = absurd (false≢true (sym (ap (λ o. has_point o site.when p) is) ∙ h))
-          by_event (Some (Keeps n)) s is z = absurd (false≢true (sym (ap (λ o. has_point o site.when p) is) ∙ h))
-          by_event (Some (Marks b)) true is z =
-              done R.end.mem (made_event r A S L R.end.mem w m.one m.fields m.to m.steps B site listed
-              (λ s. ap (λ o. avoids (is_new r) (saved_from o m.one.now.core) (saved_len o)) (sym (S.rings site listed (Marks b) is)) ∙ P.saved s) b is z p i (e ∙ point_counted site b p is z) at core decided world saved old)
-          by_event (Some (Marks b)) false is z =
-              let q = store_alone b site.when (sym (ap (λ o. is_saving o site.when) is) ∙ z) in
-              let covers : site.event ≡ Some (Marks Cover) = is ∙ ap (λ d. Some (Marks d)) q.0 in
-              let first : p ≡ At0 = store_first p (sym (ap₂ (λ o l. has_point o l p) covers q.1) ∙ h) in
-              let here : m.one.now.rip ≡ site.place + offset_if site.event site.when At0 = e ∙ ap (point_at site) first in
-              done R.end.mem (made_cover r A S L R.end.mem w m.one m.fields m.to m.steps B site listed covers q.1 (omega (arith, here, offset_first site.event site.when)) at
-              (subst (λ (z : Point). Holds site.when z m.one.projected.core m.one.now.core) first core) world)
-
-      by_point : (site : ThreadSite) → Contains r.sites site → (p : Point) → (is_inside p ≡ true → has_point site.event site.when p ≡ true) → m.one.now.rip ≡ point_at site p → m.one.projected.rip ≡ site.entry.addr
-          → Holds site.when p m.one.projected.core m.one.now.core → IsDecided site.when p m.one.projected.core → m.one.now.world ≡ m.one.projected.world → HasSaved p m.one.projected.core w.mem
-          → (has_rax p ≡ true → avoids (is_new r) (slot m.one.projected.core) 8 ≡ true) → Related r S a (made_after r k m.one made) (watched_after r k w m.one m.fields m.to)
-      by_point site listed At7 c e at core decided world saved old =
-          let c = work_in r A S L.long site listed m.one.now.rip e in
-          let calm = kept_not r A S L.long site listed m.one.now.rip c in
-          let eff = effect_there r A S L.long m.one.now.rip site calm (ap (relocated_at r.sites) e ∙ site_here r A S L.long site listed) in
-          let reads = reads_too r A S L site listed R.end.mem w m.one m.fields m.to m.steps B e at core world P.fresh in
-          let work = at_work r A S L site listed R.end.mem w m.one B e at core world reads (P.quiet eff) in
-          let T = effect_told r A S L site listed R.end.mem w m.one m.fields m.to m.steps B e at work in
-          let q = made_effect r A S L site listed R.end.mem w m.one m.fields m.to m.steps B e at T stand in
-          done q.0 q.1
-      by_point site listed p c e at core decided world saved old = event site listed p (c refl) refl e at core decided world saved old
+      event : (q : AtEvent r w.mem m.one.now m.one.projected) (rest : List EventStep) → q.rest ≡ rest → Related r S a (made_after r k m.one made) (watched_after r k w m.one m.fields m.to)
+      event q [] e =
+          let d = stands_done r A S L.long w.mem m.one.now m.one.projected q L.restores kept.processor e in
+          let c = work_in r A S L.long q.site q.listed m.one.now.rip d.0 in
+          let calm = kept_not r A S L.long q.site q.listed m.one.now.rip c in
+          let eff = effect_there r A S L.long m.one.now.rip q.site calm (ap (relocated_at r.sites) d.0 ∙ site_here r A S L.long q.site q.listed) in
+          let reads = reads_too r A S L q.site q.listed R.end.mem w m.one m.fields m.to m.steps B d.0 q.there d.1 q.world P.fresh in
+          let work = at_work r A S L q.site q.listed R.end.mem w m.one B d.0 q.there d.1 q.world reads (P.quiet eff) in
+          let T = effect_told r A S L q.site q.listed R.end.mem w m.one m.fields m.to m.steps B d.0 q.there work in
+          let z = made_effect r A S L q.site q.listed R.end.mem w m.one m.fields m.to m.steps B d.0 q.there T stand in
+          done z.0 z.1
+      event q (s ∷ rest) e = done R.end.mem (made_event r A S L R.end.mem w m.one m.fields m.to m.steps B q.site q.listed s rest
+          (stands_in r A S L.long w.mem m.one.now m.one.projected q L.comes R.other s rest e) (stands_free r A S L.long w.mem m.one.now m.one.projected q s rest e P.saved) q.there q.world)
 
       by_phase : Phase r S w.mem m.one.now m.one.projected → Related r S a (made_after r k m.one made) (watched_after r k w m.one m.fields m.to)
       by_phase (inl o) = outside o (is_site r m.one.now.rip) refl
       by_phase (inr (inl q)) = done R.end.mem (made_second r A S L R.end.mem w m.one m.fields m.to m.steps B (second_old m.one.now m.one.projected q) q)
-      by_phase (inr (inr (inl (inr q)))) =
-          done R.end.mem (made_ring r A S L R.end.mem w m.one m.fields m.to m.steps B q.site q.listed q.slots q.keeps q.point q.inside q.here q.there q.core q.world q.saved P.saved q.old)
-      by_phase (inr (inr (inl (inl q)))) = by_point q.site q.listed q.point q.inside q.here q.there q.core q.decided q.world q.saved q.old
+      by_phase (inr (inr (inl q))) = event q q.rest refl
       by_phase (inr (inr (inr q))) = done R.end.mem (made_tail r A S L q.site q.listed R.end.mem w m.one m.fields m.to m.steps B q.tail q.more q.there q.world)
 
   -- what the relation shows. A thread on its way out is in the code: told in the original's memory, where the code stands
@@ -195,16 +172,11 @@ module _ (r : Threading) (A : AreEntries r.original r.listed) (S : IsThreadSound
   pub phase_outside : (m : Bytes) (now projected : Thread) → SameCode r.patched m → Phase r S m now projected → is_start r.listed now.rip ≡ true → now ≡ projected
   phase_outside m now projected c (inl o) h = o.same
   phase_outside m now projected c (inr (inl q)) h = absurd (true≢false (sym h ∙ ap (is_start r.listed) q.here ∙ q.jumps.unlisted))
-  phase_outside m now projected c (inr (inr (inl (inr q)))) h =
-      let e = q.here in
-      let l = ring_low q.point in
-      absurd (true≢false (sym h ∙ code_unlisted r A S L.long q.site q.listed now.rip (ring_in r A S L.long q.site q.listed q.slots now.rip q.keeps (omega (arith, e)) (omega (arith, e, l)))))
-  phase_outside m now projected c (inr (inr (inl (inl q)))) h = absurd (true≢false (sym h ∙ code_unlisted r A S L.long q.site q.listed now.rip
-      (point_in r A S L.long q.site q.listed q.point projected.core now.rip q.inside q.decided q.here)))
+  phase_outside m now projected c (inr (inr (inl q))) h = absurd (true≢false (sym h ∙ code_unlisted r A S L.long q.site q.listed now.rip (stands_code r A S L.long m now projected q)))
   phase_outside m now projected c (inr (inr (inr q))) h = absurd (true≢false (sym h ∙ code_unlisted r A S L.long q.site q.listed now.rip (way_inside m now projected c q)))
 
   -- where a thread stands beside its projection
-  beside_at : (m : Bytes) (now projected : Thread) → Phase r S m now projected → Outside r now projected ⊎ AtSecond r now projected ⊎ (AtEvent r m now projected ⊎ AtRing r m now projected) ⊎ BehindEffect r m now projected
+  beside_at : (m : Bytes) (now projected : Thread) → Phase r S m now projected → Outside r now projected ⊎ AtSecond r now projected ⊎ AtEvent r m now projected ⊎ BehindEffect r m now projected
   beside_at m now projected (inl o) = inl o
   beside_at m now projected (inr (inl q)) = inr (inl q)
   beside_at m now projected (inr (inr (inl e))) = inr (inr (inl e))

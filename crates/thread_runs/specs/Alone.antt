@@ -1,17 +1,26 @@
 -- The event that counts under no condition, of a thread that runs alone: what it needs, and what it leaves. Theorems cite it.
-use Rattle.std.specs.Prelude.{◌≡◌, ℕ, ◌+◌, ◌%◌, ◌^◌, ◌<◌, ◌≤◌, true, false, List, [], length}
+use Rattle.std.specs.Prelude.{◌≡◌, ℕ, ◌+◌, ◌%◌, ◌^◌, ◌<◌, ◌≤◌, true, false, List, [], length, None}
+use Rattle.pun_base.specs.Memory.{Bytes}
+use Rattle.pun_base.specs.declared.action.Base.{Base}
 use Rattle.pun_base.specs.declared.action.Base.TheVariants.{Count}
-use Rattle.cpu_state.specs.Bytes.{number_at}
+use Rattle.cpu_state.specs.declared.state.Core.{Core}
+use Rattle.cpu_state.specs.Bytes.{lacking, number_at}
 use Rattle.cpu_state.specs.Fixed.{IsFixed}
 use Rattle.cpu_state.specs.Processor.{IsProcessorCore}
 use Rattle.insn_form.specs.Machine.{Machine}
 use Rattle.insn_form.specs.Runs.{IsPath, last_of}
 use Rattle.event_steps.specs.ThreadSteps.{ThreadStep}
-use Rattle.trampoline.specs.EventLists.{counter_at}
-use Rattle.thread_runs.specs.ThreadCode.{thread_event}
-use Rattle.thread_runs.specs.Event.{CanMark}
+use Rattle.trampoline.specs.EventLists.{counter_at, mark_at, mark_len}
+use Rattle.thread_runs.specs.ThreadCode.{thread_event, slot}
 use Rattle.event_steps.specs.DoneSteps.{is_one_of}
 use Rattle.thread_runs.specs.Threading.{is_saved}
+
+-- the bytes that an event uses can be read and written
+pub record CanMark (b : Base) (p i : ℕ) (c : Core) (m : Bytes) : Type 0 where
+  pub slot_read : lacking 4 m (slot c) 8 ≡ None
+  pub slot_written : lacking 2 m (slot c) 8 ≡ None
+  pub mark_read : lacking 4 m (mark_at b p i) (mark_len b) ≡ None
+  pub mark_written : lacking 2 m (mark_at b p i) (mark_len b) ≡ None
 
 -- a thread stands at the event of site i, which counts; the eight bytes in which rax is saved and those of the counter can be read and written, and lie apart
 pub record CanCountAlone (p i place : ℕ) (s : Machine) : Type 0 where

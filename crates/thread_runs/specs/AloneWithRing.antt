@@ -1,15 +1,23 @@
 -- The event that keeps a ring, of a thread that runs alone: what it needs, and what it leaves. Theorems cite it.
-use Rattle.std.specs.Prelude.{◌≡◌, ℕ, ◌+◌, ◌%◌, ◌^◌, ◌<◌, ◌≤◌, true, false, List, length}
+use Rattle.std.specs.Prelude.{◌≡◌, ℕ, ◌+◌, ◌%◌, ◌^◌, ◌<◌, ◌≤◌, true, false, List, length, None}
 use Rattle.pun_base.specs.Memory.{Bytes}
-use Rattle.cpu_state.specs.Bytes.{number_at}
+use Rattle.cpu_state.specs.declared.state.Core.{Core}
+use Rattle.cpu_state.specs.Bytes.{lacking, number_at}
 use Rattle.cpu_state.specs.Fixed.{IsFixed}
 use Rattle.cpu_state.specs.Processor.{IsProcessorCore}
 use Rattle.insn_form.specs.Machine.{Machine}
 use Rattle.insn_form.specs.Runs.{IsPath, last_of}
 use Rattle.event_steps.specs.ThreadSteps.{ThreadStep}
 use Rattle.thread_runs.specs.ThreadCode.{ring_event, ring_len, is_ring_length, position_at, slot_at, flag_slot}
-use Rattle.thread_runs.specs.RingEvent.{CanKeep}
 use Rattle.event_steps.specs.DoneSteps.{is_one_of}
+
+-- the bytes that an event with a ring of n slots uses can be read and written
+pub record CanKeep (n p : ℕ) (c : Core) (m : Bytes) : Type 0 where
+  pub saved_read : lacking 4 m (flag_slot c) 16 ≡ None
+  pub saved_written : lacking 2 m (flag_slot c) 16 ≡ None
+  pub position_read : lacking 4 m (position_at p) 4 ≡ None
+  pub position_written : lacking 2 m (position_at p) 4 ≡ None
+  pub slots_written : (j : ℕ) → j < n → lacking 2 m (slot_at p j) 4 ≡ None
 
 -- a thread stands at the event of site i, which keeps a ring of n slots; the bytes that the event uses can be read and written, and the
 -- sixteen in which rax and the flags are saved are none of the position and of the slots

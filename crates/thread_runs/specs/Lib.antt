@@ -1,11 +1,11 @@
 pub mod ThreadCode
 pub mod Building
 pub mod Event
-pub mod RingEvent
 pub mod Work
 pub mod Guest
 pub mod Threading
 pub mod ThreadLists
+pub mod SiteEvents
 pub mod Watching
 pub mod Premises
 pub mod Alone

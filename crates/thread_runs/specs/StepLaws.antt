@@ -1,11 +1,7 @@
 -- The facts of single steps on which the theorem on guest threads rests. Theorems cite it.
-use Rattle.std.specs.Prelude.{◌≡◌, ◌⊎◌, ℕ, ◌+◌, ◌<◌, Bool, true, false, if◌then◌else◌, List, length, Some, None, Ok}
-use Rattle.pun_base.specs.declared.action.Base.{Base}
-use Rattle.pun_base.specs.declared.action.Comparison.{Comparison}
+use Rattle.std.specs.Prelude.{◌≡◌, ◌⊎◌, ℕ, ◌+◌, ◌<◌, Bool, true, false, if◌then◌else◌, length, Some, Ok}
 use Rattle.length_decode.specs.Spelling.{Fields, IsInstruction, spelling}
 use Rattle.cpu_state.specs.declared.state.Core.{Core}
-use Rattle.cpu_state.specs.Bytes.{lacking}
-use Rattle.cpu_state.specs.Processor.{IsProcessorCore}
 use Rattle.insn_form.specs.Instruction.{insn_of}
 use Rattle.insn_form.specs.declared.form.Op.{Op}
 use Rattle.insn_form.specs.declared.form.Insn.TheVariants.{Exact}
@@ -17,12 +13,9 @@ use Rattle.insn_form.specs.Step.{IsAt, next_after}
 use Rattle.insn_form.specs.Touched.{reads_none, writes_none}
 use Rattle.event_steps.specs.ThreadSteps.{is_locked_inc, is_locked_xadd, thread_task, acting, thread_act, ThreadStepsBy, ThreadStep}
 use Rattle.insn_form.specs.Alike.{IsAlike, GoesAlike, writes_at, still}
-use Rattle.thread_runs.specs.ThreadCode.{thread_work, slot, flag_slot}
+use Rattle.thread_runs.specs.ThreadCode.{thread_work}
 use Rattle.trampoline.specs.Atomic.{thread_len}
-use Rattle.thread_runs.specs.Event.{Point, Holds, InEvent, IsEventStep, EventGoes, IsSavedBack, IsCoverStep, CoverGoes}
-use Rattle.thread_runs.specs.Event.Point.{At0}
-use Rattle.thread_runs.specs.RingEvent.{RingPoint, RingHolds, InRing, IsRingStep, RingGoes, AreSavedBack}
-use Rattle.thread_runs.specs.RingEvent.RingPoint.{Ring0, Ring3}
+use Rattle.thread_runs.specs.SiteEvents.{SiteComesIn, SiteGoesOn, SiteCanGoOn, SiteRestores, SiteMarks, SiteWrites}
 use Rattle.thread_runs.specs.Work.{Tail, left, is_syscall, InTail, IsWork, AtWork, Worked, IsEffectStep, IsTailStep}
 use Rattle.thread_runs.specs.Watching.{leads_to}
 use Rattle.thread_runs.specs.Premises.{reads_nothing_of}
@@ -61,23 +54,6 @@ IsAlikeActing = (hidden stale : ℕ → Bool) (x : Bool) (t : Task) (next next' 
     → ((s' : Machine) → acting x t next s ≡ Ok s' → (u' : Machine) × (acting x t next' u ≡ Ok u') × GoesAlike hidden (still stale (writes_at t next s)) t.insn next next' s' u')
     × ((u' : Machine) → acting x t next' u ≡ Ok u' → (s' : Machine) × (acting x t next s ≡ Ok s') × GoesAlike hidden (still stale (writes_at t next s)) t.insn next next' s' u')
 
--- no event changes rsp
-abbrev pub HoldsSlot : Type 0
-HoldsSlot = (cs : List Comparison) (k : Point) (c d : Core) → IsProcessorCore c → Holds cs k c d → slot d ≡ slot c
-
--- nor does one that keeps a ring
-abbrev pub HoldsSlots : Type 0
-HoldsSlots = (n : ℕ) (k : RingPoint) (c d : Core) → IsProcessorCore c → RingHolds n k c d → flag_slot d ≡ flag_slot c
-
--- where a thread could save rax, the saved bytes can be written
-abbrev pub SavesHeld : Type 0
-SavesHeld = (b : Base) (cs : List Comparison) (p i place : ℕ) (c : Core) (v w : Machine) → InEvent b cs p i place At0 c v → ThreadStep v w → lacking 2 v.mem (slot c) 8 ≡ None
-
--- where a thread could save rax for a ring, or the flags, their bytes can be written
-abbrev pub RingSavesHeld : Type 0
-RingSavesHeld = (n p i at : ℕ) (c : Core) (v w : Machine)
-    → (InRing n p i at Ring0 c v → ThreadStep v w → lacking 2 v.mem (slot c) 8 ≡ None) × (InRing n p i at Ring3 c v → ThreadStep v w → lacking 2 v.mem (flag_slot c) 8 ≡ None)
-
 -- after the effect step the instructions of a trampoline read and write no byte
 abbrev pub TailTouches : Type 0
 TailTouches = (f g : Fields) (addr next to : ℕ) (k : Tail) (c : Core) (rip : ℕ) (v : Machine) → 0 < left k → IsWork f addr next to v → InTail f next to k c rip v → IsAt v g
@@ -104,18 +80,12 @@ NotLocked = (f : Fields) (op : Op) → insn_of f ≡ Exact op → (is_locked_inc
 -- all the facts of single steps
 pub record StepLaws : Type 0 where
   pub alike : IsAlikeThread
-  pub events : IsEventStep
-  pub goes : EventGoes
-  pub cover : IsCoverStep
-  pub covers : CoverGoes
-  pub saved : IsSavedBack
-  pub rings : IsRingStep
-  pub ring_goes : RingGoes
-  pub ring_saved : AreSavedBack
-  pub ring_slots : HoldsSlots
-  pub ring_held : RingSavesHeld
-  pub held : SavesHeld
-  pub slots : HoldsSlot
+  pub comes : SiteComesIn
+  pub goes_on : SiteGoesOn
+  pub can_go_on : SiteCanGoOn
+  pub restores : SiteRestores
+  pub marks : SiteMarks
+  pub writes : SiteWrites
   pub effects : IsEffectStep
   pub tails : IsTailStep
   pub touches : WorkTouches

@@ -1,12 +1,16 @@
 -- Events under a condition, worked out: their bytes, and where a thread goes in them. Worked examples alone cite it.
-use Rattle.std.specs.Prelude.{◌≡◌, ℕ, false, List, [], ◌∷◌, replicate, Some}
+use Rattle.std.specs.Prelude.{◌≡◌, ℕ, true, false, List, [], ◌∷◌, replicate, take, Some}
 use Rattle.pun_base.specs.declared.action.Base.TheVariants.{Cover, Count}
 use Rattle.pun_base.specs.declared.action.CompareOp.TheVariants.{Eq, Lt, Gt}
 use Rattle.pun_base.specs.declared.action.Comparison.{Comparison}
 use Rattle.cpu_state.specs.declared.state.Core.{Core}
 use Rattle.thread_runs.specs.ThreadCode.{Marks, thread_event, event_len}
-use Rattle.thread_runs.specs.Event.{offset, following}
-use Rattle.thread_runs.specs.Event.Point.{At2, AtCompare, AtJump, At3, At4}
+use Rattle.event_steps.specs.declared.step.EventStep.TheVariants.{CountUp, Store, Load, IntoAh, IntoAl, FromAl, FromAh, Compare, CompareAt, SkipIf}
+use Rattle.event_steps.specs.EventSteps.{long}
+use Rattle.event_steps.specs.DoneSteps.{started, ended}
+use Rattle.event_steps.specs.WholeEvents.{made_in}
+use Rattle.event_steps.specs.Interleaved.{Listed}
+use Rattle.thread_runs.specs.ThreadLists.{saving_thread_event}
 
 -- rax == 5
 abbrev pub rax_is_5 : Comparison
@@ -33,6 +37,10 @@ core_by rax r9 = record {
   gs = 0;
 }
 
+-- the list of the event that counts under both, of site 0
+abbrev pub counted : Listed
+counted = saving_thread_event Count both 0x20000 0
+
 -- Events of a private range at 0x20000.
 pub record ConditionsAreWorked : Type 0 where
   -- one that counts under both comparisons, for site 0: the saved rax is compared, and then r9
@@ -54,12 +62,15 @@ pub record ConditionsAreWorked : Type 0 where
   pub plain : thread_event Cover [] 0x20000 3 ≡ 0xc6 ∷ 0x04 ∷ 0x25 ∷ 0x43 ∷ 0x00 ∷ 0x02 ∷ 0x00 ∷ 0x01 ∷ []
   pub plain_long : event_len (Some (Marks Count)) [] ≡ 32
   -- the first comparison stands behind SETO, the second behind its jump, and what marks behind that
-  pub first : following both (core_by 5 255) At2 ≡ AtCompare [] rax_is_5 (r9_is_low ∷ [])
-  pub second : following both (core_by 5 255) (AtJump [] rax_is_5 (r9_is_low ∷ [])) ≡ AtCompare (rax_is_5 ∷ []) r9_is_low []
-  pub second_at : offset Count both (AtCompare (rax_is_5 ∷ []) r9_is_low []) ≡ 26
-  pub marks : following both (core_by 5 255) (AtJump (rax_is_5 ∷ []) r9_is_low []) ≡ At3
-  pub marks_at : offset Count both At3 ≡ 35
+  pub steps : counted.steps ≡ Store 0 ∷ IntoAh ∷ IntoAl ∷ CompareAt 0 5 ∷ SkipIf 5 3 ∷ Compare 9 256 ∷ SkipIf 3 1 ∷ CountUp true 1 ∷ FromAl ∷ FromAh ∷ Load 0 ∷ []
+  pub second_at : long (take 5 counted.steps) ≡ 26
+  pub marks_at : long (take 7 counted.steps) ≡ 35
+  pub behind : long (take 8 counted.steps) ≡ 44
+  -- where both hold, a thread makes all eleven steps, and marks
+  pub made : made_in 0 counted.steps (started (core_by 5 255) (5 ∷ 0 ∷ [])) ≡ 11
+  pub marks : (ended 0 counted.steps (started (core_by 5 255) (5 ∷ 0 ∷ []))).marked ≡ true
   -- where one fails, the jump behind it leads over the mark
-  pub first_fails : following both (core_by 6 255) (AtJump [] rax_is_5 (r9_is_low ∷ [])) ≡ At4
-  pub second_fails : following both (core_by 5 256) (AtJump (rax_is_5 ∷ []) r9_is_low []) ≡ At4
-  pub behind : offset Count both At4 ≡ 44
+  pub first_fails : made_in 0 counted.steps (started (core_by 6 255) (6 ∷ 0 ∷ [])) ≡ 8
+  pub first_unmarked : (ended 0 counted.steps (started (core_by 6 255) (6 ∷ 0 ∷ []))).marked ≡ false
+  pub second_fails : made_in 0 counted.steps (started (core_by 5 256) (5 ∷ 0 ∷ [])) ≡ 10
+  pub second_unmarked : (ended 0 counted.steps (started (core_by 5 256) (5 ∷ 0 ∷ []))).marked ≡ false

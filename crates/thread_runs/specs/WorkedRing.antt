@@ -1,8 +1,8 @@
 -- An event that keeps a ring, worked out: its bytes, and how a ring stands after claims and fills. Worked examples alone cite it.
-use Rattle.std.specs.Prelude.{◌≡◌, ◌+◌, List, [], ◌∷◌, length, Some}
+use Rattle.std.specs.Prelude.{◌≡◌, ℕ, ◌+◌, List, [], ◌∷◌, length, take, Some}
 use Rattle.thread_runs.specs.ThreadCode.{Keeps, ring_event, event_len}
-use Rattle.thread_runs.specs.RingEvent.{ring_offset}
-use Rattle.thread_runs.specs.RingEvent.RingPoint.{Ring3, Ring5, Ring6, Ring7, Ring8, Ring12}
+use Rattle.event_steps.specs.EventSteps.{long}
+use Rattle.thread_runs.specs.ThreadLists.{thread_ring_list}
 use Rattle.thread_runs.specs.Threading.Part.{Save, Marked, Unfilled}
 use Rattle.thread_runs.specs.Threading.{part_from, part_to}
 use Rattle.thread_runs.specs.Watching.{Claim, Fill, last_claim}
@@ -19,6 +19,10 @@ two_fills = record { claim = 1; claimed = 2 } ∷ record { claim = 0; claimed = 
 -- of a ring of 256 slots the 257th claim fills slot 0, and then the first one, whose thread was overtaken
 abbrev pub overtaken : List Fill
 overtaken = record { claim = 256; claimed = 257 } ∷ record { claim = 0; claimed = 257 } ∷ []
+
+-- how many bytes stand before a step of the event
+abbrev pub bytes_before : ℕ → ℕ
+bytes_before k = long (take k (thread_ring_list 256 0x20000 0).steps)
 
 -- Events of a private range at 0x20000.
 pub record RingIsWorked : Type 0 where
@@ -40,17 +44,17 @@ pub record RingIsWorked : Type 0 where
       ∷ 0x48 ∷ 0x8b ∷ 0x84 ∷ 0x24 ∷ 0x70 ∷ 0xff ∷ 0xff ∷ 0xff
       ∷ 0x04 ∷ 0x7f ∷ 0x9e ∷ 0x48 ∷ 0x8b ∷ 0x84 ∷ 0x24 ∷ 0x78 ∷ 0xff ∷ 0xff ∷ 0xff ∷ []
   -- LOCK XADD stands 25 bytes after the event's first one, MOVZX, the MOV into the slot and what is behind it at these
-  pub claims : ring_offset Ring5 ≡ 25
-  pub reduces : ring_offset Ring6 ≡ 34
-  pub fills : ring_offset Ring7 ≡ 37
-  pub filled : ring_offset Ring8 ≡ 48
-  pub behind : ring_offset Ring12 ≡ 67
+  pub claims : bytes_before 5 ≡ 25
+  pub reduces : bytes_before 6 ≡ 34
+  pub fills : bytes_before 7 ≡ 37
+  pub filled : bytes_before 8 ≡ 48
+  pub behind : bytes_before 12 ≡ 67
   -- the first save ends with the first byte of the MOV that saves the flags; a claim is unfilled from MOVZX on, up to the end of the MOV that fills
-  pub saving : part_to Save (Some (Keeps 256)) [] ≡ ring_offset Ring3 + 1
-  pub claimed : part_from Marked (Some (Keeps 256)) [] ≡ ring_offset Ring6
-  pub until : part_to Marked (Some (Keeps 256)) [] ≡ ring_offset Ring12 + 1
-  pub unfilled : part_from Unfilled (Some (Keeps 256)) [] ≡ ring_offset Ring6
-  pub over : part_to Unfilled (Some (Keeps 256)) [] ≡ ring_offset Ring8
+  pub saving : part_to Save (Some (Keeps 256)) [] ≡ bytes_before 3 + 1
+  pub claimed : part_from Marked (Some (Keeps 256)) [] ≡ bytes_before 6
+  pub until : part_to Marked (Some (Keeps 256)) [] ≡ bytes_before 12 + 1
+  pub unfilled : part_from Unfilled (Some (Keeps 256)) [] ≡ bytes_before 6
+  pub over : part_to Unfilled (Some (Keeps 256)) [] ≡ bytes_before 8
   -- thread 0 claimed twice, and its last claim is the third
   pub own : claimed_by 0 three_claims ≡ 4 ∷ 5 ∷ []
   pub last : last_claim 0 three_claims ≡ 2

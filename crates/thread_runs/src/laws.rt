@@ -1,7 +1,6 @@
 //! What holds of runs of several threads, and of single steps of theirs.
-ghost use Rattle.thread_runs.specs.Event.{IsEventStep, EventGoes, IsSavedBack, IsCoverStep, CoverGoes};
-ghost use Rattle.thread_runs.specs.RingEvent.{IsRingStep, RingGoes, AreSavedBack};
 ghost use Rattle.thread_runs.specs.ThreadLists.{AreThreadLists, ThreadEventsRestore, MarksWhereMet, ThreadRingsRestore};
+ghost use Rattle.thread_runs.specs.SiteEvents.{SiteEventsAreLists, SiteStepTold, SiteStepGoes, SiteComesIn, SiteGoesOn, SiteCanGoOn, SiteRestores, SiteMarks, SiteWrites};
 ghost use Rattle.thread_runs.specs.Alone.{EventCountsAlone};
 ghost use Rattle.thread_runs.specs.AloneWithRing.{EventKeepsAlone};
 ghost use Rattle.thread_runs.specs.WorkedConditions.{ConditionsAreWorked};
@@ -13,30 +12,7 @@ ghost use Rattle.thread_runs.specs.TheoremWithDeliveries.{ThreadsAreFollowedWith
 ghost use Rattle.thread_runs.specs.LockedSpelling.{LockedIsSpelled, LockIsUntested, XaddIsSpelled};
 ghost use Rattle.thread_runs.specs.EachRun.{EachRunIsWatched};
 ghost use Rattle.thread_runs.specs.Running.{RunsOneWay};
-ghost use Rattle.thread_runs.specs.StepLaws.{WorkTouches, WorkLong, HoldsSlot, SavesHeld, HoldsSlots, RingSavesHeld, TailTouches, TailInside, WorkedCore, LeadsTold, NotLocked, StepLaws};
-
-/// In an event that saves rax, under a condition or under none, each step does what its instruction does, and
-/// where the saved bytes and what is marked can be read and written there is such a step.
-pub fn event_steps()
-    ensures step { IsEventStep }
-    ensures goes { EventGoes }
-    ensures saved { IsSavedBack }
-{}
-
-/// In an event that keeps a ring each step does what its instruction does, LOCK XADD as one step, and where the saved bytes, the position
-/// and the slots can be read and written there is such a step.
-pub fn ring_steps()
-    ensures step { IsRingStep }
-    ensures goes { RingGoes }
-    ensures saved { AreSavedBack }
-{}
-
-/// The step of an event that covers under no condition makes the site's byte 1 and changes nothing else, and where that byte
-/// can be written there is this step.
-pub fn cover_steps()
-    ensures step { IsCoverStep }
-    ensures goes { CoverGoes }
-{}
+ghost use Rattle.thread_runs.specs.StepLaws.{WorkTouches, WorkLong, TailTouches, TailInside, WorkedCore, LeadsTold, NotLocked, StepLaws};
 
 /// Events are lists of steps, with their code. Whatever other threads do in between, they restore registers and flags, mark where the condition
 /// holds, and put the number into a slot that there is.
@@ -45,6 +21,25 @@ pub fn events_as_lists()
     ensures restore { ThreadEventsRestore }
     ensures mark { MarksWhereMet }
     ensures ring { ThreadRingsRestore }
+{}
+
+/// The event of a site, whatever its kind, is its list of steps. Where a thread stands in front of some of them, whatever its registers and memory
+/// are, each step that it makes is that of the list, and there is this step where its operands are held.
+pub fn site_steps()
+    ensures lists { SiteEventsAreLists }
+    ensures told { SiteStepTold }
+    ensures goes { SiteStepGoes }
+{}
+
+/// While others step, a thread in the event of a site goes on by its steps, restores registers and flags, and has marked exactly where the condition
+/// holds and the step that marks is behind it. In an event that marks, a step saves rax, in front of all others, or marks, once, or leaves memory.
+pub fn threads_in_sites()
+    ensures comes { SiteComesIn }
+    ensures goes { SiteGoesOn }
+    ensures can { SiteCanGoOn }
+    ensures restore { SiteRestores }
+    ensures mark { SiteMarks }
+    ensures writes { SiteWrites }
 {}
 
 /// The event that counts under no condition, of a thread that runs alone, adds one to its counter, and leaves all else as it was.
@@ -84,10 +79,6 @@ pub fn tail_steps()
 
 /// What relocated code reads and writes, where it stands, and further small facts of single steps.
 pub fn further_laws()
-    ensures slots { HoldsSlot }
-    ensures held { SavesHeld }
-    ensures ring_slots { HoldsSlots }
-    ensures ring_held { RingSavesHeld }
     ensures core { WorkedCore }
     ensures leads { LeadsTold }
     ensures not_locked { NotLocked }

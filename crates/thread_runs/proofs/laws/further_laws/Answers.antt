@@ -1,19 +1,6 @@
-use Rattle.thread_runs.proofs.RelocatedTouches.{holds_slot, saves_held, worked_core, leads_told, not_locked_is, work_touches}
-use Rattle.thread_runs.proofs.RingEventInstructions.{holds_slots, ring_held}
+use Rattle.thread_runs.proofs.RelocatedTouches.{worked_core, leads_told, not_locked_is, work_touches}
 use Rattle.thread_runs.proofs.WorkTails.{work_long, tail_touches, tail_inside}
 use Rattle.thread_runs.proofs.laws.further_laws.Goals as goal
-
-pub returns-clause-slots : goal.returns-clause-slots
-returns-clause-slots c = holds_slot
-
-pub returns-clause-held : goal.returns-clause-held
-returns-clause-held c = saves_held
-
-pub returns-clause-ring_slots : goal.returns-clause-ring_slots
-returns-clause-ring_slots c = holds_slots
-
-pub returns-clause-ring_held : goal.returns-clause-ring_held
-returns-clause-ring_held c = ring_held
 
 pub returns-clause-core : goal.returns-clause-core
 returns-clause-core c = worked_core

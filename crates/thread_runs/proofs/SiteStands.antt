@@ -134,8 +134,11 @@ module _ (r : Threading) (A : AreEntries r.original r.listed) (S : IsThreadSound
       (λ x k. or_from (is_one_of (flag_slot c) 8 x) _ (rax_apart c x k) (shared_out x (range_rest (flag_slot c) 8 8 x (omega arith) (ap (λ z. is_one_of z 8 x) (flags_then_rax c) ∙ k)))),
       (
         (λ x k. shared_out x (range_first (flag_slot c) 8 8 x k)),
-        ((λ x k. or_from (is_one_of (r.private + 68) (4 * n) x) false (false_from_ne_true _ (λ y.
-            let a = one_in r A S (r.private + 64) 4 x (omega (arith, low)) k in let z = one_in r A S (r.private + 68) (4 * n) x (omega (arith, low)) y in omega (arith, a.1, z.0))) refl), ((λ x k. refl), tt)),
+        (
+          (λ x k. or_from (is_one_of (r.private + 68) (4 * n) x) false (false_from_ne_true _ (λ y.
+              let a = one_in r A S (r.private + 64) 4 x (omega (arith, low)) k in let z = one_in r A S (r.private + 68) (4 * n) x (omega (arith, low)) y in omega (arith, a.1, z.0))) refl),
+          ((λ x k. refl), tt),
+        ),
       ),
     )
       where
@@ -179,8 +182,7 @@ module _ (r : Threading) (A : AreEntries r.original r.listed) (S : IsThreadSound
             let z = rings n k in
             let a = saved_two 4 m c f in
             let b = saved_two 2 m c g in
-            let low = (S.ring n k).low in
-            (
+            let low = (S.ring n k).low in (
               (λ t. a.1),
               b.1,
               ((λ t. a.0), b.0, ((λ t. z.position.read), z.position.written, ((λ t. absurd (false≢true t)), slots_free r.private n m (omega (arith, low)) (λ j l. (z.slots j l).written), tt))),

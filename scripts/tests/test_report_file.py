@@ -1,8 +1,11 @@
 """Reports of a patch: sites, their outcomes, trampolines and short jumps."""
+import struct
+
 import pytest
 
 from vaknuhol.arguments import Refusal
 from vaknuhol.recording.patch_report import Report, outcome_counts
+from vaknuhol.recording.run_file import NOWHERE, PLAIN, rows_of_tramps, tramps_of
 
 TEXT = """e9report 2
 origin 4096 64 0 1
@@ -39,6 +42,21 @@ def test_a_trampoline_has_the_number_of_the_site_that_it_records():
 
 def test_a_short_jump_leads_into_its_victim():
     assert list(read().short_jumps()) == [(0x401010 + 2 + 0x1E, 0x401010)]
+
+
+def test_a_run_file_has_each_place_that_stands_for_a_start_and_what_lies_between():
+    """Trampolines, of which one ends where the next begins, and the byte of the victim to which a short jump leads."""
+    tramps = tramps_of(read())
+    near = 0x401010 + 2 + 0x1E
+    assert sorted(tramps)[0] == (near, near + 1, 0x401010, PLAIN) and len(tramps) == 4
+    rows = list(struct.iter_unpack("<3I", rows_of_tramps([*tramps, (0x10002240, 0x10002240 + 128, 0x401034, 3)])))
+    assert rows == [
+        (near, 0x401010, PLAIN), (near + 1, 0, NOWHERE),
+        (0x10002000, 0x401004, 1), (0x10002080, 0, NOWHERE),
+        (0x10002100, 0x401010, 2), (0x10002180, 0, NOWHERE),
+        (0x10002200, 0x401030, PLAIN),
+        (0x10002240, 0x401034, 3), (0x100022C0, 0, NOWHERE),
+    ]  # fmt: skip
 
 
 def test_outcomes_are_told_in_the_order_of_the_summary():

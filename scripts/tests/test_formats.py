@@ -98,6 +98,7 @@ def test_the_json_has_lines_with_counts_and_lines_without_code_alone():
 
 def test_the_json_has_the_run_and_each_block():
     whole = made_json()
+    assert (whole["vaknuhol"], whole["gcovr/format_version"]) == (1, "0.3")
     assert {name: whole[name] for name in ("processes", "threads", "execs", "state", "action", "program")} == {
         "processes": 3,
         "threads": 1,

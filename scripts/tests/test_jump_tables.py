@@ -3,7 +3,7 @@ import pytest
 
 from tests.calls import run
 from tests.programs import compile_text
-from vaknuhol.program.jump_tables import NEAR, JumpTables, named_table
+from vaknuhol.program.jump_tables import NEAR, JumpTables, is_indirect_jump, named_table
 from vaknuhol.program.listing import Listing
 from vaknuhol.program.program_file import Program
 
@@ -127,3 +127,11 @@ def test_a_function_goes_from_its_first_address_to_that_of_the_next(named):
 ])
 def test_an_instruction_names_a_table_by_its_operand(code, table):
     assert named_table(bytes.fromhex(code), 0x401000) == table
+
+
+@pytest.mark.parametrize("code, is_jump", [
+    ("ffe0", True), ("41ffe3", True), ("3effe0", True), ("ff24c578563412", True),
+    ("ffd0", False), ("ff", False), ("41ff", False), ("3e", False), ("89e0", False),
+])  # fmt: skip
+def test_an_indirect_jump_is_known_by_its_bytes_however_few(code, is_jump):
+    assert is_indirect_jump(bytes.fromhex(code)) is is_jump

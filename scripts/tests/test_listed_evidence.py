@@ -5,7 +5,7 @@ import pytest
 from tests.calls import run
 from tests.programs import compile_text
 from vaknuhol.program.listing import Listing
-from vaknuhol.program.listing_file import WITHOUT_SUPPORT
+from vaknuhol.program.listing_file import NO_LENGTH
 
 pytestmark = pytest.mark.xdist_group("fit")
 END = "mov $60, %eax\nsyscall\nhlt\n"
@@ -81,11 +81,11 @@ pextrw $1, %xmm0, %eax; shufps $1, %xmm0, %xmm1; shufpd $1, 8(%rsp,%rax,4), %xmm
 pshufb %xmm0, %xmm1; palignr $1, %xmm0, %xmm1; crc32b %al, %ecx; movbe (%rsp), %eax; pblendw $1, (%rsp), %xmm0"""
 
 
-def test_each_instruction_has_its_length_and_support():
+def test_each_instruction_has_its_length():
     codes = [code.strip() for line in SPELLED.splitlines() for code in line.split(";")]
-    text = "".join(f"code{number}: {code}\n" for number, code in enumerate(codes))
+    text = "".join(f"code{number}: {code}\n" for number, code in enumerate([*codes, "vpaddd %zmm0, %zmm1, %zmm2"]))
     listing, symbols = assembled(f"{START.format(text)}")
-    places = [symbols[f"code{number}"] for number in range(len(codes))]
-    assert [listing.addr[it] for it in range(len(codes))] == places
-    assert [codes[number] for number, place in enumerate(places)
-            if any(span.low <= place < span.high for span in listing.ranges(WITHOUT_SUPPORT))] == []
+    places = [symbols[f"code{number}"] for number in range(len(codes) + 1)]
+    assert list(listing.addr[: len(places)]) == places
+    without = [number for number in range(len(places)) if listing.marks[number] & NO_LENGTH]
+    assert without == [len(codes)], [codes[number] for number in without[:-1]]

@@ -107,10 +107,11 @@ def test_a_kept_run_file_is_taken_where_it_is_of_this_patch_and_else_written(mon
 
 
 def test_a_passing_run_file_is_there_as_long_as_it_is_used(monkeypatch):
-    monkeypatch.setattr("vaknuhol.recording.run_file.table_of", lambda *words: repr(words).encode())
-    with passing_table("report", "run", "patched") as path:
+    told = double(name="report"), double(name="run"), "patched"
+    monkeypatch.setattr("vaknuhol.recording.run_file.table_of", lambda *words: b"table" if words == told else b"")
+    with passing_table(*told) as path:
         with open(path, "rb") as file:
-            assert file.read() == b"('report', 'run', 'patched')"
+            assert file.read() == b"table"
     assert not os.path.exists(path) and not os.path.exists(os.path.dirname(path))
 
 

@@ -1,4 +1,4 @@
-"""What the lister takes from symbols, frames and instructions of small programs, against what the assembler
+"""What the lister takes from symbols, frames, jump tables and instructions of small programs, against what the assembler
 was told."""
 import pytest
 
@@ -67,6 +67,38 @@ language: .quad 0
     listing, symbols = assembled(text)
     assert {symbols["first"], symbols["second"]} <= set(listing.function_firsts())
     assert symbols["second"] - 1 not in listing.function_firsts()
+
+
+NEAR, FAR = ".byte 0x77, out - . - 1", ".byte 0x0f, 0x87\n.long out - . - 4"
+TABLES = {
+    "short": (f"cmp $1, %edi\n{NEAR}\nmov %edi, %edi", 2),
+    "far": (f"cmp $1, %edi\n{FAR}\nmov %edi, %edi", 2),
+    "tagged": (f"cmp $5, %rdi\n{NEAR}\nshr %rdi", 3),
+    "tagged and far": (f"cmp $7, %rdi\n{FAR}\nshr %rdi", 4),
+}
+CASE = ".byte 0x48, 0xb8\ncase{}: .rept 30\ninc %eax\n.endr\n.byte 0xe9\n.long out - . - 4"
+
+
+@pytest.mark.parametrize("before, entries", TABLES.values(), ids=TABLES)
+def test_a_table_has_as_many_entries_as_the_comparison_before_its_use_allows(before, entries):
+    """What they lead to is listed, though what stands before it reads as the head of a longer instruction."""
+    numbers = range(entries)
+    text = f"""{START.format("call uses")}
+uses: {before}
+lea table(%rip), %rdx
+movslq (%rdx,%rdi,4), %rax
+add %rdx, %rax
+jmp *%rax
+out: ret
+{chr(10).join(CASE.format(number) for number in numbers)}
+.section .rodata
+.balign 8
+table: .long {", ".join(f"case{number} - table" for number in numbers)}, 0, 0, 0, 0, 0
+"""
+    listing, symbols = assembled(text)
+    places = [symbols[f"case{number}"] for number in numbers]
+    assert all(listing.is_start(place) for place in places)
+    assert not any(listing.is_start(place - 2) for place in places)
 
 
 # Of each row of opcodes of two bytes, with and without more bytes behind their operands

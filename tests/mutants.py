@@ -121,8 +121,8 @@ def print_result(results: list[Tried]) -> float:
         if not it.by:
             print(f"survives: {it.module}:{it.mutant.line} {it.mutant.name()}")
     found, late = sum(1 for it in results if it.by), sum(1 for it in results if it.by == "its time")
-    print(f"{found} of {len(results)} mutants are found ({100 * found / len(results):.1f} %), {late} by their time")
-    return found / len(results)
+    print(f"{found} of {len(results)} mutants are found ({100 * found / max(len(results), 1):.1f} %), {late} by their time")
+    return found / max(len(results), 1)
 
 
 def main() -> int:

@@ -16,11 +16,13 @@ import pytest
 FOLDER = os.environ.get("MUTANTS_FOLDER", "")
 IS_NOTED, CHOSEN = os.environ.get("MUTANTS_NOTE") == "1", os.environ.get("MUTANTS_CHOSEN", "")
 SHARING, ALL = ("module", "session"), "*"
+LIBRARY = os.path.dirname(os.path.dirname(coverage.__file__))  # of which commands that tests start may not know
 # Stands at the end of vaknuhol/__init__.py of the copy: a process that a test starts notes its lines, too
 HOOK = '''
 import sys as _sys
 if "coverage" not in _sys.modules:
     import atexit as _atexit, json as _json, os as _os, uuid as _uuid
+    _sys.path.append({library!r})
     import coverage as _coverage
     _lines = _coverage.Coverage(data_file=None, config_file=False, source=[{package!r}])
     with open({folder!r} + "/context", encoding="utf-8") as _file:

@@ -9,7 +9,7 @@ import shutil
 import sys
 
 from mutation_copies import PACKAGE, TESTS, TOP, copy_of, own_children, pytest_in
-from mutation_plugin import ALL, HOOK
+from mutation_plugin import ALL, HOOK, LIBRARY
 from mutation_rules import Mutant
 
 # What builds packages, or tries the proved program and the processor alone
@@ -27,7 +27,7 @@ def note(folder: str, modules: list[str], tool: str) -> dict[str, dict]:
     with open(head, encoding="utf-8") as file:
         before = file.read()
     with open(head, "a", encoding="utf-8") as file:
-        file.write(HOOK.format(package=os.path.dirname(head), folder=folder))
+        file.write(HOOK.format(package=os.path.dirname(head), folder=folder, library=LIBRARY))
     words = [f"--e9tool={tool}", "-rA", *(f"{TESTS}/{module}" for module in modules)]
     printed = pytest_in(folder, words, None, MUTANTS_NOTE="1")[1]
     with open(head, "w", encoding="utf-8") as file:

@@ -51,7 +51,8 @@ def rows_of(blocks: list[tuple[int, int, int | None, str | None]]) -> list[Row]:
 def record_of(action: str = "count", blocks: Any = None, **more: Any) -> Any:
     rows = rows_of(BLOCKS if blocks is None else blocks)
     left = sum(1 for row in rows if row.count is None)
-    given = {"processes": 1, "threads": 0, "execs": 0, "state": "ended", "for_threads": False, "histories": [], **more}
+    given = {"processes": 1, "threads": 0, "execs": 0, "state": "ended", "for_threads": False, "histories": [],
+             "in_part": False, **more}
     return double(
         action=action_of(action),
         rows=rows,

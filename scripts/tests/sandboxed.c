@@ -1,6 +1,6 @@
 /* A process that gives up what a runner would need to map memory in it, and then starts others. Its first word says what: `filter` system calls but the few
    that it uses, `again` the same and then the program in its place, `closed` the same and that others read its memory, `memory` more of it than it has,
-   `softly` so that it could take that back. */
+   `softly` so that it could take that back: its child says what the limit is. */
 #define _GNU_SOURCE
 #include <linux/filter.h>
 #include <linux/seccomp.h>
@@ -58,6 +58,12 @@ static void give_up(const char *what) {
   if (!strcmp(what, "memory") || !strcmp(what, "softly"))
     setrlimit(RLIMIT_AS, &limit);
 }
+static void say_limit(void) {
+  struct rlimit limit;
+  getrlimit(RLIMIT_AS, &limit);
+  done = limit.rlim_cur;
+  say("limit");
+}
 int main(int argc, char **argv) {
   const char *what = argc > 1 ? argv[1] : "";
   int status = 0;
@@ -73,6 +79,8 @@ int main(int argc, char **argv) {
   if (child == 0) {
     times(4);
     say("child");
+    if (!strcmp(what, "memory") || !strcmp(what, "softly"))
+      say_limit();
     if (syscall(SYS_fork) == 0) {
       times(8);
       say("grandchild");

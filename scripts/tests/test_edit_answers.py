@@ -5,7 +5,7 @@ import pytest
 
 from edits.answers import Answer, Kind, Said, judge
 from edits.edit_files import Edit
-from edits.grouping import place
+from edits.grouping import Placed, place
 from tests.edited_crate import (A_TRUTH, BELOW, BUT_ONE, COPY, LOOP_NAMED, QUADRUPLE_OF_MORE, TEXTS, THREE_EACH,
                                 TWICE_AND_ONE, edit)
 
@@ -61,6 +61,14 @@ def test_a_contract_that_cannot_be_read():
 def test_a_function_that_is_still_proved_is_tried_alone():
     assert of_recorded("required", BELOW).kind is Kind.UNCLEAR
     assert judge(place(BELOW, TEXTS), Said(0, "logic=proved functions=10\n"), is_alone=True).kind is Kind.MISSED
+
+
+def test_alone_an_edit_whose_function_is_proved_while_its_crate_is_not_is_bad():
+    said = Said(1, "fn toy::words::Words::within: proved\nfn toy::sums::twos: no proof: it says nothing\nlogic=not-proved\n")
+    one = edit("few", "x < 2", "x < 3", "within, small (at most)")
+    answers = {is_alone: judge(Placed(one, frozenset()), said, is_alone) for is_alone in (True, False)}
+    assert answers == {is_alone: Answer(kind, "toy::words::Words::within is proved")
+                       for is_alone, kind in ((True, Kind.BAD), (False, Kind.UNCLEAR))}
 
 
 @pytest.mark.parametrize("clause, words", [

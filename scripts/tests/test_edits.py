@@ -66,6 +66,7 @@ def test_further_pairs_apply_to_what_the_first_made():
     ("file: ../sums.rt\nold: sum\nnew: sums", "no file below src/"),
     ("old: sum += 2;\nnew: sum += 3;", "before `file:`"),
     ("file: src/sums.rt\nold: sum += 2;", "no `old:` with a `new:`"),
+    ("file: src/sums.rt\nold: sum += 2;\nnew: sum += 3;\nnew: sum += 4;", "before `file:` or `old:`"),
 ])
 def test_what_cannot_be_applied(lines, why):
     with pytest.raises(Unfit, match=re.escape(why)):

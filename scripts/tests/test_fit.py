@@ -8,9 +8,10 @@ import pytest
 
 from tests.calls import match, patch, record, run
 from tests.command import call
-from tests.programs import Programs
+from tests.programs import Programs, compile_text
 from vaknuhol.program.listing import Listing
 from vaknuhol.program.listing_file import BESIDE, CLONE, RESTARTED, UNSURE, WITHOUT_SUPPORT
+from vaknuhol.program.stepped_run import SteppedRun
 
 pytestmark = pytest.mark.xdist_group("fit")
 NONE_SEEN = "no obstacle to patching it was seen"
@@ -43,6 +44,55 @@ def test_a_run_that_loses_the_code_of_its_patch_is_told(programs, words):
     programs.bring("maps_itself", "maps_itself.c", "-g")
     printed, told = call(*words, "maps_itself", "--own", status=128 + signal.SIGSEGV)
     assert not printed and told.count("has put other memory in the place of its patch") == 1, told
+
+
+CALLED = """.macro called number, first=0, second=0, third=0, fourth=0, fifth=0
+    mov $\\number, %eax
+    mov $\\first, %edi
+    mov $\\second, %esi
+    mov $\\third, %edx
+    mov $\\fourth, %r10d
+    mov $\\fifth, %r8
+    xor %r9d, %r9d
+    syscall
+.endm
+.globl _start
+.text
+_start:
+"""
+PLACED = """    called 9, 0x20000, 0x1001, 3, 0x32, -1  # mmap, MAP_FIXED
+    called 9, 0x40000, 0x1000, 3, 0x100022, -1  # MAP_FIXED_NOREPLACE
+    called 9, 0x60000, 0x1000, 3, 0x22, -1  # by a wish alone
+    called 25, 0x20000, 0x1000, 0x3000, 3, 0x80000  # mremap, MREMAP_FIXED
+    called 25, 0x80000, 0x1000, 0x2000, 1, 0xc0000  # wherever it may be
+    called 29, 0, 0x1000, 0600  # shmget
+    mov %eax, %ebx
+    mov %eax, %edi
+    mov $30, %eax  # shmat
+    mov $0xa0000, %esi
+    xor %edx, %edx
+    syscall
+    mov $30, %eax
+    mov %ebx, %edi
+    xor %esi, %esi
+    syscall
+    mov $31, %eax  # shmctl, IPC_RMID
+    mov %ebx, %edi
+    xor %esi, %esi
+    syscall
+    called 9, 0x20000, 0x1001, 3, 0x32, -1
+    called 60
+"""
+
+
+def test_each_way_to_map_memory_at_a_fixed_place_is_told_once_by_the_pages_that_it_takes(place):
+    compile_text("placed", "placed.s", CALLED + PLACED, "-nostdlib")
+    assert SteppedRun("placed", [], 0, "kept").ranges("maps") == [
+        (0x20000, 0x22000),
+        (0x40000, 0x41000),
+        (0x80000, 0x83000),
+        (0xA0000, 0xA1000),
+    ]
 
 
 def test_a_program_that_steps_itself_has_an_obstacle(programs):

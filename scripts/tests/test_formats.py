@@ -10,9 +10,11 @@ import pytest
 
 from tests.calls import SOURCES, run
 from tests.doubles import double
-from tests.made_coverage import FILE, KNOWN, LESS, NAME, OTHER, coverage_of, record_of, write_elf
+from tests.made_coverage import BASE, FILE, KNOWN, LESS, NAME, OTHER, coverage_of, record_of, write_elf
 from tests.needs import need
 from vaknuhol.views import cobertura, drcov, json_report, lcov
+from vaknuhol.views.coverage import Place
+from vaknuhol.views.instances import Function
 
 WAYS = [count for it in KNOWN.values() for branch in it.branches for count in branch]  # 0 7 0 0 4 5 0 9
 
@@ -96,6 +98,7 @@ def test_the_json_has_lines_with_counts_and_lines_without_code_alone():
 
 def test_the_json_has_the_run_and_each_block():
     whole = made_json()
+    assert (whole["vaknuhol"], whole["gcovr/format_version"]) == (1, "0.3")
     assert {name: whole[name] for name in ("processes", "threads", "execs", "state", "action", "program")} == {
         "processes": 3,
         "threads": 1,
@@ -110,6 +113,35 @@ def test_the_json_has_the_run_and_each_block():
         ("00401010", "00401014", None, "NoPlan", 6),
         ("00401014", "00401018", 9, None, 7),
     ]
+
+
+def test_the_json_tells_where_each_block_stands_and_by_what_its_count_is_known():
+    """Of the four: as it is; known by others; inlined, without a file; never known."""
+    record = record_of()
+    record.rows[1].site, record.rows[1].count, record.rows[1].how = BASE + 12, 5, "assumed"
+    record.rows[1].outcome = "Shared"
+    places = [Place(LESS, (FILE, 3)), Place(LESS, (FILE, 4)), Place("inner", None, OTHER, 6), Place(OTHER, (FILE, 7))]
+    blocks = json.loads(json_report.text(coverage_of(record, places=lambda: zip(record.rows, places))))["blocks"]
+    wanted = ("site", "count", "left", "solved", "function", "inlined in", "file", "line")
+    assert [tuple(it[name] for name in wanted) for it in blocks] == [
+        ("00401000", 7, None, None, LESS, None, FILE, 3),
+        ("0040100c", 5, "Shared", "assumed", LESS, None, FILE, 4),
+        ("00401010", None, "NoPlan", None, "inner", OTHER, None, None),
+        ("00401014", 9, None, None, OTHER, None, FILE, 7),
+    ]
+
+
+def test_the_json_tells_of_a_function_where_it_is_inlined_and_how_often():
+    inlined = Function(LESS, FILE, 3)
+    inlined.count, inlined.inlined, inlined.places = 7, 4, 2
+    (file,) = json.loads(json_report.text(coverage_of(all_functions=[inlined])))["files"]
+    (told,) = file["functions"]
+    assert (told["execution_count"], told["inlined"], told["inlined_count"]) == (7, 2, 4)
+
+
+def test_the_json_names_blocks_whose_counts_contradict_each_other():
+    whole = json.loads(json_report.text(coverage_of(flow=double(contradicted={3, 1}))))
+    assert whole["contradicting blocks"] == ["00401008", "00401014"]
 
 
 def test_gcovr_counts_lines_and_branches_of_the_json_as_our_cobertura_does(place):

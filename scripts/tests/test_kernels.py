@@ -5,7 +5,9 @@ import pytest
 
 from tests.calls import match, run
 from tests.command import call, changed, patched_below
+from tests.doubles import double
 from vaknuhol.program.kernel import FEW, MOST, entries_of, takes
+from vaknuhol.recording.entry_limit import Fitting, nearer
 
 WALKED = "sum 4950\n"
 
@@ -20,6 +22,35 @@ def most(tour) -> int:
 def test_how_many_entries_this_kernel_takes_is_asked_of_it():
     assert takes(1, ".") and takes(FEW, ".")
     assert takes(1171, ".") is False, "this kernel takes a table of more than 64 KB"
+
+
+@pytest.mark.parametrize(
+    "first, length, above, below",
+    [
+        (0x400000, 0x1001, 0x404000, ["400000", "210000", "118000", "9c000", "5e000", "3f000"]),
+        (0x400000, 0x1000, 0x403000, ["400000", "210000", "118000", "9c000", "5e000", "3f000"]),
+        (0x21234, 0x1000, 0x403000, ["21000", *["20000"] * 5]),
+        (0x20000, 0x1000, 0x403000, []),
+    ],
+)
+def test_room_is_reserved_from_ever_nearer_behind_the_program_and_then_from_below_it(
+    first, length, above, below
+):
+    """In whole pages, up to the top."""
+    program = double(segments=[(first, 4, b"head"), (0x402000, 5, bytes(length))])
+    ends = [f"{above + 0x100000 * part:x}" for part in (8, 4, 0)]
+    found = [word.removesuffix("-7fff0000") for word in nearer(program)]
+    assert found[0:2] + found[4:5] == ends and found[5:] == below
+    assert [int(word, 16) - above for word in found[2:4]] == [0x200000, 0x100000]
+
+
+@pytest.mark.parametrize("most, short, is_vain", [(2, 8, True), (2, 7, False), (3, 11, False)])
+def test_a_patch_is_not_tried_where_most_of_many_sites_are_short(most, short, is_vain):
+    """Of less than four bytes; four sites for each entry of the table."""
+    sizes = [3] * short + [4] * 20
+    listing = double(size=sizes, at=lambda site: site if site < len(sizes) else None)
+    fitting = double(blocks=[double(listing=listing)], most=most)
+    assert Fitting.never_fits(fitting, [99, *range(len(sizes))]) is is_vain
 
 
 @pytest.mark.parametrize(

@@ -32,6 +32,7 @@ class Profile:
         self.names: dict[str, dict[str, str]] = {"file": {}, "fn": {}}
         self.costs: dict[tuple[str, str, int], int] = {}
         self.calls: list[tuple[str, str, str, int, int, int, int]] = []
+        self.callers: list[tuple[str, int, int]] = []  # of each call the file, the address and the line of its instruction
         self.summary = int(match(r"(?m)^summary: ([0-9]+)$", text)[1])
         lines = iter(text[text.index("\nfl=") :].splitlines())
         for line in lines:
@@ -58,7 +59,7 @@ class Profile:
             count, target, at = word.split()
             addr, number, cost = next(lines).split()
             self.calls.append((self.fn, self.called_file, self.called, int(count), int(target, 0), int(at), int(cost)))
-            assert int(addr, 0) in (0, *range(BASE, BASE + 0x18)) and number.isdigit()
+            self.callers.append((self.file, int(addr, 0), int(number)))
         elif line:
             addr, number, cost = line.split()
             key_of = self.fn, self.file, int(number)
@@ -73,6 +74,7 @@ def test_a_profile_has_the_count_of_each_instruction_and_call():
         ("less", "???", "other", 7, BASE + 0x10, 0, 9),
         ("(callers that are not known)", "a.c", "less", 7, BASE, 3, 7 + 7 + 9),
     ]
+    assert profile.callers == [("a.h", BASE + 3, 12), ("???", 0, 0)]
     assert profile.summary == 7 + 7 + 9
 
 

@@ -242,3 +242,46 @@ def test_a_file_has_a_line_with_what_was_hit_missed_unknown_and_without_code(cap
         f"{FILE}: 3 lines hit, 1 missed, 1 unknown (8), 1 without code (9)",
         "b.c: 0 lines hit, 1 missed",
     ]
+
+
+@pytest.mark.parametrize("state, processes, told", [
+    ("ended", 1, []),
+    ("running", 1, ["this is the record so far: run_and_record.py was ended before the program"]),
+    ("ended", 3, ["it is of 3 processes"]),
+])
+def test_it_is_told_where_a_record_is_one_so_far_or_of_several_processes(capsys, state, processes, told):
+    record_table.print_state(record_of(state=state, processes=processes))
+    assert capsys.readouterr().out.splitlines() == told
+
+
+@pytest.mark.parametrize("in_part, cause", [
+    (True, "the records that were added up don't count the same blocks"),
+    (False, "a signal ended a process in the middle of one"),
+])
+def test_it_is_told_where_counts_contradict_each_other_and_why(in_part, cause):
+    told = [list(summary.of_flow(coverage_of(record_of(in_part=in_part), flow=double(contradicted=blocks))))
+            for blocks in (set(), {2}, {1, 2})]
+    assert told == [[], *([f"the counts of {text} contradict those around, as where {cause}: nothing is solved by them"]
+                          for text in ("1 block", "2 blocks"))]
+
+
+def test_a_line_for_each_file_tells_lines_that_are_unknown_or_have_no_code():
+    lines = {3: line(7), 4: line(0), 6: line(None), 8: line(None), 9: line(None, has_code=False)}
+    files = {FILE: lines, "/made/b.c": {1: line(2)}}
+    assert list(summary.of_files(coverage_of(files=files))) == [
+        "   lines executed          file",
+        f"       2        1   50.0 % {FILE}, 2 more are unknown, since their blocks were left, 1 more have no code",
+        "       1        1  100.0 % /made/b.c",
+    ]
+    assert list(summary.of_files(coverage_of(files={}))) == []
+
+
+def test_a_history_has_a_head_and_its_rows_are_numbered(capsys):
+    history = History(2, "signal 11")
+    history.rows = [Row(BASE, BASE + 8, BASE + 4, None), None]
+    record_table.print_history(history, coverage_of(place_of_site=lambda row: Place(LESS, (FILE, 3))))
+    head, names, *rows = capsys.readouterr().out.splitlines()
+    assert head == "process 2, which ended by SIGSEGV: its last 2 executions of sites, oldest first"
+    assert names.split() == ["first", "site", "function,", "file", "and", "line"]
+    assert [row[:26] for row in rows] == ["       1 00401000 00401004", "       2        ?        ?"]
+    assert rows[1].endswith("  something else wrote there")

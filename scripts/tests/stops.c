@@ -45,6 +45,7 @@ static void order(int rounds) {
     kill(child, SIGCONT);
   }
   kill(child, SIGKILL);
+  waitpid(child, NULL, 0);
   printf("%d behind, %d stuck\n", behind, stuck);
 }
 
@@ -90,6 +91,7 @@ static void forks(int rounds) {
     *last = child;
   }
   kill(sender, SIGKILL);
+  waitpid(sender, NULL, 0);
   printf("%d stuck\n", stuck);
 }
 

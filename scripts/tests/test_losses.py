@@ -51,7 +51,8 @@ def test_memory_of_the_patch_that_is_replaced_is_told(replaces, way, what, how) 
         said, record = told(way, who, what, how)
         found = match(REPLACED, said)
         assert (found["what"], found["now"]) == (what, NOW[how]) and found["low"] < found["high"], said
-        assert record.lost == 1 and "1 replaced memory of the patch (events may be missing)" in record.run_text()
+        shown = call("report", "replaces", record.path)[0]
+        assert record.lost == 1 and "of which 1 replaced memory of the patch (events may be missing)" in shown, shown
 
 
 def test_code_that_a_stub_maps_is_looked_for_too(replaces) -> None:

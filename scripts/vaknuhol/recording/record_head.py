@@ -49,8 +49,8 @@ class RecordHead:
         return Refusal(f"{self.path} is no record of run_and_record: {line}")
 
     def is_plain(self) -> bool:
-        """Whether one process ran by itself."""
-        return (self.processes, self.threads, self.execs) == (1, 0, 0)
+        """Whether one process ran by itself, and kept its patch."""
+        return (self.processes, self.threads, self.execs, self.lost) == (1, 0, 0, 0)
 
     def run_text(self) -> str:
         """How many processes and threads there were, in words."""

@@ -1,6 +1,7 @@
 /* Whether a process still has the memory of its patch as it ends: a program may map other memory there, or take it away, and ends as the original does if it
    comes to no trampoline then. What it did meanwhile may be missing in its record. Memory of its own (spaces.c) that other memory of no file has replaced
-   isn't told from it. */
+   isn't told from it; and a process isn't looked at where it begins another program (exec), since its memory is gone by then, nor where the runner may not see
+   its mappings. */
 #include "run.h"
 
 #include <inttypes.h>

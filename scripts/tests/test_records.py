@@ -228,7 +228,7 @@ def test_the_parts_of_one_run_have_its_processes_once():
     two = {"processes": 2, "threads": 1, "execs": 3}
     assert (
         Sum([record_of("some", [1, 1, 1], seen=two), record_of("more", [1, 1, 1], seen=two)], of_one_run=True).seen
-        == {**two, "unrecorded": 0}
+        == {**two, "unrecorded": 0, "lost": 0}
     )
 
 

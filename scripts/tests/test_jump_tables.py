@@ -83,6 +83,14 @@ def test_a_table_goes_on_behind_entries_that_lead_to_the_cold_part(place, progra
     ]
 
 
+def test_a_guard_of_something_else_takes_no_entries_of_a_table_of_functions(place):
+    """The comparison would allow for nine."""
+    text = TEXT.replace("@ENTRIES@", ".quad .Lfirst, .Lsecond\n.quad after, pick.cold, _start, pick, after, after, after")
+    compile_text("pick", "pick.s", text.replace("@CHOICE@", f"cmp $8, %esi\nja pick.cold\n{FAR_TABLE}"), "-nostdlib")
+    listing = Listing("pick")
+    assert [len(found) for found in JumpTables(listing.program, listing).targets.values()] == [2]
+
+
 @pytest.mark.parametrize("program", ["pick", "bare"])
 def test_counts_behind_such_a_table_agree_with_those_around(place, program):
     build_pick(f"{GUARD}\n{NEAR_TABLE}", 4)

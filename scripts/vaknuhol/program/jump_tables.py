@@ -145,7 +145,7 @@ class JumpTables:
 
     def entries(self, jump: int, table: int, size: int) -> list[int]:
         """What a table's entries lead to: as many as lead to the jump's function, and as its guard tells, if these all
-        lead to instructions."""
+        lead to instructions, of one other function at most."""
         (low, high), found = self.bounds(jump), []
         cold = f"{self.listing.function_of(jump)}.cold"
         leading = list(itertools.takewhile(self.listing.is_start, entries(self.program, table, size)))
@@ -154,7 +154,10 @@ class JumpTables:
                 break
             found.append(to)
         guarded = self.guarded(jump)
-        return leading[:guarded] if len(found) < guarded <= len(leading) else found
+        if not len(found) < guarded <= len(leading):
+            return found
+        others = {self.bounds(to) for to in leading[:guarded]} - {(low, high)}
+        return leading[:guarded] if len(others) <= 1 else found
 
     def take(self, jump: int, table: int, size: int) -> bool:
         found = self.entries(jump, table, size)

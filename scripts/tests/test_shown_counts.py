@@ -14,6 +14,17 @@ def lines_of(coverage) -> list[str]:
     return list(summary.summary(coverage))
 
 
+@pytest.mark.parametrize("in_part, cause", [
+    (False, "a signal or another thread's exit ended one in its middle"),
+    (True, "the records that were added up don't count the same blocks"),
+])  # fmt: skip
+def test_the_summary_tells_why_counts_may_contradict_those_around(in_part, cause):
+    flow, record = double(contradicted={1, 2}), double(in_part=in_part)
+    assert list(summary.of_flow(coverage_of(record, flow=flow))) == [
+        f"the counts of 2 blocks contradict those around, as where {cause}: nothing is solved by them"
+    ]
+
+
 def test_the_summary_counts_blocks_lines_and_the_hottest_places():
     assert lines_of(coverage_of()) == [
         "prog, count",

@@ -118,7 +118,10 @@ static void tell_rest(void) {
    work than in the original. The original's table is loaded too, where the original has it, and as it was: the process is told of that. */
 static void tell_original(pid_t tid) {
     struct user_regs_struct regs;
-    if (patch->told.header_count && !ptrace(PTRACE_GETREGS, tid, 0, &regs))
+    if (ptrace(PTRACE_GETREGS, tid, 0, &regs))
+        return;
+    know_file(tid, regs.rip);
+    if (patch->told.header_count)
         change_vector(tid, regs.rsp, &patch->told, false);
 }
 
@@ -143,11 +146,13 @@ static void ended(pid_t tid, int status, bool has_memory) {
     char how[24];
     struct task *it = find_task(tid, 0);
     snprintf(how, sizeof how, WIFEXITED(status) ? "exit %d" : "signal %d", WIFEXITED(status) ? WEXITSTATUS(status) : WTERMSIG(status));
+    if (it && has_memory && it->space && it->space->members == 1 && is_lost(it->space, it->tid, it->group))
+        run->lost++;
     if (it)
         drop_task(it, how, has_memory);
 }
 
-/* Where a thread's memory is its own, it stops as it ends, and has its memory yet. */
+/* A thread stops as it ends, and has its memory yet. */
 static void stopped(pid_t tid, int number, int event) {
     const struct task *it = find_task(tid, 0);
     unsigned long told = 0;

@@ -4,11 +4,11 @@
 #include <sys/mman.h>
 
 const struct patch *patch;
+const struct tramp *tramps;
 const struct rule *rules;
 const struct covered *covered;
 const char *row_text;
 static const char MARK[sizeof patch->mark] = "vakrun 7\n";
-static const struct tramp *tramps;
 
 enum { ADDRESS_DIGITS = 8, MOST_NUMBERS = 1 << 24, PAGE = 4096, SIGN_COUNT = 6, REGISTERS = 16, HIGHEST = 0x7fffffff };
 

@@ -128,6 +128,8 @@ void write_record(struct run *run, bool is_ended) {
                 run->execs);
         if (run->unrecorded)
             fprintf(half, " unrecorded %d", run->unrecorded);
+        if (run->lost)
+            fprintf(half, " lost %d", run->lost);
         fputs("\n", half);
         patch->kind == RING ? put_rings() : put_counts();
         fputs("end\n", half);

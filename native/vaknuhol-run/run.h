@@ -61,6 +61,7 @@ struct patch {
     struct row rows[]; /* of rings by their numbers; and after them the trampolines and the rules, as they ascend, the covered bytes, and the rows' text */
 };
 extern const struct patch *patch;
+extern const struct tramp *tramps;
 extern const struct rule *rules; /* of a ring for threads */
 extern const struct covered *covered;
 extern const char *row_text; /* a record's lines on blocks where none was executed: each has a count of 0, or why the block was left */
@@ -116,17 +117,26 @@ bool read_range(struct space *it, pid_t tid);
 /* A space that nobody is in any more: its counts go into the record, and a ring is kept. */
 void drop_space(struct space *it);
 
+/* losses.c: memory of the patch that a process has replaced. */
+/* Finds out what is mapped of the patched file, of a process that begins the program there. */
+void know_file(pid_t tid, uint64_t begin);
+/* Whether a process has memory of its patch no more, which is told, the first time. */
+bool is_lost(const struct space *space, pid_t tid, pid_t group);
+
 /* follow.c: a traced process, and all that come from it, to their ends. */
-enum { FOLLOWED = PTRACE_O_TRACEFORK | PTRACE_O_TRACEVFORK | PTRACE_O_TRACECLONE | PTRACE_O_TRACEEXEC | PTRACE_O_TRACESYSGOOD | PTRACE_O_EXITKILL };
+enum {
+    FOLLOWED =
+        PTRACE_O_TRACEFORK | PTRACE_O_TRACEVFORK | PTRACE_O_TRACECLONE | PTRACE_O_TRACEEXEC | PTRACE_O_TRACEEXIT | PTRACE_O_TRACESYSGOOD | PTRACE_O_EXITKILL
+};
 struct run {
     const char *run_file, *patched, *record, *folder;
     unsigned keep; /* so many records of the folder, the newest ones, or all where it is 0 */
     /* Another program in the place of one of ours is let go, since it may be a stand-in with a runner of its own. */
     bool is_stand_in;
     pid_t first;
-    struct stat image;                                 /* of the patched file */
-    int processes, threads, execs, unrecorded, status; /* no process before the program has begun */
-    bool is_written, is_over;                          /* the whole record; the program itself */
+    struct stat image;                                       /* of the patched file */
+    int processes, threads, execs, unrecorded, lost, status; /* no process before the program has begun */
+    bool is_written, is_over;                                /* the whole record; the program itself */
 };
 struct task {
     pid_t tid, group;

@@ -70,7 +70,7 @@ struct space *space_of(pid_t tid) {
     bool may = may_call(tid), is_shared = may && share(it, tid);
     if (may && !is_shared)
         map_own(tid);
-    ptrace(PTRACE_SETOPTIONS, tid, 0, is_shared ? FOLLOWED : FOLLOWED | PTRACE_O_TRACEEXIT);
+    ptrace(PTRACE_SETOPTIONS, tid, 0, FOLLOWED);
     return it;
 }
 
@@ -114,7 +114,7 @@ struct space *space_of_child(pid_t tid, struct space *parent) {
     if (patch->kind == RING && !read_memory(tid, patch->private_at, it->range, SCRATCH + patch->data_length) && parent && parent->is_shared)
         memcpy(it->range, parent->range, SCRATCH + patch->data_length);
     bool is_shared = may && share(it, tid), is_own = !is_shared && ((may && map_own(tid)) || has_copy);
-    ptrace(PTRACE_SETOPTIONS, tid, 0, is_own ? FOLLOWED | PTRACE_O_TRACEEXIT : FOLLOWED);
+    ptrace(PTRACE_SETOPTIONS, tid, 0, FOLLOWED);
     if (is_own)
         fill(it, tid);
     if (is_shared || is_own)

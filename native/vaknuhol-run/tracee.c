@@ -19,24 +19,25 @@ static bool await_stop(pid_t tid, siginfo_t *info) {
 }
 
 /* To the next stop of a kind; whether the thread comes to it. Where it ends, or a fault stops it, that is left to be waited for. SIGSTOP can't be blocked:
-   it is put off, as is a stop of job control. */
-static bool to_stop(pid_t tid, enum __ptrace_request how, int wanted, bool *is_put_off) {
+   it stops the process, of which this thread goes on, until it is made to look whether the process is stopped yet, or continued since. */
+static bool to_stop(pid_t tid, enum __ptrace_request how, int wanted) {
     siginfo_t info;
-    while (!ptrace(how, tid, 0, 0) && await_stop(tid, &info)) {
-        int event = info.si_status >> 8, number = info.si_status & 0xff;
-        if (info.si_status == wanted)
-            return true;
-        if (event != PTRACE_EVENT_STOP && info.si_status != SIGSTOP)
+    long signal = 0;
+    bool is_there = false, has_stopped = false;
+    while (!is_there && !ptrace(how, tid, 0, signal) && await_stop(tid, &info)) {
+        bool is_job = info.si_status >> 8 == PTRACE_EVENT_STOP;
+        is_there = info.si_status == wanted;
+        if (!is_there && !is_job && info.si_status != SIGSTOP)
             break;
-        *is_put_off |= number != SIGTRAP;
+        signal = is_job || is_there ? 0 : SIGSTOP;
+        has_stopped |= signal || (is_job && (info.si_status & 0xff) != SIGTRAP);
     }
-    return false;
+    if (has_stopped)
+        ptrace(PTRACE_INTERRUPT, tid, 0, 0);
+    return is_there;
 }
 
-bool to_call_stop(pid_t tid) {
-    bool is_put_off = false;
-    return to_stop(tid, PTRACE_SYSCALL, CALL_STOP, &is_put_off);
-}
+bool to_call_stop(pid_t tid) { return to_stop(tid, PTRACE_SYSCALL, CALL_STOP); }
 
 /* The instruction of a call by which a thread has come to its stop stands before it: so no memory has to be read, as that of the child of a process whose
    memory is kept from the runner. Else the instruction is written over the aligned word in which the thread stands. All signals are blocked until the end. */
@@ -44,7 +45,6 @@ int64_t make_call(pid_t tid, long number, uint64_t a, uint64_t b, uint64_t c, ui
     struct user_regs_struct kept, regs;
     uint64_t mask, all = ~0ull;
     int64_t answer = -EFAULT;
-    bool is_put_off = false;
     if (ptrace(PTRACE_GETREGS, tid, 0, &kept) || ptrace(PTRACE_GETSIGMASK, tid, 8, &mask) || ptrace(PTRACE_SETSIGMASK, tid, 8, &all))
         return -ESRCH;
     bool is_behind = is_at_call(&kept) && kept.orig_rax != SYS_execve && kept.orig_rax != SYS_execveat;
@@ -54,16 +54,14 @@ int64_t make_call(pid_t tid, long number, uint64_t a, uint64_t b, uint64_t c, ui
     errno = 0;
     long covered = is_behind ? 0 : ptrace(PTRACE_PEEKTEXT, tid, regs.rip, 0);
     if (is_behind || (!errno && !ptrace(PTRACE_POKETEXT, tid, regs.rip, (covered & ~(long)LOW_TWO) | CALL_BYTES))) {
-        if (!ptrace(PTRACE_SETREGS, tid, 0, &regs) && to_stop(tid, PTRACE_SYSCALL, CALL_STOP, &is_put_off)
-            && to_stop(tid, PTRACE_SYSCALL, CALL_STOP, &is_put_off) && !ptrace(PTRACE_GETREGS, tid, 0, &regs))
+        if (!ptrace(PTRACE_SETREGS, tid, 0, &regs) && to_stop(tid, PTRACE_SYSCALL, CALL_STOP) && to_stop(tid, PTRACE_SYSCALL, CALL_STOP)
+            && !ptrace(PTRACE_GETREGS, tid, 0, &regs))
             answer = (int64_t)regs.rax;
         if (!is_behind)
             ptrace(PTRACE_POKETEXT, tid, kept.rip & ~7ull, covered);
     }
     ptrace(PTRACE_SETREGS, tid, 0, &kept);
     ptrace(PTRACE_SETSIGMASK, tid, 8, &mask);
-    if (is_put_off)
-        syscall(SYS_tkill, tid, SIGSTOP);
     return answer;
 }
 
@@ -71,15 +69,13 @@ int64_t make_call(pid_t tid, long number, uint64_t a, uint64_t b, uint64_t c, ui
 bool make_steps(pid_t tid, struct user_regs_struct *regs, bool (*is_wanted)(const struct user_regs_struct *regs)) {
     uint64_t mask, all_but_faults = ~(1ull << (SIGSEGV - 1) | 1ull << (SIGBUS - 1) | 1ull << (SIGFPE - 1) | 1ull << (SIGILL - 1) | 1ull << (SIGTRAP - 1));
     siginfo_t info;
-    bool is_put_off = false, is_made = true;
+    bool is_made = true;
     if (ptrace(PTRACE_GETSIGINFO, tid, 0, &info) || ptrace(PTRACE_GETSIGMASK, tid, 8, &mask) || ptrace(PTRACE_SETSIGMASK, tid, 8, &all_but_faults))
         return false;
     while (is_made && is_wanted(regs))
-        is_made = to_stop(tid, PTRACE_SINGLESTEP, SIGTRAP, &is_put_off) && !ptrace(PTRACE_GETREGS, tid, 0, regs);
+        is_made = to_stop(tid, PTRACE_SINGLESTEP, SIGTRAP) && !ptrace(PTRACE_GETREGS, tid, 0, regs);
     ptrace(PTRACE_SETSIGMASK, tid, 8, &mask);
     ptrace(PTRACE_SETSIGINFO, tid, 0, &info);
-    if (is_put_off)
-        syscall(SYS_tkill, tid, SIGSTOP);
     return is_made;
 }
 

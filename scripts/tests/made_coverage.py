@@ -8,7 +8,7 @@ from tests.doubles import double
 from vaknuhol.program.flow_graph import Graph
 from vaknuhol.program.listing_file import FALLS
 from vaknuhol.recording.actions import action_of
-from vaknuhol.recording.record_file import Row
+from vaknuhol.recording.record_file import History, Row
 from vaknuhol.views.coverage import Place
 from vaknuhol.views.flow_solving import Flow
 from vaknuhol.views.instances import Function
@@ -131,3 +131,10 @@ def write_elf(path: str, entry: int) -> None:
     with open(path, "wb") as file:
         file.write(head.ljust(128, b"\0"))
     os.chmod(path, 0o755)
+
+
+def history(number: int, ended: str, events: int) -> History:
+    """A ring of a process that ended so, with so many events."""
+    made = History(number, ended)
+    made.rows = [Row(BASE + at, BASE + at + 1, BASE + at, None) for at in range(events)]
+    return made

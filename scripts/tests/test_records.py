@@ -10,7 +10,6 @@ from vaknuhol.arguments import Refusal
 from vaknuhol.recording.actions import action_of
 from vaknuhol.recording.record_file import Record, Row, counted, remembered, write_record
 from vaknuhol.recording.record_folder import expanded, in_one, record_at
-from vaknuhol.recording.record_head import RecordHead
 from vaknuhol.recording.record_sum import Sum
 from vaknuhol.recording.run_file import left_line
 
@@ -228,7 +227,7 @@ def test_the_parts_of_one_run_have_its_processes_once():
     two = {"processes": 2, "threads": 1, "execs": 3}
     assert (
         Sum([record_of("some", [1, 1, 1], seen=two), record_of("more", [1, 1, 1], seen=two)], of_one_run=True).seen
-        == {**two, "unrecorded": 0}
+        == {**two, "unrecorded": 0, "lost": 0}
     )
 
 
@@ -240,30 +239,3 @@ def test_records_of_other_programs_actions_and_rings_are_not_added():
     ring = written("ring", ["left 0", "process 1 exit 0"], action="ring:3")
     with pytest.raises(Refusal):
         Sum([ring, ring])
-
-
-@pytest.mark.parametrize("known, code, is_of", [
-    (OTHER, {0x401000, 0x401008}, True),
-    (HASH, {0x401000, 0x401008}, False),
-    (None, {0x401000, 0x401008}, True),
-    (None, {0x401000}, False),
-])
-def test_blocks_are_of_the_program_by_its_code_or_where_that_is_not_known_by_their_places(place, known, code, is_of):
-    record = record_of("a.record", [1, 2], program=known)
-    program = double(code_hash=OTHER, is_code=lambda address: address in code)
-    assert record.is_of(program) is is_of
-    if is_of:
-        record.check_program(program, "prog")
-        return
-    with pytest.raises(Refusal, match="a.record is of another program: prog is not the original that was patched"):
-        record.check_program(program, "prog")
-
-
-@pytest.mark.parametrize("action, left, why", [("count", 1, "NoPlan 1"), ("ring:3", 2, "NoPlan 1 Shared 1")])
-def test_a_record_of_a_head_has_all_of_the_record_and_its_lines_once(place, action, left, why):
-    lines = ["left 2 NoPlan 1 Shared 1", "process 1 exit 0", "00401000 00401008 00401004"]
-    rows = lines if action != "count" else ["00401000 00401008 00401004 5", "00401008 0040100c 00401008 NoPlan"]
-    written("a.record", rows, action=action)
-    record = Record.of(RecordHead("a.record"))
-    assert (record.left, record.why_left, record.body, len(record.histories)) == (left, why, "", action != "count")
-    assert [row.site for row in record.rows] == ([0x401004, 0x401008] if action == "count" else [0x401004])

@@ -10,7 +10,7 @@ from concurrent.futures import ThreadPoolExecutor
 
 import pytest
 
-from tests.calls import match
+from tests.calls import match, run
 from tests.command import COMMAND, call
 from tests.programs import Programs
 from tests.stand_ins import SOON
@@ -153,3 +153,12 @@ def test_a_file_that_is_too_long_is_named(waiting) -> None:
 def test_a_quiet_wrap_says_nothing(waiting) -> None:
     assert call("wrap", "cover", "waiting", "--symbols", "counted", "-o", "other", "--quiet") == ("", "")
     assert os.access("other", os.X_OK)
+
+
+@pytest.mark.parametrize("what, rounds, shown", [("order", "1000", "0 behind, 0 stuck"), ("forks", "4000", "0 stuck")])
+def test_a_continuation_ends_a_stop(programs: Programs, what, rounds, shown) -> None:
+    """No stop is reported behind it, and none comes again, as none does of the original: of a child that runs, and of
+    one that is being given memory for its record."""
+    programs.bring("stops", "stops.c")
+    assert run("./stops", what, rounds, status=(6,)) == f"{shown}\n"
+    assert call("count", "stops", "--symbols", "counted", "--quiet", "--", what, rounds, status=6) == (f"{shown}\n", "")

@@ -2,21 +2,25 @@
 T(%rip)`).
 
 A jump's table is the last one that an instruction shortly before it names; its entries end at the first that leads to
-no instruction of the same function. What is read here are the instructions' bytes (Intel SDM volume 2, sections 2.1 and
-2.2).
+no instruction of the same function or of its cold part. Where the jump is guarded by a comparison of the index (`cmp
+$LAST, %r; ja`), there are as many at least, since a cold part needs no name. What is read here are the instructions'
+bytes (Intel SDM volume 2, sections 2.1 and 2.2).
 """
 import bisect
+import itertools
 import struct
 from collections.abc import Iterator
 
 from vaknuhol.program.listing import Listing
-from vaknuhol.program.listing_file import JUMP_INDIRECT
+from vaknuhol.program.listing_file import BRANCH, FALLS, JUMP_INDIRECT
 from vaknuhol.program.program_file import Program
 
 NEAR, MOST = 40, 1024
 SHORTEST = 7  # bytes of an instruction that names a table
 REX, NOTRACK = range(0x40, 0x50), 0x3E
 MOV, LEA, GROUP_5 = 0x8B, 0x8D, 0xFF
+CMP, IS_ABOVE = 7, ((0x77,), (0x0F, 0x87))
+GROUP_1, CMP_WITH_AX = {0x80: "<B", 0x81: "<I", 0x83: "<B"}, {0x3C: "<B", 0x3D: "<I"}
 
 
 def opcode_at(code: bytes) -> int:
@@ -43,15 +47,23 @@ def named_table(code: bytes, end: int) -> tuple[int, int] | None:
     return None
 
 
-def entries(program: Program, table: int, size: int, listing: Listing, low: int, high: int) -> list[int]:
-    """What the entries of a table lead to, as long as they lead to instructions of the function from low to high."""
-    data, found = program.read(table, MOST * size), []
+def compared_with(code: bytes) -> int | None:
+    """The number that a `cmp` compares with."""
+    at = opcode_at(code)
+    is_group = code[at] in GROUP_1 and len(code) > at + 1 and code[at + 1] >> 3 & 7 == CMP
+    form = GROUP_1[code[at]] if is_group else CMP_WITH_AX.get(code[at])
+    return struct.unpack_from(form, code, len(code) - struct.calcsize(form))[0] if form else None
+
+
+def is_above(code: bytes) -> bool:
+    return any(tuple(code[:len(opcode)]) == opcode for opcode in IS_ABOVE)
+
+
+def entries(program: Program, table: int, size: int) -> Iterator[int]:
+    """What the entries of a table lead to, if it has as many."""
+    data = program.read(table, MOST * size)
     for (word,) in struct.iter_unpack("<i" if size == 4 else "<Q", data[:len(data) // size * size]):
-        to = word + table if size == 4 else word
-        if not low <= to < high or not listing.is_start(to):
-            break
-        found.append(to)
-    return found
+        yield word + table if size == 4 else word
 
 
 class JumpTables:
@@ -121,8 +133,31 @@ class JumpTables:
         if len(tables) == 1:
             self.take(jump, *tables[0])
 
+    def guarded(self, jump: int) -> int:
+        """How many entries a table has by the comparison that guards its jump; 0 if none does."""
+        kind, number = self.listing.kind, bisect.bisect_left(self.listing.addr, jump) - 1
+        while number > 0 and kind[number] == FALLS and self.listing.addr[number] > jump - NEAR:
+            number -= 1
+        if number < 1 or kind[number] != BRANCH or not is_above(self.code(number)):
+            return 0
+        last = compared_with(self.code(number - 1))
+        return last + 1 if last is not None and last < MOST else 0
+
     def entries(self, jump: int, table: int, size: int) -> list[int]:
-        return entries(self.program, table, size, self.listing, *self.bounds(jump))
+        """What a table's entries lead to: as many as lead to the jump's function, and as its guard tells, if these all
+        lead to instructions, of one other function at most."""
+        (low, high), found = self.bounds(jump), []
+        cold = f"{self.listing.function_of(jump)}.cold"
+        leading = list(itertools.takewhile(self.listing.is_start, entries(self.program, table, size)))
+        for to in leading:
+            if not low <= to < high and not (self.listing.function_of(to) or "").startswith(cold):
+                break
+            found.append(to)
+        guarded = self.guarded(jump)
+        if not len(found) < guarded <= len(leading):
+            return found
+        others = {self.bounds(to) for to in leading[:guarded]} - {(low, high)}
+        return leading[:guarded] if len(others) <= 1 else found
 
     def take(self, jump: int, table: int, size: int) -> bool:
         found = self.entries(jump, table, size)

@@ -9,7 +9,8 @@
     in part                 where it is a sum of records that don't count the same blocks; else there is no such line
     state ended             or `running`: what was recorded until then
     processes 3 threads 0 execs 1
-                            and `unrecorded 1`, where no memory could be had for the record of so many processes
+                            and `unrecorded 1`, where no memory could be had for the record of so many processes, and
+                            `lost 1`, where so many replaced memory of the patch, and events of theirs may be missing
     00401136 00401150 0040113a 12
     00401150 00401158 00401150 Shared
     end
@@ -137,7 +138,7 @@ def record_rows(report: Report, run: Run, numbers: "array.array[int]", ended: st
 def write_record(path: str, report: Recorded, program_hash: str | None, rows: Iterable[str], state: str,
                  seen: Mapping[str, int], in_part: bool = False) -> None:
     """Writes a record of these lines."""
-    counts = " ".join(f"{name} {number}" for name, number in seen.items() if number or name != SEEN[-1])
+    counts = " ".join(f"{name} {number}" for name, number in seen.items() if number or name in SEEN[:3])
     head = head_text(report.action, program_hash, report.hash, report.for_threads, report.base)
     lines = (*[IN_PART] * in_part, f"state {state}", counts, *rows, "end")
     write_whole({path: f"{HEAD}\n{head}" + "".join(f"{line}\n" for line in lines)})

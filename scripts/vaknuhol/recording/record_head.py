@@ -8,11 +8,11 @@ from vaknuhol.recording.actions import Action, ActionError, action_of
 
 HEAD = "vakrecord 1"
 FOR_THREADS, IN_PART, NOT_KNOWN = "for threads", "in part", "-"
-HASH, SEEN = r"([0-9a-f]{64})", ("processes", "threads", "execs", "unrecorded")
+HASH, SEEN = r"([0-9a-f]{64})", ("processes", "threads", "execs", "unrecorded", "lost")
 HEADS = re.compile(rf"{HEAD}\naction (.+)\nprogram (-|[0-9a-f]{{64}})\nreport {HASH}\n({FOR_THREADS}\n)?"
                    rf"(?:base ([0-9a-f]{{8}})\n)?({IN_PART}\n)?"
                    r"state (ended|running)\nprocesses ([0-9]+) threads ([0-9]+) execs ([0-9]+)"
-                   r"(?: unrecorded ([0-9]+))?\n")
+                   r"(?: unrecorded ([0-9]+))?(?: lost ([0-9]+))?\n")
 
 
 def head_text(action: Action, program_hash: str | None, report_hash: str, for_threads: bool, base: int | None) -> str:
@@ -27,6 +27,7 @@ class RecordHead:
     threads: int
     execs: int
     unrecorded: int
+    lost: int
 
     def __init__(self, path: str) -> None:
         text = read_text(path)
@@ -35,7 +36,8 @@ class RecordHead:
             raise Refusal(f"{path} is no record of run_and_record")
         self.path, self.body = path, text[heads.end():].removesuffix("end\n")
         action, self.program_hash, self.report_hash, for_threads, base, in_part, self.state = heads.groups()[:7]
-        self.processes, self.threads, self.execs, self.unrecorded = (int(number or 0) for number in heads.groups()[7:])
+        for name, number in zip(SEEN, heads.groups()[7:], strict=True):
+            setattr(self, name, int(number or 0))
         self.for_threads, self.base = for_threads is not None, int(base, 16) if base else None
         self.in_part = in_part is not None
         try:
@@ -47,8 +49,8 @@ class RecordHead:
         return Refusal(f"{self.path} is no record of run_and_record: {line}")
 
     def is_plain(self) -> bool:
-        """Whether one process ran by itself."""
-        return (self.processes, self.threads, self.execs) == (1, 0, 0)
+        """Whether one process ran by itself, and kept its patch."""
+        return (self.processes, self.threads, self.execs, self.lost) == (1, 0, 0, 0)
 
     def run_text(self) -> str:
         """How many processes and threads there were, in words."""
@@ -56,4 +58,5 @@ class RecordHead:
         seen = " and ".join(counted(number, name) for number, name in ((self.threads, "thread"), (self.execs, "exec"))
                             if number)
         missing = f", of which {self.unrecorded} could not be recorded" if self.unrecorded else ""
+        missing += f", of which {self.lost} replaced memory of the patch (events may be missing)" if self.lost else ""
         return f"{of} {counted(self.processes, 'process', 'processes')}{missing}" + (f", with {seen}" if seen else "")

@@ -123,11 +123,12 @@ def of_ring(coverage: Coverage, names: Callable[[str], str]) -> Iterator[str]:
 def of_flow(coverage: Coverage) -> Iterator[str]:
     """Counts that can't all be those of whole executions."""
     blocks = len(coverage.flow.contradicted)
+    if not blocks:
+        return
     cause = ("the records that were added up don't count the same blocks" if coverage.record.in_part else
-             "a signal ended a process in the middle of one")
-    if blocks:
-        yield (f"the counts of {counted(blocks, 'block')} contradict those around, as where {cause}: nothing is solved "
-               "by them")
+             "a signal or another thread's exit ended one in its middle")
+    yield (f"the counts of {counted(blocks, 'block')} contradict those around, as where {cause}: nothing is solved "
+           "by them")
 
 
 def of_run(record: Record) -> Iterator[str]:
